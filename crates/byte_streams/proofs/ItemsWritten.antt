@@ -1,6 +1,6 @@
 -- A text that is a front and the texts of items, written one item after another.
-use Rattle.std.proofs.Common.{◌≡◌, ◌<◌, ℕ, ◌+◌, true, false, List, ◌++◌, take, drop, length, get_or, Option, ap, sym, subst, ◌∙◌,
-    append_assoc}
+use Rattle.std.proofs.Common.{◌≡◌, ◌<◌, ℕ, ◌+◌, true, false, List, ◌++◌, take, drop, length, get_or, Option, ap, sym, subst, ◌∙◌}
+use Rattle.std.proofs.Common.{append_assoc}
 use Rattle.std.proofs.lemmas.Grind.{flat_map-append}
 use Rattle.std.proofs.lemmas.List.{flat_map_more, take-append-drop, take_more}
 use Rattle.std.specs.List.{flat_map}

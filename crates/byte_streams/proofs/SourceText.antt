@@ -29,7 +29,7 @@ one_piece whole (Some bytes) rest text piece filled n gathered reads =
     let filled_is = ap (take n) reads.bytes ∙ front bytes piece n reads.has in
     let joined : (text ++ take n filled) ++ drop n bytes ≡ text ++ bytes =
     append_assoc text (take n filled) (drop n bytes) ∙ ap (λ f. text ++ (f ++ drop n bytes)) filled_is
-        ∙ ap (λ b. text ++ b) (take-append-drop n bytes) in
+    ∙ ap (λ b. text ++ b) (take-append-drop n bytes) in
     record {
       is = gathered.is ∙ ap Some (sym joined) ∙ ap (option_map (λ bytes. (text ++ take n filled) ++ bytes)) (sym reads.left_after);
     }

@@ -1,6 +1,6 @@
 -- What a call does to the bytes of a stream and to its count of faults.
-use Rattle.std.specs.Prelude.{◌≡◌, ◌≤◌, Bool, true, false, ◌<◌, ◌⊎◌, ◌↔◌, ◌^◌, ◌+◌, ◌-◌, ℕ, List, [], ◌++◌, length, take, drop, min, Option,
-    IfSome}
+use Rattle.std.specs.Prelude.{◌≡◌, ◌≤◌, Bool, true, false, ◌<◌, ◌⊎◌, ◌↔◌, ◌^◌, ◌+◌, ◌-◌, ℕ, List, [], ◌++◌, length, take, drop, min, Option}
+use Rattle.std.specs.Prelude.{IfSome}
 use Rattle.std.specs.Option.{option_map}
 
 -- the count of faults has risen; one that stands at the end of its 64 bits counts as risen

@@ -65,8 +65,8 @@ commit_added areas flush group now text prepared texts headers publish old first
       ∙ ap (λ (l : List Batch). old ++ l) (three parts.0 parts.1 parts.2);
   writes =
       three is.texts is.headers is.publish ∙ ap
-          (λ (t : List ℕ). texts_of (map (area_writes t) areas) ∷ headers_of (map (area_writes t) areas)
-          ∷ publish_of (map (area_writes t) areas) ∷ []) same;
+      (λ (t : List ℕ). texts_of (map (area_writes t) areas) ∷ headers_of (map (area_writes t) areas)
+      ∷ publish_of (map (area_writes t) areas) ∷ []) same;
   text_disks = is.text_disks;
   header_disks = is.header_disks;
   publish_disks = is.publish_disks;
@@ -96,7 +96,7 @@ module _ (areas : List (Area × Option Locn)) (flush : FinSet nat_cmp) (now : �
   commit_writes None is = ap (map writes_of) is ∙ sym (append-nil (map writes_of old))
   commit_writes (Some group) is =
       ap (map writes_of) is.behind ∙ map-append writes_of old (is.texts ∷ is.headers ∷ is.publish ∷ [])
-          ∙ ap (λ (w : List (List Put)). map writes_of old ++ w) is.writes
+      ∙ ap (λ (w : List (List Put)). map writes_of old ++ w) is.writes
 
   three_run : (sizes : List ℕ) (group : Group) → IsCommitAdded areas flush group now old new → AreCommitted areas flush
       → first_too_large (printed (tree_of group now)) areas ≡ None → AreWithin sizes areas flush → All (CanRun sizes) old
@@ -106,11 +106,11 @@ module _ (areas : List (Area × Option Locn)) (flush : FinSet nat_cmp) (now : �
       subst (All (CanRun sizes)) (sym is.behind)
       (All-append (CanRun sizes) old (is.texts ∷ is.headers ∷ is.publish ∷ []) all
       (All-cons (CanRun sizes) is.texts (is.headers ∷ is.publish ∷ [])
-          (texts_can_run text areas flush committed room sizes inside is.texts (first_of is.writes) is.text_disks)
+      (texts_can_run text areas flush committed room sizes inside is.texts (first_of is.writes) is.text_disks)
       (All-cons (CanRun sizes) is.headers (is.publish ∷ [])
-          (headers_can_run text areas flush committed room sizes inside is.headers (second_of is.writes) is.header_disks)
+      (headers_can_run text areas flush committed room sizes inside is.headers (second_of is.writes) is.header_disks)
       (All-cons (CanRun sizes) is.publish [] (publish_can_run text areas flush committed room sizes inside is.publish (third_of is.writes)
-          is.publish_disks) (All-nil (CanRun sizes))))))
+      is.publish_disks) (All-nil (CanRun sizes))))))
     where
       first_of : {a b c x y z : List Put} → (a ∷ b ∷ c ∷ []) ≡ (x ∷ y ∷ z ∷ []) → a ≡ x
       first_of e = cc

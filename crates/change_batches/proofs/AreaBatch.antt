@@ -22,18 +22,18 @@ headers_apart : (disk : ℕ) (areas : List Extent) → AllPairs (λ (a b : Exten
 headers_apart disk areas differ =
     subst ShareNoSector (flat_map_single (area_put disk) areas)
     (each_apart (λ (area : Extent). area_put disk area ∷ []) (λ area. Unit {0}) (λ (a b : Extent). header_sector a ≢ header_sector b)
-        (λ area good. (λ pv sector here. refl, tt))
+    (λ area good. (λ pv sector here. refl, tt))
     (λ a b good_a good_b other pv sector x y. other
-        (let s = one_put (area_put disk a) pv sector x in let t = one_put (area_put disk b) pv sector y in omega
-        (arith, s.1, s.2, t.1, t.2)))
+    (let s = one_put (area_put disk a) pv sector x in let t = one_put (area_put disk b) pv sector y in omega
+    (arith, s.1, s.2, t.1, t.2)))
     areas (λ k d within. tt) differ)
 
 -- they are on the label's disk
 on_disk : (label : NewLabel) (pv sector : ℕ) → written_at (area_puts label) pv sector ≡ true → label.disk ≡ pv
 on_disk label pv sector is =
     elim (disk_among (label.disk ∷ []) (area_puts label)
-        (All-map (λ (put : Put). IsAmong (label.disk ∷ []) put.0.pv) (area_put label.disk) label.header.areas (λ k d within. inl refl)) pv
-        sector is) [
+    (All-map (λ (put : Put). IsAmong (label.disk ∷ []) put.0.pv) (area_put label.disk) label.header.areas (λ k d within. inl refl)) pv
+    sector is) [
       | inl same ↦ same
       | inr none ↦ absurd none
     ]
@@ -41,7 +41,7 @@ on_disk label pv sector is =
 pub areas_few : (labels : List NewLabel) → All CanLabel labels → All IsOnFew (flat_map area_puts labels)
 areas_few labels can =
     each_has area_puts IsOnFew labels (λ k d within. All-map IsOnFew (area_put (get_or labels k d).disk) (get_or labels k d).header.areas
-        (λ i e inside. (can k d within).disk_below))
+    (λ i e inside. (can k d within).disk_below))
 
 areas_lie : (sizes : List ℕ) (label : NewLabel) → AreasLie sizes label → All (λ (put : Put). Fills sizes put.0 put.1) (area_puts label)
 areas_lie sizes label lie =
@@ -56,9 +56,9 @@ area_batch sizes labels can lie differ = record {
   few = areas_few labels can;
   lie =
       each_has area_puts (λ (put : Put). Fills sizes put.0 put.1) labels
-          (λ k d within. areas_lie sizes (get_or labels k d) (lie k d within));
+      (λ k d within. areas_lie sizes (get_or labels k d) (lie k d within));
   apart =
       each_apart area_puts (AreasLie sizes) (λ (a b : NewLabel). a.disk ≢ b.disk)
-          (λ label good. headers_apart label.disk label.header.areas good.differ)
+      (λ label good. headers_apart label.disk label.header.areas good.differ)
       (λ a b good_a good_b other pv sector x y. other (on_disk a pv sector x ∙ sym (on_disk b pv sector y))) labels lie differ;
 }

@@ -40,4 +40,4 @@ pub shows_alike : (reading : Reading) (a : Area × Option Locn) (old new : Image
 shows_alike reading a old new good fits same shows =
     reads_shows a.0 (reading a).0 (reading a).1 new good fits
     (λ sector inside. subst (Reads a.0 (reading a).0 (reading a).1 sector) (sym (same sector inside))
-        (shows_reads a.0 (reading a).0 (reading a).1 old shows sector))
+    (shows_reads a.0 (reading a).0 (reading a).1 old shows sector))

@@ -94,10 +94,10 @@ module _ (change : Change) (areas : List (Area × Option Locn)) (now : ℕ) (fir
   all_run can sizes lies =
       let new : AreApart sizes (new_area_puts change.group change.labels) =
       areas_apart sizes change.labels change.group (λ none. area_batch sizes change.labels can.labels (lies.new_areas none) lies.differ)
-          (record { few = All-nil IsOnFew; lie = All-nil (λ (put : Put). Fills sizes put.0 put.1); apart = tt })
+      (record { few = All-nil IsOnFew; lie = All-nil (λ (put : Put). Fills sizes put.0 put.1); apart = tt })
       in
       commit_run (areas_of change areas) (set_of change.disk_of) now second third sizes change.group commit_is
-          (λ group is. let text = can.commit group is in (text.committed, text.room, lies.commit group is))
+      (λ group is. let text = can.commit group is in (text.committed, text.room, lies.commit group is))
       (added_run sizes (map label_put change.labels) first second labels_are
-          (label_batch sizes change.labels can.labels lies.labels lies.differ)
+      (label_batch sizes change.labels can.labels lies.labels lies.differ)
       (added_run sizes (new_area_puts change.group change.labels) [] first areas_are new (All-nil (CanRun sizes))))

@@ -18,4 +18,4 @@ unfolding checksum
 checksum_below start bytes =
     let inputs : List Bool = flat_map (bits_of 8) bytes in
     subst (λ (n : ℕ). number_of (with_bits (bits_of 32 start) inputs) < 2 ^ n) (as_long (bits_of 32 start) inputs ∙ length-bits_of 32 start)
-        (number_below (with_bits (bits_of 32 start) inputs))
+    (number_below (with_bits (bits_of 32 start) inputs))

@@ -1,6 +1,6 @@
 -- The batch of empty headers: it can run, and what it writes.
-use Rattle.std.proofs.Common.{◌≡◌, ◌≤◌, ◌<◌, ℕ, zero, suc, ◌+◌, ◌/◌, true, List, [], ◌∷◌, length, map, get_or, Option, None, inl, inr,
-    ⊎_elim, refl, sym, ap, subst, ◌∙◌, arith}
+use Rattle.std.proofs.Common.{◌≡◌, ◌≤◌, ◌<◌, ℕ, zero, suc, ◌+◌, ◌/◌, true, List, [], ◌∷◌, length, map, get_or, Option, None, inl, inr}
+use Rattle.std.proofs.Common.{⊎_elim, refl, sym, ap, subst, ◌∙◌, arith}
 use Rattle.std.specs.Prelude.{All}
 use Rattle.std.proofs.lemmas.Bool.{cases_lt, or_left, or_right, true≢false}
 use Rattle.std.proofs.lemmas.List.Concat.{flat_map_single}
@@ -36,7 +36,7 @@ apart_headers a b good_a good_b apart pv sector x y =
     let big_b : 1536 ≤ b.0.size = good_b.0.has_ring in
     ⊎_elim (λ other. other (s.0 ∙ sym t.0))
     (λ beside. ⊎_elim (λ (before : a.0.start + a.0.size ≤ b.0.start). omega (arith, before, s.1, s.2, t.1, t.2, big_a))
-        (λ (behind : b.0.start + b.0.size ≤ a.0.start). omega (arith, behind, s.1, s.2, t.1, t.2, big_b)) beside)
+    (λ (behind : b.0.start + b.0.size ≤ a.0.start). omega (arith, behind, s.1, s.2, t.1, t.2, big_b)) beside)
     apart
 
 pub clear_few : (areas : List (Area × Option Locn)) → AreHeld areas → All IsOnFew (map clear_put areas)
@@ -53,7 +53,7 @@ clear_batch sizes areas held lie = record {
   apart =
       subst ShareNoSector (flat_map_single clear_put areas)
       (each_apart (λ (area : Area × Option Locn). clear_put area ∷ []) CanTake LieApart (λ area good. (λ pv sector here. refl, tt))
-          apart_headers areas held.take held.apart);
+      apart_headers areas held.take held.apart);
 }
 
 -- ---- what it writes
@@ -76,10 +76,10 @@ clear_at : (areas : List (Area × Option Locn)) (d : Area × Option Locn) (k : �
 clear_at [] d k within = absurd (omega arith)
 clear_at (area ∷ areas) d zero within =
     or_left (covers (header_span area.0) area.0.pv (area.0.start / 512))
-        (writes_at (map write_work (map clear_put areas)) area.0.pv (area.0.start / 512)) (one_covers area.0.pv (area.0.start / 512))
+    (writes_at (map write_work (map clear_put areas)) area.0.pv (area.0.start / 512)) (one_covers area.0.pv (area.0.start / 512))
 clear_at (area ∷ areas) d (suc k) within =
     or_right (covers (header_span area.0) (get_or areas k d).0.pv ((get_or areas k d).0.start / 512))
-        (writes_at (map write_work (map clear_put areas)) (get_or areas k d).0.pv ((get_or areas k d).0.start / 512))
+    (writes_at (map write_work (map clear_put areas)) (get_or areas k d).0.pv ((get_or areas k d).0.start / 512))
     (clear_at areas d k (omega arith))
 
 -- an area's header sector is that of no other

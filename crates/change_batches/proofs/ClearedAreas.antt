@@ -33,7 +33,7 @@ module _ (disks : List Disk) (areas : List (Area × Option Locn)) (scanned : Are
   each_few =
       All-weaker (LiesIn (sizes_of disks)) (λ (area : Area × Option Locn). area.0.pv < 64)
       (λ area lies. let count : length (sizes_of disks)
-          ≡ length disks = length-map disks (λ (disk : Disk). disk.sectors) in omega (arith, lies.disk, count, scanned.few))
+      ≡ length disks = length-map disks (λ (disk : Disk). disk.sectors) in omega (arith, lies.disk, count, scanned.few))
       areas each_lies
 
   pub each_far : All IsFar areas

@@ -1,6 +1,6 @@
 -- What every image keeps while disks are cleared, and what is found once they are.
-use Rattle.std.proofs.Common.{◌≡◌, ◌≤◌, ◌<◌, ◌⊎◌, ℕ, ◌+◌, ◌/◌, ◌^◌, List, [], ◌∷◌, ◌++◌, length, map, get_or, Option, None, inl, inr,
-    ⊎_elim, sym, ap, subst, ◌∙◌, arith}
+use Rattle.std.proofs.Common.{◌≡◌, ◌≤◌, ◌<◌, ◌⊎◌, ℕ, ◌+◌, ◌/◌, ◌^◌, List, [], ◌∷◌, ◌++◌, length, map, get_or, Option, None, inl, inr}
+use Rattle.std.proofs.Common.{⊎_elim, sym, ap, subst, ◌∙◌, arith}
 use Rattle.std.specs.Prelude.{All, take as front_of}
 use Rattle.std.specs.Ordering.{nat_cmp}
 use Rattle.std.specs.FinSet as set
@@ -76,7 +76,7 @@ module _ (disks : List Disk) (areas : List (Area × Option Locn)) (scanned : Are
       (all_if (KeepsSector pv sector) (map label_put labels)
       (keeps_sector (map label_put labels) pv sector
       (λ value by. let w = label_where labels no_label pv sector value by in ⊎_elim (λ disk. disk w.2) (λ at. at w.3)
-          (other.labels w.0 no_label w.1))))
+      (other.labels w.0 no_label w.1))))
       (all_if (KeepsSector pv sector) (map clear_put on)
       (keeps_sector (map clear_put on) pv sector
       (λ value by. let w = clear_where on no_area pv sector value by in true≢false (sym w.2 ∙ other.headers w.0 no_area w.1))))
@@ -90,7 +90,7 @@ module _ (disks : List Disk) (areas : List (Area × Option Locn)) (scanned : Are
     label_first k d within =
         let label : NewLabel = get_or labels k d in
         ap (λ (i : Image). i label.disk label.sector) (with_if (map label_put labels) base)
-            ∙ labels_there labels base (labels_differ disks areas scanned cleared) k d within
+        ∙ labels_there labels base (labels_differ disks areas scanned cleared) k d within
 
     header_first : (k : ℕ) (d : Area × Option Locn) → k < length on
         → first (get_or on k d).0.pv ((get_or on k d).0.start / 512) ≡ base (get_or on k d).0.pv ((get_or on k d).0.start / 512)
@@ -111,8 +111,8 @@ module _ (disks : List Disk) (areas : List (Area × Option Locn)) (scanned : Are
         (if_either (map label_put labels) base image label.disk label.sector in_labels))
         (λ in_headers.
         inr (front_kept header_batches first image label.disk label.sector
-            (headers_keep label.disk label.sector (labels_can disks areas scanned cleared k d within).sector_below) in_headers
-            ∙ label_first k d within))
+        (headers_keep label.disk label.sector (labels_can disks areas scanned cleared k d within).sector_below) in_headers
+        ∙ label_first k d within))
         (first_or_more label_batches header_batches base image h)
 
     header_either : (image : Image) → HasFirstBatches (clear_batches cleared disks areas) base image → (k : ℕ) (d : Area × Option Locn)
@@ -135,7 +135,7 @@ module _ (disks : List Disk) (areas : List (Area × Option Locn)) (scanned : Are
     headers_kept image h k d within =
         let a : Area × Option Locn = get_or on k d in
         subst (λ (n : ℕ). (image a.0.pv n ≡ base a.0.pv n) ⊎ (image a.0.pv n ≡ header_bytes (header_of a.0 None None)))
-            (let e : a.0.start / 512 ≡ a.0.start / 512 + 0 = omega arith in e) (header_either image h k d within)
+        (let e : a.0.start / 512 ≡ a.0.start / 512 + 0 = omega arith in e) (header_either image h k d within)
 
     pub is_kept : (image : Image) → HasFirstBatches (clear_batches cleared disks areas) base image
         → ClearsKeep cleared disks areas base image
@@ -170,14 +170,14 @@ module _ (disks : List Disk) (areas : List (Area × Option Locn)) (scanned : Are
     label_last k d within =
         let label : NewLabel = get_or labels k d in
         last_is label.disk label.sector ∙ batches_kept header_batches first label.disk label.sector
-            (headers_keep label.disk label.sector (labels_can disks areas scanned cleared k d within).sector_below) ∙ label_first k d within
+        (headers_keep label.disk label.sector (labels_can disks areas scanned cleared k d within).sector_below) ∙ label_first k d within
 
     header_last : (k : ℕ) (d : Area × Option Locn) → k < length on
         → last (get_or on k d).0.pv ((get_or on k d).0.start / 512) ≡ header_bytes (header_of (get_or on k d).0 None None)
     header_last k d within =
         let a : Area × Option Locn = get_or on k d in
         last_is a.0.pv (a.0.start / 512) ∙ ap (λ (i : Image). i a.0.pv (a.0.start / 512)) (with_if (map clear_put on) first)
-            ∙ clear_there on first (cleared_held disks areas scanned cleared) k d within
+        ∙ clear_there on first (cleared_held disks areas scanned cleared) k d within
 
     header_empty : (k : ℕ) (d : Area × Option Locn) → k < length on → IsEmpty last (get_or on k d)
     header_empty k d within =
@@ -185,9 +185,9 @@ module _ (disks : List Disk) (areas : List (Area × Option Locn)) (scanned : Are
         let takes : CanTake a = (cleared_held disks areas scanned cleared).take k d within in
         let ends : a.0.start + a.0.size ≤ 2 ^ 49 = takes.0.ends in
         let at : last a.0.pv (a.0.start / 512 + 0) ≡ header_bytes (header_of a.0 None None) =
-            ap (λ (n : ℕ). last a.0.pv n) (let e : a.0.start / 512 + 0 ≡ a.0.start / 512 = omega arith in e) ∙ header_last k d within in
+        ap (λ (n : ℕ). last a.0.pv n) (let e : a.0.start / 512 + 0 ≡ a.0.start / 512 = omega arith in e) ∙ header_last k d within in
         subst (λ (sector : List ℕ). IsHeader sector (header_of a.0 None None)) (sym at)
-            (empty_read (record { offset = a.0.start; size = a.0.size }) (omega (arith, ends)) (omega (arith, ends)))
+        (empty_read (record { offset = a.0.start; size = a.0.size }) (omega (arith, ends)) (omega (arith, ends)))
 
     pub are_cleared : All FitsFields labels → AreCleared cleared disks areas last
     are_cleared fields = record {
@@ -196,11 +196,11 @@ module _ (disks : List Disk) (areas : List (Area × Option Locn)) (scanned : Are
           record {
             label =
                 subst (λ (sector : List ℕ). IsLabel sector label.sector) (sym (label_last k d within))
-                    (label_read label (labels_can disks areas scanned cleared k d within));
+                (label_read label (labels_can disks areas scanned cleared k d within));
             header =
                 subst (λ (sector : List ℕ). IsPvHeader sector label.header []) (sym (label_last k d within))
-                    (header_found label (labels_can disks areas scanned cleared k d within) (fields k d within)
-                    (labels_found disks areas scanned cleared k d within));
+                (header_found label (labels_can disks areas scanned cleared k d within) (fields k d within)
+                (labels_found disks areas scanned cleared k d within));
           };
       headers = header_empty;
     }
@@ -213,5 +213,5 @@ module _ (disks : List Disk) (areas : List (Area × Option Locn)) (scanned : Are
     done = λ base. are_cleared base fields;
     read =
         λ k d within. header_found (get_or labels k d) (labels_can disks areas scanned cleared k d within) (fields k d within)
-            (labels_found disks areas scanned cleared k d within);
+        (labels_found disks areas scanned cleared k d within);
   }

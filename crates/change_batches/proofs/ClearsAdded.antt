@@ -33,11 +33,11 @@ module _ (disks : List Disk) (areas : List (Area × Option Locn)) (scanned : Are
         (batch_if (map clear_put (cleared_areas cleared areas)));
     run = λ all.
         added_run (sizes_of disks) (map clear_put (cleared_areas cleared areas)) middle new headers
-            (clear_batch (sizes_of disks) (cleared_areas cleared areas) (cleared_held disks areas scanned cleared)
-            (cleared_lie disks areas scanned cleared))
+        (clear_batch (sizes_of disks) (cleared_areas cleared areas) (cleared_held disks areas scanned cleared)
+        (cleared_lie disks areas scanned cleared))
         (added_run (sizes_of disks) (map label_put (unused_labels cleared disks)) old middle labels
         (label_batch (sizes_of disks) (unused_labels cleared disks) (labels_can disks areas scanned cleared)
-            (labels_lie disks areas scanned cleared) (labels_differ disks areas scanned cleared)) all);
+        (labels_lie disks areas scanned cleared) (labels_differ disks areas scanned cleared)) all);
     fields = fields;
   }
 
@@ -47,4 +47,4 @@ pub from_none : (cleared : set.FinSet nat_cmp) (disks disks' : List Disk) (areas
 from_none cleared disks disks' areas areas' old new same_disks same_areas none added =
     subst (λ (d : List Disk). AreClearsAdded cleared d areas [] new) same_disks
     (subst (λ (a : List (Area × Option Locn)). AreClearsAdded cleared disks' a [] new) same_areas
-        (subst (λ (l : List Batch). AreClearsAdded cleared disks' areas' l new) none added))
+    (subst (λ (l : List Batch). AreClearsAdded cleared disks' areas' l new) none added))

@@ -23,13 +23,13 @@ module _ (P : ℕ → Type 0) where
   of_all taken (n ∷ numbers) q all old has =
       of_all (set.insert taken n) numbers q all.1
       (λ here. of_one taken n q (q == n) refl (ap (λ (b : Bool). b || set.contains taken q) (sym (unsigned_tied q n))
-          ∙ sym (set.contains-insert nat_cmp_total taken n q) ∙ here) all.0 old)
+      ∙ sym (set.contains-insert nat_cmp_total taken n q) ∙ here) all.0 old)
       has
 
   pub of_set : (numbers : List ℕ) → All P numbers → (q : ℕ) → set.contains (set_of numbers) q ≡ true → P q
   of_set numbers all q has =
       of_all set.empty numbers q (recursion_from_All P numbers all) (λ here. absurd (true≢false (sym here ∙ set.contains-empty nat_cmp q)))
-          has
+      has
 
   pub of_disks : (numbers : List ℕ) → All P numbers → All P (disks_in (set_of numbers))
   of_disks numbers all = disks_have (set_of numbers) P (of_set numbers all)

@@ -28,14 +28,14 @@ only_in P (n ∷ numbers) taken old all pv is =
     (λ same. subst P (sym (eqb-true q n same)) (All-head P n numbers all))
     (λ before. old q before)
     (or_cases (q == n) (contains taken q) (sym
-        (contains-insert nat_cmp_total taken n q ∙ ap (λ (t : Bool). t || contains taken q) (unsigned_tied q n)) ∙ there)))
+    (contains-insert nat_cmp_total taken n q ∙ ap (λ (t : Bool). t || contains taken q) (unsigned_tied q n)) ∙ there)))
     (All-tail P n numbers all) pv is
 
 -- what holds of all numbers holds of each of their set
 pub set_has : (P : ℕ → Type 0) (numbers : List ℕ) → All P numbers → All P (disks_in (set_of numbers))
 set_has P numbers all =
     disks_have (set_of numbers) P (λ pv is. only_in P numbers empty (λ q none. absurd (true≢false (sym none ∙ contains-empty nat_cmp q)))
-        all pv is)
+    all pv is)
 
 -- the disk of a write is in the set
 disk_in : (puts : List Put) → All (λ (put : Put). contains (set_of (disks_written puts)) put.0.pv ≡ true) puts
@@ -44,7 +44,7 @@ disk_in puts k d within =
     true_from_ne_false (contains (set_of (disks_written puts)) pv)
     (λ no.
     All-from_recursion (λ (n : ℕ). n ≢ pv) (disks_written puts) (absent empty (disks_written puts) pv no).1 k d.0.pv
-        (omega (arith, within, length-map puts (λ (put : Put). put.0.pv)))
+    (omega (arith, within, length-map puts (λ (put : Put). put.0.pv)))
     (get_or-map (λ (put : Put). put.0.pv) puts k d d.0.pv within))
 
 disk_flushed : (puts : List Put) → All IsOnFew puts → All (λ (put : Put). IsAmong (disks_in (set_of (disks_written puts))) put.0.pv) puts
@@ -71,7 +71,7 @@ pub runs : (sizes : List ℕ) (put : Put) (puts : List Put) (batch : Batch) → 
     → Is (put ∷ puts) (set_of (disks_written (put ∷ puts))) batch → CanRun sizes batch
 runs sizes put puts batch are is =
     can_run sizes (put ∷ puts) (disks_in (set_of (disks_written (put ∷ puts)))) batch is.writes is.flushes (omega arith)
-        (some_flushed put puts are.few) are.lie
+    (some_flushed put puts are.few) are.lie
     (set_has (λ (pv : ℕ). pv < length sizes) (disks_written (put ∷ puts))
-        (All-map (λ (pv : ℕ). pv < length sizes) (λ (p : Put). p.0.pv) (put ∷ puts) (λ k d within. (are.lie k d within).disk)))
+    (All-map (λ (pv : ℕ). pv < length sizes) (λ (p : Put). p.0.pv) (put ∷ puts) (λ k d within. (are.lie k d within).disk)))
     are.apart (disk_flushed (put ∷ puts) are.few)

@@ -1,6 +1,6 @@
 -- Each metadata area begins behind the sectors of labels.
-use Rattle.std.proofs.Common.{◌≡◌, ◌≤◌, ◌<◌, ℕ, suc, ◌+◌, ◌%◌, ◌==◌, not, ◌||◌, nat_lt, Bool, true, false, cond, List, [], ◌∷◌, map, Option,
-    Some, None, ⊎_elim, refl, sym, subst, ◌∙◌, arith}
+use Rattle.std.proofs.Common.{◌≡◌, ◌≤◌, ◌<◌, ℕ, suc, ◌+◌, ◌%◌, ◌==◌, not, ◌||◌, nat_lt, Bool, true, false, cond, List, [], ◌∷◌, map, Option}
+use Rattle.std.proofs.Common.{Some, None, ⊎_elim, refl, sym, subst, ◌∙◌, arith}
 use Rattle.std.specs.Prelude.{filter_map, find, slice_get, All}
 use Rattle.std.proofs.lemmas.Bool.{cases_lt, lt-ltb, or_left, or_right, true≢false}
 use Rattle.std.proofs.lemmas.List.Elements.{All-append, All-cons, All-nil}
@@ -33,7 +33,7 @@ shaped_far area none =
     (λ (near : area.offset < 2048).
     let odd : Bool = not (area.offset % 512 == 0) || not (area.size % 512 == 0) in
     absurd (true≢false (sym (or_left (odd || nat_lt area.offset 2048) (nat_lt area.size 1536)
-        (or_right odd (nat_lt area.offset 2048) (lt-ltb area.offset 2048 near))) ∙ none)))
+    (or_right odd (nat_lt area.offset 2048) (lt-ltb area.offset 2048 near))) ∙ none)))
     (λ (far : 2048 ≤ area.offset). far)
     (cases_lt area.offset 2048)
 
@@ -71,7 +71,7 @@ far_from pv [] each = All-nil IsFar
 far_from pv (disk ∷ disks) each =
     let here : IsDisk pv disk = subst (λ (n : ℕ). IsDisk n disk) (omega arith) (each 0 disk refl) in
     All-append IsFar (filter_map (held_area pv) (areas_on disk.contents)) (held_areas (pv + 1) disks)
-        (far_on pv disk.sectors disk.contents here.contents)
+    (far_on pv disk.sectors disk.contents here.contents)
     (far_from (pv + 1) disks (λ k d is. subst (λ (n : ℕ). IsDisk n d) (omega arith) (each (suc k) d is)))
 
 pub held_far : (disks : List Disk) → ((pv : ℕ) (disk : Disk) → slice_get disks pv ≡ Some disk → IsDisk pv disk)

@@ -18,4 +18,4 @@ module _ {X : Type 0} (P : X → Type 0) where
     each_of_filtered [] all = All-nil (λ (x : X). q x ≡ true → P x)
     each_of_filtered (x ∷ xs) all =
         All-cons (λ (y : X). q y ≡ true → P y) x xs (filtered_head (q x) x (filter q xs) all)
-            (each_of_filtered xs (filtered_tail (q x) x (filter q xs) all))
+        (each_of_filtered xs (filtered_tail (q x) x (filter q xs) all))

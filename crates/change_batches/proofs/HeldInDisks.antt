@@ -1,6 +1,6 @@
 -- Each metadata area that is held lies in its disk.
-use Rattle.std.proofs.Common.{◌≡◌, ◌<◌, ◌≤◌, ℕ, suc, ◌+◌, ◌/◌, List, [], ◌∷◌, length, slice_index_or, Option, Some, None, refl, sym, ap,
-    subst, ◌∙◌, arith}
+use Rattle.std.proofs.Common.{◌≡◌, ◌<◌, ◌≤◌, ℕ, suc, ◌+◌, ◌/◌, List, [], ◌∷◌, length, slice_index_or, Option, Some, None, refl, sym, ap}
+use Rattle.std.proofs.Common.{subst, ◌∙◌, arith}
 use Rattle.std.specs.Prelude.{All, filter_map, option_map, slice_get}
 use Rattle.std.proofs.lemmas.List.{length-map}
 use Rattle.std.proofs.lemmas.List.Elements.{All-nil, All-append, All-weaker}
@@ -34,9 +34,11 @@ pub record HasSize (sizes : List ℕ) (pv sectors : ℕ) : Type 0 where
 pub has_size : (disks : List Disk) (pv : ℕ) (disk : Disk) → slice_get disks pv ≡ Some disk → HasSize (sizes_of disks) pv disk.sectors
 has_size disks pv disk there =
     let sized : slice_get (sizes_of disks) pv ≡ Some disk.sectors =
-        slice_get-map (λ (d : Disk). d.sectors) disks pv ∙ ap (option_map (λ (d : Disk). d.sectors)) there in
-    record { within = slice_get_within (sizes_of disks) pv disk.sectors sized;
-        size = get_or_from_slice_get (sizes_of disks) pv disk.sectors 0 sized }
+    slice_get-map (λ (d : Disk). d.sectors) disks pv ∙ ap (option_map (λ (d : Disk). d.sectors)) there in
+    record {
+      within = slice_get_within (sizes_of disks) pv disk.sectors sized;
+      size = get_or_from_slice_get (sizes_of disks) pv disk.sectors 0 sized;
+    }
 
 pub sizes_below : (disks : List Disk) (numbers : List ℕ) → All (λ n. n < length disks) numbers
     → All (λ n. n < length (sizes_of disks)) numbers
@@ -76,7 +78,7 @@ on_one pv sectors (Some (NoHeader label refusal)) stands = All-nil (λ (area : A
 on_one pv sectors (Some (Whole label header areas)) stands =
     all_kept (λ (area : Area × Option Locn). EndsOn pv sectors area.0) (IsUsable pv sectors) (held_area pv)
     (λ found kept usable is. kept_ends pv sectors (area_on pv found.area) found.entry kept is (usable_ends pv sectors found usable)) areas
-        stands.3
+    stands.3
 
 -- ---- those of all disks
 
@@ -93,11 +95,11 @@ lie_from : (all : List Disk) (pv : ℕ) (disks : List Disk) → IsThere all pv d
 lie_from all pv [] each = All-nil (LiesIn (sizes_of all))
 lie_from all pv (disk ∷ disks) each =
     let first : IsDisk pv disk × (slice_get all pv ≡ Some disk) =
-        subst (λ (n : ℕ). IsDisk n disk × (slice_get all n ≡ Some disk)) (omega arith) (each 0 disk refl) in
+    subst (λ (n : ℕ). IsDisk n disk × (slice_get all n ≡ Some disk)) (omega arith) (each 0 disk refl) in
     let has : HasSize (sizes_of all) pv disk.sectors = has_size all pv disk first.1 in
     All-append (LiesIn (sizes_of all)) (filter_map (held_area pv) (areas_on disk.contents)) (held_areas (pv + 1) disks)
     (All-weaker (λ (area : Area × Option Locn). EndsOn pv disk.sectors area.0) (LiesIn (sizes_of all))
-        (λ area ends. lies_in (sizes_of all) pv disk.sectors area has ends)
+    (λ area ends. lies_in (sizes_of all) pv disk.sectors area has ends)
     (filter_map (held_area pv) (areas_on disk.contents)) (on_one pv disk.sectors disk.contents first.0.contents))
     (lie_from all (pv + 1) disks (λ k d is. subst (λ (n : ℕ). IsDisk n d × (slice_get all n ≡ Some d)) (omega arith) (each (suc k) d is)))
 
@@ -105,7 +107,7 @@ pub held_lie : (disks : List Disk) → ((pv : ℕ) (disk : Disk) → slice_get d
     → All (LiesIn (sizes_of disks)) (held_areas 0 disks)
 held_lie disks each =
     lie_from disks 0 disks (λ k disk there. subst (λ (n : ℕ). IsDisk n disk × (slice_get disks n ≡ Some disk)) (omega arith)
-        (each k disk there, there))
+    (each k disk there, there))
 
 -- all that a line is judged against
 pub areas_lie : (state : GroupState) → IsState state → All (LiesIn (sizes_of state.disks)) state.areas

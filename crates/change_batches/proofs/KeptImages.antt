@@ -1,6 +1,6 @@
 -- What every image on the way of a change keeps of areas and labels, and what areas show once all is written.
-use Rattle.std.proofs.Common.{◌≡◌, ◌≢◌, ◌≤◌, ◌<◌, ◌⊎◌, ℕ, ◌+◌, ◌/◌, Bool, true, false, cond, List, [], ◌∷◌, ◌++◌, length, map, flat_map,
-    get_or, Option, None, Some, inl, inr, ⊎_elim, refl, sym, ap, subst, ◌∙◌, append_assoc, arith}
+use Rattle.std.proofs.Common.{◌≡◌, ◌≢◌, ◌≤◌, ◌<◌, ◌⊎◌, ℕ, ◌+◌, ◌/◌, Bool, true, false, cond, List, [], ◌∷◌, ◌++◌, length, map, flat_map}
+use Rattle.std.proofs.Common.{get_or, Option, None, Some, inl, inr, ⊎_elim, refl, sym, ap, subst, ◌∙◌, append_assoc, arith}
 use Rattle.std.specs.Prelude.{All, filter, take as front_of}
 use Rattle.std.specs.FinSet.{contains}
 use Rattle.std.proofs.lemmas.Bool.{cases_Bool, true≢false}
@@ -62,7 +62,7 @@ module _ (areas : List (Area × Option Locn)) (take : All CanTake areas) (far : 
       let a : Area × Option Locn = get_or areas k d in
       let begins : 2048 ≤ a.0.start = far k d within in
       shows_alike old a base image (take k d within).0 (base_sized areas base take k d within)
-          (λ sector inside. same (a.0.start / 512 + sector) (omega (arith, begins))) (base_shows areas base names k d within)
+      (λ sector inside. same (a.0.start / 512 + sector) (omega (arith, begins))) (base_shows areas base names k d within)
 
   -- ---- no group is committed
 
@@ -74,7 +74,7 @@ module _ (areas : List (Area × Option Locn)) (take : All CanTake areas) (far : 
     elsewhere pv sector other =
         All-append (KeepsSector pv sector) (batch_if puts ++ batch_if label_puts) []
         (All-append (KeepsSector pv sector) (batch_if puts) (batch_if label_puts)
-            (all_if (KeepsSector pv sector) puts (near pv sector (inl other)))
+        (all_if (KeepsSector pv sector) puts (near pv sector (inl other)))
         (all_if (KeepsSector pv sector) label_puts (labels_keep_other change.labels pv sector other)))
         (All-nil (KeepsSector pv sector))
 
@@ -82,7 +82,7 @@ module _ (areas : List (Area × Option Locn)) (take : All CanTake areas) (far : 
         → All (λ (area : Area × Option Locn). IsOnOther change.labels area → ShowsBy old image area) areas
     kept_none image h k d within other =
         alike image k d within (λ sector far'. front_kept new_batches base image (get_or areas k d).0.pv sector
-            (elsewhere (get_or areas k d).0.pv sector other) h)
+        (elsewhere (get_or areas k d).0.pv sector other) h)
 
     before_new : All (λ (label : NewLabel). KeepsSector label.disk label.sector puts) change.labels
     before_new k d within = near (get_or change.labels k d).disk (get_or change.labels k d).sector (inr (can k d within).sector_below)
@@ -112,7 +112,7 @@ module _ (areas : List (Area × Option Locn)) (take : All CanTake areas) (far : 
     first_shows : AllShow old own first
     first_shows =
         All-filter (lies_on (set_of change.disk_of)) (ShowsBy old first) areas
-            (λ k d within. alike first k d within (first_far (get_or areas k d).0.pv))
+        (λ k d within. alike first k d within (first_far (get_or areas k d).0.pv))
 
     own_sized : AreSized old own
     own_sized = base_sized own base fits.committed.take
@@ -126,7 +126,7 @@ module _ (areas : List (Area × Option Locn)) (take : All CanTake areas) (far : 
         (λ is.
         let t = covers_tells (area_span a.0) pv sector is in
         absurd (true≢false (sym (filter_passes (lies_on (set_of change.disk_of)) areas k d within)
-            ∙ (ap (contains (set_of change.disk_of)) t.0 ∙ none))))
+        ∙ (ap (contains (set_of change.disk_of)) t.0 ∙ none))))
         (λ out. out)
         (cases_Bool (covers (area_span a.0) pv sector))
 
@@ -135,12 +135,12 @@ module _ (areas : List (Area × Option Locn)) (take : All CanTake areas) (far : 
     kept_commit image h k d within true on =
         of_passed (lies_on (set_of change.disk_of)) (IsKeptOrNew text base image) areas
         (commit_shows text own (set_of change.disk_of) fits.committed fits.room read (text_in base) first first_shows own_sized image h) k d
-            within on
+        within on
     kept_commit image h k d within false off =
         let pv : ℕ = (get_or areas k d).0.pv in
         inl (alike image k d within (λ sector behind.
         front_kept commit first image pv sector (commit_keeps text own (set_of change.disk_of) fits.committed fits.room read pv sector
-            (outside pv sector off)) h
+        (outside pv sector off)) h
         ∙ first_far pv sector behind))
 
     kept_some : (image : Image) → HasFirstBatches (batch_if [] ++ batch_if label_puts ++ commit) base image
@@ -149,7 +149,7 @@ module _ (areas : List (Area × Option Locn)) (take : All CanTake areas) (far : 
         ⊎_elim
         (λ in_labels. inl (alike image k d within (λ sector behind.
         front_kept (batch_if [] ++ batch_if label_puts) base image (get_or areas k d).0.pv sector
-            (far_kept (get_or areas k d).0.pv sector behind) in_labels)))
+        (far_kept (get_or areas k d).0.pv sector behind) in_labels)))
         (λ in_commit. kept_commit image in_commit k d within (lies_on (set_of change.disk_of) (get_or areas k d)) refl)
         (first_or_more (batch_if [] ++ batch_if label_puts) commit base image h)
 
@@ -164,13 +164,13 @@ module _ (areas : List (Area × Option Locn)) (take : All CanTake areas) (far : 
     unpublished_commit image h k d within true on =
         of_passed (lies_on (set_of change.disk_of)) (ShowsBy old image) areas
         (commit_unpublished text own (set_of change.disk_of) fits.committed fits.room read (text_in base) first first_shows own_sized image
-            h) k d within on
+        h) k d within on
     unpublished_commit image h k d within false off =
         let pv : ℕ = (get_or areas k d).0.pv in
         alike image k d within (λ sector behind.
         front_kept written_first first image pv sector
         (All-take (KeepsSector pv sector) 2 commit
-            (commit_keeps text own (set_of change.disk_of) fits.committed fits.room read pv sector (outside pv sector off))) h
+        (commit_keeps text own (set_of change.disk_of) fits.committed fits.room read pv sector (outside pv sector off))) h
         ∙ first_far pv sector behind)
 
     unpublished_some : (image : Image) → HasFirstBatches (batch_if [] ++ batch_if label_puts ++ written_first) base image
@@ -179,7 +179,7 @@ module _ (areas : List (Area × Option Locn)) (take : All CanTake areas) (far : 
         ⊎_elim
         (λ in_labels. alike image k d within (λ sector behind.
         front_kept (batch_if [] ++ batch_if label_puts) base image (get_or areas k d).0.pv sector
-            (far_kept (get_or areas k d).0.pv sector behind) in_labels))
+        (far_kept (get_or areas k d).0.pv sector behind) in_labels))
         (λ in_commit. unpublished_commit image in_commit k d within (lies_on (set_of change.disk_of) (get_or areas k d)) refl)
         (first_or_more (batch_if [] ++ batch_if label_puts) written_first base image h)
 
@@ -193,7 +193,7 @@ module _ (areas : List (Area × Option Locn)) (take : All CanTake areas) (far : 
         unpublished_some image
         (but_last (batch_if [] ++ batch_if label_puts ++ written_first) (publish_of (map (area_writes text) own)) n base image
         (subst (λ (l : List (List Put)). n < length l) split less)
-            (subst (λ (l : List (List Put)). HasFirstBatches (front_of n l) base image) split h))
+        (subst (λ (l : List (List Put)). HasFirstBatches (front_of n l) base image) split h))
 
     -- the areas of the group show its text at the end
     shown_some : AllShow (new_reading text) own (with_batches (batch_if [] ++ batch_if label_puts ++ commit) base)
@@ -218,7 +218,7 @@ module _ (areas : List (Area × Option Locn)) (take : All CanTake areas) (far : 
     behind_commit k d within =
         let label : NewLabel = get_or change.labels k d in
         commit_keeps text own (set_of change.disk_of) fits.committed fits.room read label.disk label.sector
-            (near_outside label.disk label.sector (can k d within).sector_below)
+        (near_outside label.disk label.sector (can k d within).sector_below)
 
   -- ---- both
 
@@ -231,9 +231,11 @@ module _ (areas : List (Area × Option Locn)) (take : All CanTake areas) (far : 
     kept_by : (image : Image) (g : Option Group) → change.group ≡ g → HasFirstBatches (batches g) base image
         → AreasKeptBy g now change areas base image × LabelsKept change.labels base image
     kept_by image None is h =
-        let puts : List Put = flat_map area_puts change.labels in
-        (kept_none puts (near is) image h, labels_kept puts change.labels [] differ (before_new puts (near is)) (behind_none puts (near is))
-            base image h)
+        let puts : List Put = flat_map area_puts change.labels in (
+          kept_none puts (near is) image h,
+          labels_kept puts change.labels [] differ (before_new puts (near is)) (behind_none puts (near is))
+              base image h,
+        )
     kept_by image (Some group) is h =
         let text : List ℕ = printed (tree_of group now) in (
           kept_some text (fits group is) (read group is) image h,
@@ -255,7 +257,7 @@ module _ (areas : List (Area × Option Locn)) (take : All CanTake areas) (far : 
     there_by (Some group) is =
         let text : List ℕ = printed (tree_of group now) in
         labels_after [] change.labels (commit text (fits group is) (read group is)) differ
-            (before_none text (fits group is) (read group is)) (behind_commit text (fits group is) (read group is)) base
+        (before_none text (fits group is) (read group is)) (behind_commit text (fits group is) (read group is)) base
 
     pub labels_stand : (k : ℕ) (d : NewLabel) → k < length change.labels
         → with_batches (batches change.group) base (get_or change.labels k d).disk (get_or change.labels k d).sector

@@ -33,7 +33,7 @@ labels_apart : (labels : List NewLabel) → AllPairs (λ (a b : NewLabel). a.dis
 labels_apart labels differ =
     subst ShareNoSector (flat_map_single label_put labels)
     (each_apart (λ (label : NewLabel). label_put label ∷ []) (λ label. Unit {0}) (λ (a b : NewLabel). a.disk ≢ b.disk)
-        (λ label good. (λ pv sector here. refl, tt))
+    (λ label good. (λ pv sector here. refl, tt))
     (λ a b good_a good_b other pv sector x y. other ((one_put (label_put a) pv sector x).0 ∙ sym (one_put (label_put b) pv sector y).0))
     labels (λ k d within. tt) differ)
 

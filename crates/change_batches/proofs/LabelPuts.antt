@@ -1,6 +1,6 @@
 -- The batch of label sectors, between one batch before it and others behind it.
-use Rattle.std.proofs.Common.{◌≡◌, ◌≢◌, ◌≤◌, ◌<◌, ◌⊎◌, ℕ, zero, suc, ◌+◌, ◌-◌, true, List, [], ◌∷◌, ◌++◌, length, map, get_or, inl, inr,
-    ⊎_elim, refl, sym, ap, ◌∙◌, arith}
+use Rattle.std.proofs.Common.{◌≡◌, ◌≢◌, ◌≤◌, ◌<◌, ◌⊎◌, ℕ, zero, suc, ◌+◌, ◌-◌, true, List, [], ◌∷◌, ◌++◌, length, map, get_or, inl, inr}
+use Rattle.std.proofs.Common.{⊎_elim, refl, sym, ap, ◌∙◌, arith}
 use Rattle.std.specs.Prelude.{All, AllPairs}
 use Rattle.std.proofs.lemmas.Bool.{cases_lt, or_left, or_right, true≢false}
 use Rattle.std.proofs.lemmas.List.Elements.{All-cons, All-nil}
@@ -25,7 +25,7 @@ use Rattle.change_batches.specs.Sound.{CanLabel}
 pub one_tells : (disk first pv sector : ℕ) → covers (one_sector disk first) pv sector ≡ true → (disk ≡ pv) × (first ≡ sector)
 one_tells disk first pv sector is =
     let t : (disk ≡ pv) × (first ≤ sector) × (sector < first + 1) = covers_tells (one_sector disk first) pv sector
-        is in (t.0, omega (arith, t.1, t.2))
+    is in (t.0, omega (arith, t.1, t.2))
 
 pub one_value : (disk first sector : ℕ) (bytes : List ℕ) → first ≡ sector → value_at (one_sector disk first) (bytes ∷ []) sector ≡ bytes
 one_value disk first sector bytes at = let front : sector - first ≡ 0 = omega (arith, at) in ap (λ (k : ℕ). get_or (bytes ∷ []) k []) front
@@ -52,11 +52,11 @@ label_at : (labels : List NewLabel) (d : NewLabel) (k : ℕ) → k < length labe
 label_at [] d k within = absurd (omega arith)
 label_at (label ∷ labels) d zero within =
     or_left (covers (one_sector label.disk label.sector) label.disk label.sector)
-        (writes_at (map write_work (map label_put labels)) label.disk label.sector) (one_covers label.disk label.sector)
+    (writes_at (map write_work (map label_put labels)) label.disk label.sector) (one_covers label.disk label.sector)
 label_at (label ∷ labels) d (suc k) within =
     or_right (covers (one_sector label.disk label.sector) (get_or labels k d).disk (get_or labels k d).sector)
     (writes_at (map write_work (map label_put labels)) (get_or labels k d).disk (get_or labels k d).sector)
-        (label_at labels d k (omega arith))
+    (label_at labels d k (omega arith))
 
 -- no two labels are on one disk
 abbrev pub AreApart : List NewLabel → Type 0
@@ -82,7 +82,7 @@ labels_there labels base differ k d within =
     ⊎_elim
     (λ kept. absurd (true≢false (sym (label_at labels d k within) ∙ kept.1)))
     (λ by. let w = label_where labels d label.disk label.sector (with_writes (map label_put labels) base label.disk label.sector) by in w.4
-        ∙ ap label_bytes (same_label labels differ d w.0 k w.1 within w.2))
+    ∙ ap label_bytes (same_label labels differ d w.0 k w.1 within w.2))
     (written_or_kept (map label_put labels) base label.disk label.sector)
 
 -- ---- what the batch keeps
@@ -107,7 +107,7 @@ pub labels_keep_other : (labels : List NewLabel) (pv sector : ℕ) → All (λ (
     → KeepsSector pv sector (map label_put labels)
 labels_keep_other labels pv sector other =
     keeps_sector (map label_put labels) pv sector
-        (λ value by. let w = label_where labels no_label pv sector value by in other w.0 no_label w.1 w.2)
+    (λ value by. let w = label_where labels no_label pv sector value by in other w.0 no_label w.1 w.2)
 
 -- ---- a batch where it isn't empty
 
@@ -147,7 +147,7 @@ module _ (puts : List Put) (labels : List NewLabel) (more : List (List Put)) (di
       let label : NewLabel = get_or labels k d in
       let first : Image = with_batches (batch_if puts) base in
       ap (λ (i : Image). i label.disk label.sector)
-          (batches_append (batch_if puts) (batch_if (map label_put labels)) base ∙ with_if (map label_put labels) first)
+      (batches_append (batch_if puts) (batch_if (map label_put labels)) base ∙ with_if (map label_put labels) first)
       ∙ labels_there labels first differ k d within
 
   pub labels_after : (k : ℕ) (d : NewLabel) → k < length labels
@@ -168,7 +168,7 @@ module _ (puts : List Put) (labels : List NewLabel) (more : List (List Put)) (di
       (λ in_both.
       ⊎_elim
       (λ in_first. inl (front_kept (batch_if puts) base image label.disk label.sector
-          (all_if (KeepsSector label.disk label.sector) puts (before k d within)) in_first))
+      (all_if (KeepsSector label.disk label.sector) puts (before k d within)) in_first))
       (λ in_labels.
       ⊎_elim
       (λ old. inl (old ∙ first_there k d within))
@@ -176,5 +176,5 @@ module _ (puts : List Put) (labels : List NewLabel) (more : List (List Put)) (di
       (if_either (map label_put labels) first image label.disk label.sector in_labels))
       (first_or_more (batch_if puts) (batch_if (map label_put labels)) base image in_both))
       (λ in_more. inr (front_kept more (with_batches both base) image label.disk label.sector (behind k d within) in_more
-          ∙ both_there k d within))
+      ∙ both_there k d within))
       (first_or_more both more base image h)

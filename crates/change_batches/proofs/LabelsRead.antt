@@ -37,7 +37,7 @@ module _ (label : NewLabel) where
   abbrev front : List ℕ
   front =
       codes "LABELONE" ++ (little_bytes 8 label.sector
-          ++ (little_bytes 4 (checksum lvm_crc_start (summed_bytes contents)) ++ (little_bytes 4 32 ++ codes "LVM2 001")))
+      ++ (little_bytes 4 (checksum lvm_crc_start (summed_bytes contents)) ++ (little_bytes 4 32 ++ codes "LVM2 001")))
 
   parts : label_bytes label ≡ front ++ pv_bytes label.header
   parts = ap (λ (back : List ℕ). front ++ back) (drop_at (replicate 32 0) (pv_bytes label.header) 32 refl)
@@ -55,11 +55,11 @@ module _ (label : NewLabel) where
   header_found can fits found =
       subst (λ (h : PvHeader). IsPvHeader (label_bytes label) h []) (same_version label.header found.version)
       (IsPvHeader-written (label_bytes label) front label.header refl parts found.id fits.device fits.flags can.fits found.data_fit
-          found.areas_fit found.offsets)
+      found.areas_fit found.offsets)
 
 -- the header of an empty area of at most 2^63 bytes
 pub empty_read : (area : Extent) → area.offset < 2 ^ 63 → area.size < 2 ^ 63 → IsHeader (mda_bytes (empty_area area)) (empty_area area)
 empty_read area starts sized =
     let below : checksum lvm_crc_start (mda_summed (empty_area area)) < 2 ^ 32 =
-        checksum_below lvm_crc_start (mda_summed (empty_area area)) in
+    checksum_below lvm_crc_start (mda_summed (empty_area area)) in
     header_read area.offset area.size None None false (omega (arith, starts)) (omega (arith, sized)) tt tt (omega (arith, below)) tt tt

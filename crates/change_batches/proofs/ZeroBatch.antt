@@ -24,7 +24,7 @@ module _ (wanted spans : List Span) (puts : List Put) (old new : List Batch) (sa
   zeros_added : IsAdded (map zero_put wanted) [] new
   zeros_added =
       subst (λ (l : List Batch). IsAdded (map zero_put wanted) l new) empty
-          (subst (λ (l : List Put). IsAdded l old new) (are ∙ ap (map zero_put) same) added)
+      (subst (λ (l : List Put). IsAdded l old new) (are ∙ ap (map zero_put) same) added)
 
   pub zeros_written : map writes_of new ≡ batch_if (map zero_put wanted)
   zeros_written = added_writes (map zero_put wanted) [] new zeros_added
@@ -32,7 +32,7 @@ module _ (wanted spans : List Span) (puts : List Put) (old new : List Batch) (sa
   pub zeros_run : All (λ (span : Span). span.pv < 64) wanted → (sizes : List ℕ) → ZeroesLieOn sizes wanted → All (CanRun sizes) new
   zeros_run few sizes lie =
       added_run sizes (map zero_put wanted) [] new zeros_added (record { few = zeros_few wanted few; lie = lie.lie; apart = lie.apart })
-          (All-nil (CanRun sizes))
+      (All-nil (CanRun sizes))
 
 -- ---- as a plan gives them
 
@@ -47,7 +47,7 @@ module _ (disks : List Disk) (few : length disks ≤ 64) where
   planned_few [] within = All-nil (λ (span : Span). span.pv < 64)
   planned_few (span ∷ []) within =
       let less = (at_length disks span.pv within.disk within.there).0 in All-from_recursion (λ (s : Span). s.pv < 64) (span ∷ [])
-          (omega (arith, less, few), tt)
+      (omega (arith, less, few), tt)
   planned_few (span ∷ next ∷ more) within = absurd within
 
   pub planned_lie : (spans : List Span) → AreWithin disks spans → ZeroesLieOn (sizes_of disks) spans

@@ -53,7 +53,7 @@ AreasKeptBy (Some group) now change areas base image = All (IsKeptOrNew (printed
 abbrev pub LabelsKept : List NewLabel → Image → Image → Type 0
 LabelsKept labels base image =
     All (λ (label : NewLabel). (image label.disk label.sector ≡ base label.disk label.sector)
-        ⊎ (image label.disk label.sector ≡ label_bytes label)) labels
+    ⊎ (image label.disk label.sector ≡ label_bytes label)) labels
 
 -- lvm2's readers find the label and the header in its sector
 pub record HasLabel (image : Image) (new : NewLabel) : Type 0 where
@@ -65,8 +65,8 @@ pub record HasLabel (image : Image) (new : NewLabel) : Type 0 where
 abbrev pub HoldsAfter : Option Group → ℕ → Change → List (Area × Option Locn) → Image → Type 0
 HoldsAfter None now change areas image =
     All (λ (label : NewLabel). All (λ (area : Extent). IsHeader
-        (sectors_of (record { pv = label.disk; start = area.offset; size = area.size }) image 0) (empty_area area)) label.header.areas)
-        change.labels
+    (sectors_of (record { pv = label.disk; start = area.offset; size = area.size }) image 0) (empty_area area)) label.header.areas)
+    change.labels
 HoldsAfter (Some group) now change areas image = All (ShowsBy (new_reading (printed (tree_of group now))) image) (areas_of change areas)
 
 -- ---- disks that are cleared
@@ -88,10 +88,10 @@ pub record IsUncleared (cleared : set.FinSet nat_cmp) (disks : List Disk) (areas
 -- what an image keeps of the base while these disks are cleared: each label sector is the old or the new one, each header of an
 -- area the old one or empty, and no other sector is written
 pub record ClearsKeep (cleared : set.FinSet nat_cmp) (disks : List Disk) (areas : List (Area × Option Locn)) (base image : Image) : Type 0
-    where
-  pub labels : LabelsKept (unused_labels cleared disks) base image
-  pub headers : All (IsKeptOrEmpty base image) (cleared_areas cleared areas)
-  pub others : (pv sector : ℕ) → IsUncleared cleared disks areas pv sector → image pv sector ≡ base pv sector
+  where
+    pub labels : LabelsKept (unused_labels cleared disks) base image
+    pub headers : All (IsKeptOrEmpty base image) (cleared_areas cleared areas)
+    pub others : (pv sector : ℕ) → IsUncleared cleared disks areas pv sector → image pv sector ≡ base pv sector
 
 -- they are cleared: lvm2's readers find their labels, of physical volumes that no group uses, and no text in their areas
 pub record AreCleared (cleared : set.FinSet nat_cmp) (disks : List Disk) (areas : List (Area × Option Locn)) (image : Image) : Type 0 where

@@ -61,7 +61,7 @@ pairs_insert {X} R xs x at up le before behind i j d lt within =
                   | false ↦ λ e.
                       let from : j ≡ (j - 1) + 1 = omega (arith, eqb-false j at e) in
                       rw (from, get_or-insert_above xs at x d (j - 1) (omega (arith, eqb-false j at e)) le)
-                          (up i (j - 1) d (omega (arith, eqb-false j at e)) (omega arith))
+                      (up i (j - 1) d (omega (arith, eqb-false j at e)) (omega arith))
                 ] refl)
             | false ↦ λ s.
                 let i_ge : at ≤ i = ltb-false i at s in
@@ -72,7 +72,7 @@ pairs_insert {X} R xs x at up le before behind i j d lt within =
                   | false ↦ λ e.
                       let back : i ≡ (i - 1) + 1 = omega (arith, eqb-false i at e) in
                       rw (back, get_or-insert_above xs at x d (i - 1) (omega (arith, eqb-false i at e)) le)
-                          (up (i - 1) (j - 1) d (omega (arith, eqb-false i at e)) (omega arith))
+                      (up (i - 1) (j - 1) d (omega (arith, eqb-false i at e)) (omega arith))
                 ] refl)
           ] refl
     ] refl

@@ -1,11 +1,11 @@
 -- Looking for numbers among pieces that stand in the order of theirs.
-use Rattle.std.proofs.Common.{◌≡◌, ◌<◌, ◌≤◌, ℕ, ◌+◌, Bool, true, false, ◌||◌, nat_eq, nat_le, nat_lt, List, length, get_or, refl, sym, ap,
-    subst, ◌∙◌, arith}
+use Rattle.std.proofs.Common.{◌≡◌, ◌<◌, ◌≤◌, ℕ, ◌+◌, Bool, true, false, ◌||◌, nat_eq, nat_le, nat_lt, List, length, get_or, refl, sym, ap}
+use Rattle.std.proofs.Common.{subst, ◌∙◌, arith}
 use Rattle.std.specs.Prelude.{All, AllPairs, None, Some, filter, is_some, position, remove, take, ◌∷◌, ◌++◌, []}
 use Rattle.std.specs.List.{list_any, position_or_len}
 use Rattle.std.specs.List.Sorted.{IsNonDecreasingBy, IsPartitionPoint}
-use Rattle.std.proofs.lemmas.Bool.{true≢false, cond-true, cond-false, false_from_ne_true, ltb-true, ltb-false, eqb-true, eqb-false, lt-ltb,
-    le-ltb, le-leb, lt-leb, ne_eqb, eq-eqb}
+use Rattle.std.proofs.lemmas.Bool.{true≢false, cond-true, cond-false, false_from_ne_true, ltb-true, ltb-false, eqb-true, eqb-false, lt-ltb}
+use Rattle.std.proofs.lemmas.Bool.{le-ltb, le-leb, lt-leb, ne_eqb, eq-eqb}
 use Rattle.std.proofs.lemmas.List.{get_or_default}
 use Rattle.std.proofs.lemmas.List.Edits.{insert_end}
 use Rattle.std.proofs.lemmas.List.Folds.{list_any_at}
@@ -34,7 +34,7 @@ pub found_at : (claims : List Claim) (number at : ℕ) (d : Claim) → at < leng
 found_at claims number at d lt parts here =
     let first : position_or_len (has_number number) claims ≡ at = first_index (has_number number) claims at (omega arith)
     (λ k e below. ne_eqb (get_or claims k e).number number
-        (λ same. omega (arith, same, ltb-true (get_or claims k e).number number (parts.0 k e (omega arith) below))))
+    (λ same. omega (arith, same, ltb-true (get_or claims k e).number number (parts.0 k e (omega arith) below))))
     (λ e within. eq-eqb (get_or claims at e).number number (ap (λ (c : Claim). c.number) (get_or_default claims at e d lt) ∙ here)) in
     rw (first, lt-ltb at (length claims) lt) refl
 
@@ -44,7 +44,7 @@ pub found_nowhere : (claims : List Claim) (number at : ℕ) (e : Claim) → IsNo
     → (at < length claims → (get_or claims at e).number ≡ number → ⊥) → position (has_number number) claims ≡ None
 found_nowhere claims number at e rise le parts other =
     let first : position_or_len (has_number number) claims ≡ length claims =
-        first_index (has_number number) claims (length claims) (omega arith)
+    first_index (has_number number) claims (length claims) (omega arith)
     (λ k d lt.
     elim (nat_lt k at) as (λ t. nat_lt k at ≡ t → nat_eq (get_or claims k d).number number ≡ false) [
       | true ↦ λ t. ne_eqb (get_or claims k d).number number
@@ -52,9 +52,9 @@ found_nowhere claims number at e rise le parts other =
       | false ↦ λ t.
           let from : at ≤ k = ltb-false k at t in
           let above : number ≤ (get_or claims at d).number =
-              ltb-false (get_or claims at d).number number (parts.1 at d (omega arith) (omega arith)) in
+          ltb-false (get_or claims at d).number number (parts.1 at d (omega arith) (omega arith)) in
           let as_there : (get_or claims at e).number ≡ (get_or claims at d).number =
-              ap (λ (c : Claim). c.number) (get_or_default claims at e d (omega arith)) in
+          ap (λ (c : Claim). c.number) (get_or_default claims at e d (omega arith)) in
           let more : (get_or claims at d).number ≤ (get_or claims k d).number = rise at k d from lt in
           ne_eqb (get_or claims k d).number number (λ same. other (omega arith) (omega (arith, as_there, same, above, more)))
     ] refl)
@@ -66,7 +66,7 @@ pub put_last : (claims : List Claim) (c : Claim) → All (λ (d : Claim). d.numb
     → put_by_number claims c ≡ claims ++ c ∷ []
 put_last claims c all =
     let end : place_by_number claims c.number ≡ length claims =
-        first_index (λ (d : Claim). nat_le c.number d.number) claims (length claims) (omega arith)
+    first_index (λ (d : Claim). nat_le c.number d.number) claims (length claims) (omega arith)
     (λ k d lt. lt-leb c.number (get_or claims k d).number (all k d lt))
     (λ d lt. absurd (omega arith)) in
     rw (end) (insert_end claims c)
@@ -102,7 +102,7 @@ found_any claims number at found =
     let there = position-Some (has_number number) claims at no_claim found in
     let first : number_at claims number ≡ at = first_index (has_number number) claims at (omega (arith, there.0))
     (λ k d lt. subst (λ (c : Claim). has_number number c ≡ false) (get_or_default claims k no_claim d (omega (arith, there.0)))
-        (there.2 k lt))
+    (there.2 k lt))
     (λ d lt. subst (λ (c : Claim). has_number number c ≡ true) (get_or_default claims at no_claim d lt) there.1) in
     (list_any_at (has_number number) claims at no_claim there.0 there.1, sym first, there.0)
 
@@ -112,8 +112,8 @@ pub found_none : (claims : List Claim) (number : ℕ) → position (has_number n
 found_none claims number none = false_from_ne_true (list_any (has_number number) claims) (λ any.
     let within : position_or_len (has_number number) claims < length claims = any_within (has_number number) claims any in
     let some : position (has_number number) claims ≡ Some (position_or_len (has_number number) claims) =
-        cond-true (nat_lt (position_or_len (has_number number) claims) (length claims)) _ _
-            (lt-ltb (position_or_len (has_number number) claims) (length claims) within) in
+    cond-true (nat_lt (position_or_len (has_number number) claims) (length claims)) _ _
+    (lt-ltb (position_or_len (has_number number) claims) (length claims) within) in
     true≢false (ap is_some (sym some ∙ none)))
 
 -- the started piece of the number leaves

@@ -1,6 +1,6 @@
 -- What it means that a piece conflicts with nothing.
-use Rattle.std.proofs.Common.{◌≡◌, ◌<◌, ℕ, zero, suc, Bool, true, false, not, cond, ◌&&◌, ◌||◌, ◌==◌, List, [], ◌∷◌, ◌++◌, length, get_or,
-    take, drop, ◌+◌, ◌≤◌, refl, sym, ap, ◌∙◌, append_assoc, append-nil, arith}
+use Rattle.std.proofs.Common.{◌≡◌, ◌<◌, ℕ, zero, suc, Bool, true, false, not, cond, ◌&&◌, ◌||◌, ◌==◌, List, [], ◌∷◌, ◌++◌, length, get_or}
+use Rattle.std.proofs.Common.{take, drop, ◌+◌, ◌≤◌, refl, sym, ap, ◌∙◌, append_assoc, append-nil, arith}
 use Rattle.std.specs.Prelude.{IsTrue, IfNone, IfSome, Option, Some, None, is_some, slice_get}
 use Rattle.std.specs.Option.{option_map, option_map_or}
 use Rattle.std.specs.List.{list_any}
@@ -66,8 +66,8 @@ pub conflict_blocks : (claims : Claims) (earlier : List Claim) (c : Claim) (by :
     → is_free claims earlier c ≡ false
 conflict_blocks claims earlier c (Piece number) h =
     elim (list_any (λ d. (d.number == number) && clash d c) claims.started) as
-        (λ b. list_any (λ d. (d.number == number) && clash d c) claims.started ≡ b
-        → (b || list_any (λ d. (d.number == number) && clash d c) earlier) ≡ true → is_free claims earlier c ≡ false) [
+    (λ b. list_any (λ d. (d.number == number) && clash d c) claims.started ≡ b
+    → (b || list_any (λ d. (d.number == number) && clash d c) earlier) ≡ true → is_free claims earlier c ≡ false) [
       | true ↦ λ s g. any_blocks _ _ _ _ (or_left _ _
           (or_left _ _ (or_left _ _ (any_second (λ (d : Claim). d.number == number) (λ (d : Claim). clash d c) claims.started s))))
       | false ↦ λ s g. any_blocks _ _ _ _ (or_left _ _
@@ -76,7 +76,7 @@ conflict_blocks claims earlier c (Piece number) h =
 conflict_blocks claims earlier c (Region region) h =
     let shut : is_shut_out claims c ≡ true =
     elim claims.closed as (λ (o : Option ℕ). (option_map_or (λ r. r == region) o false && lies_in region c) ≡ true
-        → option_map_or (λ r. lies_in r c) o false ≡ true) [
+    → option_map_or (λ r. lies_in r c) o false ≡ true) [
       | Some r ↦ λ g. let same : r ≡ region = eqb-true r region (and_left _ _ g) in rw same (and_right _ _ g)
       | None ↦ λ g. g
     ] h in

@@ -1,6 +1,6 @@
 -- Halving a sorted list of numbers: what is known of its parts, and how many comparisons it takes.
-use Rattle.std.proofs.Common.{◌≡◌, ◌<◌, ◌≤◌, ℕ, zero, suc, ◌+◌, ◌-◌, ◌*◌, ◌/◌, ◌^◌, Bool, true, false, cond, List, length, get_or, nat_eq,
-    nat_lt, refl, ap, subst, arith}
+use Rattle.std.proofs.Common.{◌≡◌, ◌<◌, ◌≤◌, ℕ, zero, suc, ◌+◌, ◌-◌, ◌*◌, ◌/◌, ◌^◌, Bool, true, false, cond, List, length, get_or, nat_eq}
+use Rattle.std.proofs.Common.{nat_lt, refl, ap, subst, arith}
 use Rattle.std.specs.List.{list_any}
 use Rattle.std.specs.Ordering.{MatchOrdering, is_lt, nat_cmp}
 use Rattle.std.specs.declared.cmp.Ordering.{Ordering}
@@ -85,7 +85,7 @@ halving_up numbers number low high taken next middle e up h lt is more less =
       left = λ further le.
           let same : next + further ≡ taken + (1 + further) = omega (arith, more) in
           rw (same) (h.left (1 + further) (halved further (high - (middle + 1)) (high - low) (omega (arith, is, lt)) (omega (arith, lt))
-              le));
+          le));
     }
 
 -- the one in the middle is above it
@@ -113,7 +113,7 @@ pub halving_found : (numbers : List ℕ) (number low high taken middle e : ℕ) 
     → nat_cmp (get_or numbers middle e) number ≡ Equal → list_any (λ (n : ℕ). nat_eq n number) numbers ≡ true
 halving_found numbers number low high taken middle e h lt is equal =
     list_any_at (λ (n : ℕ). nat_eq n number) numbers middle e (omega (arith, is, lt, h.within))
-        (eq-eqb (get_or numbers middle e) number (is_equal (get_or numbers middle e) number equal))
+    (eq-eqb (get_or numbers middle e) number (is_equal (get_or numbers middle e) number equal))
 
 pub halving_found_bound : (numbers : List ℕ) (number low high taken next : ℕ) → IsHalving numbers number low high taken → low < high
     → next ≡ taken + 1 → 2 ^ next ≤ 2 * length numbers + 1

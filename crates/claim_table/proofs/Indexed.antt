@@ -1,6 +1,6 @@
 -- Pieces with their places beside them, as pieces go in and out.
-use Rattle.std.proofs.Common.{◌≡◌, ◌<◌, ◌≤◌, ℕ, zero, suc, ◌+◌, max, Bool, true, false, cond, nat_eq, nat_lt, ◌&&◌, ◌||◌, List, [], ◌∷◌,
-    length, get_or, set, refl, sym, ap, subst, ◌∙◌, arith}
+use Rattle.std.proofs.Common.{◌≡◌, ◌<◌, ◌≤◌, ℕ, zero, suc, ◌+◌, max, Bool, true, false, cond, nat_eq, nat_lt, ◌&&◌, ◌||◌, List, [], ◌∷◌}
+use Rattle.std.proofs.Common.{length, get_or, set, refl, sym, ap, subst, ◌∙◌, arith}
 use Rattle.std.specs.Prelude.{All, AllPairs, Contains, IfNone, IfSome, IsFalse, IsTrue, None, Option, Some, count_by, remove}
 use Rattle.std.specs.List.{insert, list_any, sum_by}
 use Rattle.std.specs.List.Sorted.{IsNonDecreasingBy, IsPermutation}
@@ -24,8 +24,12 @@ use Rattle.claim_table.proofs.PlaceOrder.{one_place, places_total}
 -- no piece has no place
 pub indexed_none : IsIndexed [] [] 0
 indexed_none =
-    record { by_number = λ i j d le lt. absurd (omega arith); same = λ p. refl; ascending = λ i j d lt within. absurd (omega arith);
-        short = λ k d lt. absurd (omega arith) }
+    record {
+      by_number = λ i j d le lt. absurd (omega arith);
+      same = λ p. refl;
+      ascending = λ i j d lt within. absurd (omega arith);
+      short = λ k d lt. absurd (omega arith);
+    }
 
 -- numbers that don't fall from any to a later one
 falling_pairs : (claims : List Claim) → AllPairs (λ (a b : Claim). a.number ≤ b.number) claims
@@ -47,22 +51,22 @@ pub indexed_put : (claims : List Claim) (places new : List Placed) (longest : �
 indexed_put claims places new longest c at h le parts moved up = record {
   by_number = IsNonDecreasingBy-insert (λ (x : Claim). x.number) claims at c h.by_number le
       (λ k d lt. let below : (get_or claims k d).number
-          < c.number = ltb-true (get_or claims k d).number c.number (parts.0 k d (omega arith) lt) in omega arith)
+      < c.number = ltb-true (get_or claims k d).number c.number (parts.0 k d (omega arith) lt) in omega arith)
       (λ k d from lt. ltb-false (get_or claims k d).number c.number (parts.1 k d from lt));
   same = λ p.
       let old : sum_by (λ x. one_if (p x)) places ≡ sum_by (λ (x : Claim). one_if (p (placed x))) claims = h.same p in
       let kept : sum_by (λ x. one_if (p x)) new ≡ sum_by (λ x. one_if (p x)) (placed c ∷ places) =
-          sum_by-IsPermutation (λ x. one_if (p x)) (placed c ∷ places) new moved in
+      sum_by-IsPermutation (λ x. one_if (p x)) (placed c ∷ places) new moved in
       let one : sum_by (λ x. one_if (p x)) (placed c ∷ places) ≡ one_if (p (placed c)) + sum_by (λ x. one_if (p x)) places =
-          sum_by-cons (λ x. one_if (p x)) (placed c) places in
+      sum_by-cons (λ x. one_if (p x)) (placed c) places in
       let more : sum_by (λ (x : Claim). one_if (p (placed x))) (insert claims at c)
-          ≡ sum_by (λ (x : Claim). one_if (p (placed x))) claims
-          + one_if (p (placed c)) = sum_by-insert (λ (x : Claim). one_if (p (placed x))) claims at c in
+      ≡ sum_by (λ (x : Claim). one_if (p (placed x))) claims
+      + one_if (p (placed c)) = sum_by-insert (λ (x : Claim). one_if (p (placed x))) claims at c in
       omega (arith, old, kept, one, more);
   ascending = up;
   short =
       All-permutation (λ (e : Placed). e.count ≤ max longest c.piece.count) (placed c ∷ places) new moved
-          (All-cons (λ (e : Placed). e.count ≤ max longest c.piece.count) (placed c) places (omega arith)
+      (All-cons (λ (e : Placed). e.count ≤ max longest c.piece.count) (placed c) places (omega arith)
       (λ k d lt. let old : (get_or places k d).count ≤ longest = h.short k d lt in omega arith));
 }
 
@@ -73,21 +77,21 @@ pub indexed_take : (claims : List Claim) (places new : List Placed) (longest : �
 indexed_take claims places new longest c at h lt here moved up = record {
   by_number =
       falling_pairs (remove claims at) (all_pairs_remove (λ (a b : Claim). a.number ≤ b.number) claims at lt
-          (λ i j d below within. h.by_number i j d (omega arith) within));
+      (λ i j d below within. h.by_number i j d (omega arith) within));
   same = λ p.
       let old : sum_by (λ x. one_if (p x)) places ≡ sum_by (λ (x : Claim). one_if (p (placed x))) claims = h.same p in
       let kept : sum_by (λ x. one_if (p x)) (placed c ∷ new) ≡ sum_by (λ x. one_if (p x)) places =
-          sum_by-IsPermutation (λ x. one_if (p x)) places (placed c ∷ new) moved in
+      sum_by-IsPermutation (λ x. one_if (p x)) places (placed c ∷ new) moved in
       let one : sum_by (λ x. one_if (p x)) (placed c ∷ new) ≡ one_if (p (placed c)) + sum_by (λ x. one_if (p x)) new =
-          sum_by-cons (λ x. one_if (p x)) (placed c) new in
+      sum_by-cons (λ x. one_if (p x)) (placed c) new in
       let less : sum_by (λ (x : Claim). one_if (p (placed x))) (remove claims at) + one_if (p (placed (get_or claims at c)))
-          ≡ sum_by (λ (x : Claim). one_if (p (placed x))) claims = sum_by-remove (λ (x : Claim). one_if (p (placed x))) claims at c lt in
+      ≡ sum_by (λ (x : Claim). one_if (p (placed x))) claims = sum_by-remove (λ (x : Claim). one_if (p (placed x))) claims at c lt in
       let is : one_if (p (placed (get_or claims at c))) ≡ one_if (p (placed c)) = ap (λ (x : Claim). one_if (p (placed x))) (sym here) in
       omega (arith, old, kept, one, less, is);
   ascending = up;
   short =
       All-tail (λ (e : Placed). e.count ≤ longest) (placed c) new
-          (All-permutation (λ (e : Placed). e.count ≤ longest) places (placed c ∷ new) moved h.short);
+      (All-permutation (λ (e : Placed). e.count ≤ longest) places (placed c ∷ new) moved h.short);
 }
 
 -- a piece that lies in another region from now on
@@ -115,9 +119,9 @@ indexed_region claims places longest at region e lt h =
       same = λ p.
           let old : sum_by (λ x. one_if (p x)) places ≡ sum_by (λ (x : Claim). one_if (p (placed x))) claims = h.same p in
           let put : sum_by (λ (x : Claim). one_if (p (placed x))) new + one_if (p (placed (get_or claims at e)))
-              ≡ sum_by (λ (x : Claim). one_if (p (placed x))) claims
-              + one_if (p (placed (get_or claims at e))) = sum_by-set (λ (x : Claim). one_if (p (placed x))) claims at
-              (record (get_or claims at e) { region = region }) e lt in
+          ≡ sum_by (λ (x : Claim). one_if (p (placed x))) claims
+          + one_if (p (placed (get_or claims at e))) = sum_by-set (λ (x : Claim). one_if (p (placed x))) claims at
+          (record (get_or claims at e) { region = region }) e lt in
           omega (arith, old, put);
       ascending = h.ascending;
       short = h.short;
@@ -148,9 +152,9 @@ pub has_place : (claims : List Claim) (places : List Placed) (longest : ℕ) (c 
 has_place claims places longest c at h lt here =
     let p : Placed → Bool = λ (e : Placed). is_eq (placed_cmp e (placed c)) in
     let is : is_eq (placed_cmp (placed (get_or claims at c)) (placed c)) ≡ true =
-        rw (← here) (ap is_eq (tied_itself places_total (placed c))) in
+    rw (← here) (ap is_eq (tied_itself places_total (placed c))) in
     let any : list_any p places ≡ true =
-        any_place claims places longest p h ∙ list_any_at (λ (x : Claim). p (placed x)) claims at c lt is in
+    any_place claims places longest p h ∙ list_any_at (λ (x : Claim). p (placed x)) claims at c lt is in
     let found = Any-from_list_any p places any in
     let same : found.1 ≡ placed c = one_place found.1 (placed c) found.4 in
     (found.0, found.2, get_or_default places found.0 (placed c) found.1 found.2 ∙ found.3 ∙ same)

@@ -1,6 +1,6 @@
 -- The first item that passes a test, filters that keep a front, and tests of lists that were mapped or filtered.
-use Rattle.std.proofs.Common.{◌≡◌, ◌<◌, ◌≤◌, ℕ, zero, suc, ◌+◌, Bool, true, false, not, cond, ◌&&◌, ◌||◌, List, [], ◌∷◌, ◌++◌, length,
-    get_or, take, map, filter, refl, sym, ap, ◌∙◌, arith}
+use Rattle.std.proofs.Common.{◌≡◌, ◌<◌, ◌≤◌, ℕ, zero, suc, ◌+◌, Bool, true, false, not, cond, ◌&&◌, ◌||◌, List, [], ◌∷◌, ◌++◌, length}
+use Rattle.std.proofs.Common.{get_or, take, map, filter, refl, sym, ap, ◌∙◌, arith}
 use Rattle.std.specs.List.{list_any, position_or_len}
 
 -- it is there where none before it passes, and it does
@@ -10,7 +10,7 @@ first_index p [] i le before here = omega arith
 first_index p (x ∷ xs) zero le before here = rw (here x (omega arith)) refl
 first_index p (x ∷ xs) (suc i) le before here =
     let rest : position_or_len p xs ≡ i =
-        first_index p xs i (omega arith) (λ k d lt. before (suc k) d (omega arith)) (λ d lt. here d (omega arith)) in
+    first_index p xs i (omega arith) (λ k d lt. before (suc k) d (omega arith)) (λ d lt. here d (omega arith)) in
     rw (before 0 x (omega arith)) (omega (arith, rest))
 
 -- a filter that the front passes, and no item behind it
@@ -21,11 +21,11 @@ filter_front p [] zero le front back = refl
 filter_front p [] (suc at) le front back = absurd (omega arith)
 filter_front p (x ∷ xs) zero le front back =
     rw (back 0 x (omega arith) (omega arith))
-        (filter_front p xs 0 (omega arith) (λ k d lt. absurd (omega arith)) (λ k d from lt. back (suc k) d (omega arith) (omega arith)))
+    (filter_front p xs 0 (omega arith) (λ k d lt. absurd (omega arith)) (λ k d from lt. back (suc k) d (omega arith) (omega arith)))
 filter_front p (x ∷ xs) (suc at) le front back =
     rw (front 0 x (omega arith)) (ap (λ l. x ∷ l)
-        (filter_front p xs at (omega arith) (λ k d lt. front (suc k) d (omega arith))
-        (λ k d from lt. back (suc k) d (omega arith) (omega arith))))
+    (filter_front p xs at (omega arith) (λ k d lt. front (suc k) d (omega arith))
+    (λ k d from lt. back (suc k) d (omega arith) (omega arith))))
 
 -- a filter that all pass
 pub filter_all : {X : Type 0} (xs : List X) → filter (λ (x : X). true) xs ≡ xs

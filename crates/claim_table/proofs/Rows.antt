@@ -59,7 +59,7 @@ second_is_ready = refl
 abbrev two_writes : Claims
 two_writes =
     after_enter (after_enter (after_enter (record no_claims { spare = 3 }) (piece_of 0 0 8 true) Started) (piece_of 1 4 4 true)
-        (Deferred (Piece 0))) (piece_of 2 8 4 true) Started
+    (Deferred (Piece 0))) (piece_of 2 8 4 true) Started
 
 first_starts : is_free (record no_claims { spare = 3 }) [] (piece_of 0 0 8 true) ≡ true
 first_starts = refl
@@ -85,7 +85,7 @@ ten_steps taken bound =
           let over : taken ≡ 11 + (taken - 11) = omega (arith, ltb-true 10 taken t) in
           let parts : 2 ^ taken ≡ 2 ^ 11 * 2 ^ (taken - 11) = ap (λ (n : ℕ). 2 ^ n) over ∙ pow-add 2 11 (taken - 11) in
           let least : 2048 * 1 ≤ 2048 * 2 ^ (taken - 11) =
-              mul-le 2048 1 2048 (2 ^ (taken - 11)) (omega arith) (omega (arith, pow_pos (taken - 11))) in
+          mul-le 2048 1 2048 (2 ^ (taken - 11)) (omega arith) (omega (arith, pow_pos (taken - 11))) in
           absurd (omega (arith, bound, parts, least))
       | false ↦ λ t. ltb-false 10 taken t
     ] refl

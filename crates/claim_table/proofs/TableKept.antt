@@ -34,6 +34,10 @@ pub rise_region : (claims : List Claim) (at : ℕ) (region : Option ℕ) (e : Cl
     → Rise (set claims at (record (get_or claims at e) { region = region }))
 rise_region claims at region e lt up i j d below within =
     let long : length (set claims at (record (get_or claims at e) { region = region })) ≡ length claims =
-        length-set claims at (record (get_or claims at e) { region = region }) in
-    omega (arith, number_kept claims at region e lt i d (omega arith), number_kept claims at region e lt j d (omega arith),
-        up i j d below (omega arith))
+    length-set claims at (record (get_or claims at e) { region = region }) in
+    omega (
+      arith,
+      number_kept claims at region e lt i d (omega arith),
+      number_kept claims at region e lt j d (omega arith),
+      up i j d below (omega arith),
+    )

@@ -1,6 +1,6 @@
 -- The pieces under way and those that wait, and what a piece conflicts with.
-use Rattle.std.specs.Prelude.{◌≡◌, ℕ, suc, if◌then◌else◌, Bool, false, ◌==◌, not, ◌&&◌, ◌||◌, Option, List, [], ◌∷◌, ◌++◌, IsTrue, AllPairs,
-    All}
+use Rattle.std.specs.Prelude.{◌≡◌, ℕ, suc, if◌then◌else◌, Bool, false, ◌==◌, not, ◌&&◌, ◌||◌, Option, List, [], ◌∷◌, ◌++◌, IsTrue, AllPairs}
+use Rattle.std.specs.Prelude.{All}
 use Rattle.std.specs.Option.{option_map_or}
 use Rattle.std.specs.List.{list_any}
 use Rattle.claim_table.specs.declared.claim.Claim.{Claim}

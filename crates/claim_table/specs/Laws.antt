@@ -1,6 +1,6 @@
 -- What holds of the claims after any calls.
-use Rattle.std.specs.Prelude.{◌≡◌, ◌<◌, ◌≤◌, ◌↔◌, ℕ, max, true, false, IsFalse, IsTrue, Option, None, Some, List, [], ◌∷◌, ◌||◌, All,
-    Contains, length, slice_index_or, take}
+use Rattle.std.specs.Prelude.{◌≡◌, ◌<◌, ◌≤◌, ◌↔◌, ℕ, max, true, false, IsFalse, IsTrue, Option, None, Some, List, [], ◌∷◌, ◌||◌, All}
+use Rattle.std.specs.Prelude.{Contains, length, slice_index_or, take}
 use Rattle.std.specs.List.{list_any}
 use Rattle.claim_table.specs.declared.claim.Claim.{Claim}
 use Rattle.claim_table.specs.declared.claim.By.{By}
@@ -8,8 +8,8 @@ use Rattle.claim_table.specs.declared.claim.Entry.{Entry}
 use Rattle.claim_table.specs.Claims.{Claims, IsApart, IsEntry, conflicts, is_free, is_suspended, lies_in, ready_at}
 use Rattle.claim_table.specs.Conflict.{clash}
 use Rattle.claim_table.specs.Extents.{end_of}
-use Rattle.claim_table.specs.Steps.{after_enter, after_leave, after_ready, after_resume, after_set_region, after_suspend, has_number,
-    no_claim, no_claims}
+use Rattle.claim_table.specs.Steps.{after_enter, after_leave, after_ready, after_resume, after_set_region, after_suspend, has_number}
+use Rattle.claim_table.specs.Steps.{no_claim, no_claims}
 
 -- a call that changes the claims, with what was answered where the call may choose
 pub data Call : Type 0 where
@@ -41,7 +41,7 @@ abbrev pub IsCall : Claims → Call → Type 0
 IsCall claims (Reserves pieces) = Unit {0}
 IsCall claims (Enters c entry) =
     (0 < claims.spare) × All (λ d. d.number < c.number) claims.started × All (λ d. d.number < c.number) claims.deferred
-        × IsEntry claims c entry
+    × IsEntry claims c entry
 IsCall claims (Relocates number region) = IsTrue (list_any (has_number number) claims.deferred)
 IsCall claims (Leaves number) = IsTrue (list_any (has_number number) claims.started || list_any (has_number number) claims.deferred)
 IsCall claims Readies = ready_at claims < length claims.deferred
@@ -69,7 +69,7 @@ ClashesShareSectors = (c d : Claim) → (clash c d ≡ true) ↔ (IsTrue (c.piec
 abbrev pub FreeWithoutConflict : Type 0
 FreeWithoutConflict =
     (claims : Claims) (earlier : List Claim) (c : Claim)
-        → (is_free claims earlier c ≡ true) ↔ ((by : By) → conflicts claims earlier c by ≡ false)
+    → (is_free claims earlier c ≡ true) ↔ ((by : By) → conflicts claims earlier c by ≡ false)
 
 -- no two started pieces clash, and none lies in the closed region
 abbrev pub StartedAreApart : Type 0
@@ -79,12 +79,12 @@ StartedAreApart = (calls : List Call) → AreCalls calls → IsApart (after_call
 abbrev pub NoneStartsSuspended : Type 0
 NoneStartsSuspended =
     (before : List Call) (call : Call) (c : Claim) → AreCalls (call ∷ before) → Contains (after_calls (call ∷ before)).started c
-        → (Contains (after_calls before).started c → ⊥)
+    → (Contains (after_calls before).started c → ⊥)
     → is_suspended (after_calls before) c.piece.volume ≡ false
 
 -- the deferred piece that is ready first clashes with none that was deferred before it
 abbrev pub StartsInOrder : Type 0
 StartsInOrder =
     (before : List Call) → AreCalls (Readies ∷ before)
-        → All (λ d. clash d (slice_index_or (after_calls before).deferred (ready_at (after_calls before)) no_claim) ≡ false)
-        (take (ready_at (after_calls before)) (after_calls before).deferred)
+    → All (λ d. clash d (slice_index_or (after_calls before).deferred (ready_at (after_calls before)) no_claim) ≡ false)
+    (take (ready_at (after_calls before)) (after_calls before).deferred)

@@ -1,6 +1,6 @@
 -- How pieces are kept so that those which share sectors with one are found: sorted by volume and first sector.
-use Rattle.std.specs.Prelude.{◌≡◌, ◌≤◌, ℕ, Bool, true, ◌==◌, nat_le, nat_lt, ◌&&◌, ◌||◌, if◌then◌else◌, Option, Some, None, List, All,
-    count_by}
+use Rattle.std.specs.Prelude.{◌≡◌, ◌≤◌, ℕ, Bool, true, ◌==◌, nat_le, nat_lt, ◌&&◌, ◌||◌, if◌then◌else◌, Option, Some, None, List, All}
+use Rattle.std.specs.Prelude.{count_by}
 use Rattle.std.specs.List.Sorted.{IsNonDecreasingBy}
 use Rattle.std.specs.Ordering.{nat_cmp, bool_cmp, ordering_then}
 use Rattle.std.specs.declared.cmp.Ordering.{Ordering}
@@ -22,8 +22,8 @@ piece_of e = record { volume = e.volume; first = e.first; count = e.count; write
 abbrev pub placed_cmp : Placed → Placed → Ordering
 placed_cmp a b =
     ordering_then (nat_cmp a.volume b.volume)
-        (ordering_then (nat_cmp a.first b.first)
-        (ordering_then (nat_cmp a.number b.number) (ordering_then (nat_cmp a.count b.count) (bool_cmp a.write b.write))))
+    (ordering_then (nat_cmp a.first b.first)
+    (ordering_then (nat_cmp a.number b.number) (ordering_then (nat_cmp a.count b.count) (bool_cmp a.write b.write))))
 
 -- whether they are of one volume, share a sector, and one of them writes
 abbrev pub meets : Piece → Placed → Bool

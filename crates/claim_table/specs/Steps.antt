@@ -1,6 +1,6 @@
 -- What each call does to the claims.
-use Rattle.std.specs.Prelude.{ℕ, ◌-◌, Bool, false, ◌==◌, nat_le, List, [], ◌∷◌, ◌++◌, Option, None, remove, slice_index_or, slice_set,
-    if◌then◌else◌}
+use Rattle.std.specs.Prelude.{ℕ, ◌-◌, Bool, false, ◌==◌, nat_le, List, [], ◌∷◌, ◌++◌, Option, None, remove, slice_index_or, slice_set}
+use Rattle.std.specs.Prelude.{if◌then◌else◌}
 use Rattle.std.specs.List.{insert, list_any, position_or_len}
 use Rattle.claim_table.specs.declared.claim.Claim.{Claim}
 use Rattle.claim_table.specs.declared.claim.Entry.{Entry}

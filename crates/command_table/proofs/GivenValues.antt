@@ -32,4 +32,4 @@ pub value_found : (pairs read : List (OptionKey × Bor Word)) (key : OptionKey) 
     (find (λ (pair : OptionKey × Word). is_key pair.0 key) (map (λ (pair : OptionKey × Bor Word). (pair.0, pair.1.now)) pairs))
 value_found pairs read key o same is =
     ap (option_map (λ (pair : OptionKey × Bor Word). pair.1.now)) (is ∙ ap (find (λ (pair : OptionKey × Bor Word). is_key pair.0 key)) same)
-        ∙ value_read pairs key
+    ∙ value_read pairs key

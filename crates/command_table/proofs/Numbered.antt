@@ -15,7 +15,7 @@ numbered_more : (number : ℕ) (words : List Word) (word : Word)
 numbered_more number [] word = ap (λ n. (word, n) ∷ []) (sym (add-zero number))
 numbered_more number (first ∷ words) word =
     ap (λ more. (first, number) ∷ more) (numbered_more (number + 1) words word
-        ∙ ap (λ n. numbered_from (number + 1) words ++ (word, n) ∷ []) (omega arith))
+    ∙ ap (λ n. numbered_from (number + 1) words ++ (word, n) ∷ []) (omega arith))
 
 words_more : {A : Type 0} (words : List (String A)) (at : ℕ) (word : String A) → at < length words → word ≡ get_or words at word
     → words_of (take (at + 1) words) ≡ words_of (take at words) ++ string_bytes word ∷ []

@@ -1,6 +1,6 @@
 -- The number of a word, as `parse` reads it.
-use Rattle.std.proofs.Common.{◌≡◌, ◌<◌, ◌^◌, ◌==◌, ℕ, not, true, false, nat_lt, nat_le, List, [], ◌∷◌, length, Some, None, Result, Ok, Err,
-    refl, ap, sym, subst, inl, inr, ◌⊎◌, arith, lt-ltb, ltb-true, leb-true}
+use Rattle.std.proofs.Common.{◌≡◌, ◌<◌, ◌^◌, ◌==◌, ℕ, not, true, false, nat_lt, nat_le, List, [], ◌∷◌, length, Some, None, Result, Ok, Err}
+use Rattle.std.proofs.Common.{refl, ap, sym, subst, inl, inr, ◌⊎◌, arith, lt-ltb, ltb-true, leb-true}
 use Rattle.std.proofs.lemmas.Bool.{and_parts, cases_Bool, true≢false, ne_eqb}
 use Rattle.std.proofs.lemmas.Str.{IsUtf8-from_ascii}
 use Rattle.std.proofs.lemmas.Str.Ascii.{IsAscii-cons, IsAscii-nil}

@@ -1,8 +1,8 @@
 -- What a command does, by its kind.
 use Rattle.std.specs.Prelude.{ℕ, ◌/◌, Bool, true, false, length}
 use Rattle.command_table.specs.declared.command.Command.{Command}
-use Rattle.command_table.specs.declared.command.Command.TheVariants.{Pvcreate, Pvmove, Pvck, Pvs, Vgcreate, Vgcfgbackup, Vgck, Vgs,
-    Lvcreate, Lvs, Read, Fill, Write, List as ListVolumes, Wait}
+use Rattle.command_table.specs.declared.command.Command.TheVariants.{Pvcreate, Pvmove, Pvck, Pvs, Vgcreate, Vgcfgbackup, Vgck, Vgs}
+use Rattle.command_table.specs.declared.command.Command.TheVariants.{Lvcreate, Lvs, Read, Fill, Write, List as ListVolumes, Wait}
 use Rattle.command_table.specs.declared.command.Moving.TheVariants.{From}
 
 -- whether a command draws the id of what it creates

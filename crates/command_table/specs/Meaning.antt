@@ -1,6 +1,6 @@
 -- What the words of a command mean.
-use Rattle.std.specs.Prelude.{ℕ, ◌+◌, ◌^◌, length, Bool, true, false, not, ◌&&◌, ◌||◌, nat_lt, if◌then◌else◌, List, [], ◌∷◌, Option, Some,
-    None, Result, Ok, Err, find, is_some, unwrap_or, option_map, option_and_then, map}
+use Rattle.std.specs.Prelude.{ℕ, ◌+◌, ◌^◌, length, Bool, true, false, not, ◌&&◌, ◌||◌, nat_lt, if◌then◌else◌, List, [], ◌∷◌, Option, Some}
+use Rattle.std.specs.Prelude.{None, Result, Ok, Err, find, is_some, unwrap_or, option_map, option_and_then, map}
 use Rattle.std.specs.Option.{option_map_or}
 use Rattle.std.specs.Str.{bytes_eq}
 use Rattle.std.specs.Prelude.{codes}
@@ -9,9 +9,10 @@ use Rattle.command_table.specs.declared.amount.Amount.TheVariants.{Extents, Sect
 use Rattle.command_table.specs.declared.amount.Growth.{Growth}
 use Rattle.command_table.specs.declared.amount.Growth.TheVariants.{To, By}
 use Rattle.command_table.specs.declared.command.Command.{Command}
-use Rattle.command_table.specs.declared.command.Command.TheVariants.{Pvcreate, Pvmove, Pvck, Pvs, Vgcreate, Vgextend, Vgreduce, Vgremove,
-    Vgrename, Vgcfgbackup, Vgcfgrestore, Vgck, Vgs, Lvcreate, Lvextend, Lvreduce, Lvremove, Lvrename, Lvs, Read, Fill, Write,
-    List as ListVolumes, Wait, Resync}
+use Rattle.command_table.specs.declared.command.Command.TheVariants.{Pvcreate, Pvmove, Pvck, Pvs, Vgcreate, Vgextend, Vgreduce, Vgremove}
+use Rattle.command_table.specs.declared.command.Command.TheVariants.{Vgrename, Vgcfgbackup, Vgcfgrestore, Vgck, Vgs, Lvcreate, Lvextend}
+use Rattle.command_table.specs.declared.command.Command.TheVariants.{Lvreduce, Lvremove, Lvrename, Lvs, Read, Fill, Write}
+use Rattle.command_table.specs.declared.command.Command.TheVariants.{List as ListVolumes, Wait, Resync}
 use Rattle.command_table.specs.declared.command.Moving.TheVariants.{From, GoOn, Abort}
 use Rattle.command_table.specs.declared.command.Path.{Path}
 use Rattle.command_table.specs.declared.request.Request.{Request}

@@ -1,14 +1,14 @@
 -- The options and their spellings.
-use Rattle.std.specs.Prelude.{ℕ, ◌+◌, Bool, false, ◌==◌, ◌||◌, if◌then◌else◌, option_map, List, [], ◌∷◌, map, Option, None, Some, codes,
-    slice_index}
+use Rattle.std.specs.Prelude.{ℕ, ◌+◌, Bool, false, ◌==◌, ◌||◌, if◌then◌else◌, option_map, List, [], ◌∷◌, map, Option, None, Some, codes}
+use Rattle.std.specs.Prelude.{slice_index}
 use Rattle.std.specs.Option.{option_map_or}
 use Rattle.std.specs.Borrow.{Bor}
 use Rattle.std.specs.Str.{bytes_eq}
 use Rattle.std.specs.String.{string_bytes}
 use Rattle.std.specs.declared.string.String.{String}
 use Rattle.command_table.specs.declared.option_key.OptionKey.{OptionKey}
-use Rattle.command_table.specs.declared.option_key.OptionKey.TheVariants.{Abort, Alloc, Extents, MetadataCopies, Mirrors, Name,
-    PhysicalExtentSize, Size, Stripes, StripeSize, Workers}
+use Rattle.command_table.specs.declared.option_key.OptionKey.TheVariants.{Abort, Alloc, Extents, MetadataCopies, Mirrors, Name}
+use Rattle.command_table.specs.declared.option_key.OptionKey.TheVariants.{PhysicalExtentSize, Size, Stripes, StripeSize, Workers}
 
 -- a word of a command line, as its bytes
 abbrev pub Word : Type 0

@@ -6,8 +6,8 @@ use Rattle.std.specs.Str.{bytes_eq}
 use Rattle.command_table.specs.declared.command_name.CommandName.{CommandName}
 use Rattle.command_table.specs.declared.command_name.CommandName.TheVariants as name
 use Rattle.command_table.specs.declared.kind.Kind.{Kind}
-use Rattle.command_table.specs.declared.kind.Kind.TheVariants.{Flag, Number, Growth, Size, SizeGrowth, PowerSize, Policy, Disk, Group,
-    Volume, Path, Hex}
+use Rattle.command_table.specs.declared.kind.Kind.TheVariants.{Flag, Number, Growth, Size, SizeGrowth, PowerSize, Policy, Disk, Group}
+use Rattle.command_table.specs.declared.kind.Kind.TheVariants.{Volume, Path, Hex}
 use Rattle.command_table.specs.declared.option_key.OptionKey.{OptionKey}
 use Rattle.command_table.specs.declared.option_key.OptionKey.TheVariants as key
 use Rattle.command_table.specs.declared.table.OptionRow.{OptionRow}
@@ -17,9 +17,9 @@ use Rattle.command_table.specs.Options.{Word}
 abbrev pub commands : List CommandName
 commands =
     name.Pvcreate ∷ name.Pvmove ∷ name.Pvck ∷ name.Pvs ∷ name.Vgcreate ∷ name.Vgextend ∷ name.Vgreduce ∷ name.Vgremove ∷ name.Vgrename
-        ∷ name.Vgcfgbackup ∷ name.Vgcfgrestore ∷ name.Vgck ∷ name.Vgs ∷ name.Lvcreate ∷ name.Lvextend ∷ name.Lvreduce ∷ name.Lvremove
-        ∷ name.Lvrename ∷ name.Lvs ∷ name.Session ∷ name.Demo ∷ name.Read ∷ name.Fill ∷ name.Write ∷ name.List ∷ name.Wait ∷ name.Resync
-        ∷ []
+    ∷ name.Vgcfgbackup ∷ name.Vgcfgrestore ∷ name.Vgck ∷ name.Vgs ∷ name.Lvcreate ∷ name.Lvextend ∷ name.Lvreduce ∷ name.Lvremove
+    ∷ name.Lvrename ∷ name.Lvs ∷ name.Session ∷ name.Demo ∷ name.Read ∷ name.Fill ∷ name.Write ∷ name.List ∷ name.Wait ∷ name.Resync
+    ∷ []
 
 -- the word that names a command
 abbrev pub spelling_of : CommandName → Word

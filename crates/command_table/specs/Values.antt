@@ -1,6 +1,6 @@
 -- What a word in the place of a value or of an argument has to be.
-use Rattle.std.specs.Prelude.{ℕ, ◌-◌, ◌*◌, ◌%◌, ◌^◌, Bool, true, false, not, ◌==◌, ◌&&◌, ◌||◌, if◌then◌else◌, nat_lt, nat_le, [], ◌∷◌,
-    length, take, drop, ◌+◌, slice_index, codes, Option, Some, None, is_none, option_map, min}
+use Rattle.std.specs.Prelude.{ℕ, ◌-◌, ◌*◌, ◌%◌, ◌^◌, Bool, true, false, not, ◌==◌, ◌&&◌, ◌||◌, if◌then◌else◌, nat_lt, nat_le, [], ◌∷◌}
+use Rattle.std.specs.Prelude.{length, take, drop, ◌+◌, slice_index, codes, Option, Some, None, is_none, option_map, min}
 use Rattle.std.specs.Int.{is_power_of_two}
 use Rattle.std.specs.List.{list_all, position}
 use Rattle.std.specs.Option.{option_map_or}
@@ -10,8 +10,8 @@ use Rattle.lvm_name.specs.Names.{group_name_refusal, volume_name_refusal}
 use Rattle.command_table.specs.declared.fault.Fault.{Fault}
 use Rattle.command_table.specs.declared.fault.Fault.TheVariants.{BadOption, BadNumber, BadCount, BadName, BadHex}
 use Rattle.command_table.specs.declared.kind.Kind.{Kind}
-use Rattle.command_table.specs.declared.kind.Kind.TheVariants.{Flag, Number, Growth, Size, SizeGrowth, PowerSize, Policy, Disk, Group,
-    Volume, Path, Hex}
+use Rattle.command_table.specs.declared.kind.Kind.TheVariants.{Flag, Number, Growth, Size, SizeGrowth, PowerSize, Policy, Disk, Group}
+use Rattle.command_table.specs.declared.kind.Kind.TheVariants.{Volume, Path, Hex}
 use Rattle.command_table.specs.Options.{Word}
 
 -- ---- numbers

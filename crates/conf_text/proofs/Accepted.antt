@@ -1,6 +1,6 @@
 -- A text of the grammar is read as its tree.
-use Rattle.std.proofs.Common.{◌≡◌, ℕ, suc, ◌+◌, ◌<◌, Bool, true, false, ltb, List, [], ◌∷◌, ◌++◌, length, Option, Some, None, Ok, refl, sym,
-    ap, subst, ◌∙◌, append_assoc, arith}
+use Rattle.std.proofs.Common.{◌≡◌, ℕ, suc, ◌+◌, ◌<◌, Bool, true, false, ltb, List, [], ◌∷◌, ◌++◌, length, Option, Some, None, Ok, refl, sym}
+use Rattle.std.proofs.Common.{ap, subst, ◌∙◌, append_assoc, arith}
 use Rattle.std.proofs.lemmas.List.{append-nil}
 use Rattle.std.specs.Prelude.{not, IsSome}
 use Rattle.std.specs.List.{list_all}
@@ -8,17 +8,17 @@ use Rattle.std.specs.Option.{option_and_then}
 use Rattle.conf_text.specs.declared.kind.Kind.{Kind}
 use Rattle.conf_text.specs.declared.kind.Kind.TheVariants.{Digit, Letter, OpenBrace, CloseBrace, OpenBracket, CloseBracket, Equals, Comma}
 use Rattle.conf_text.specs.Bytes.{kind}
-use Rattle.conf_text.specs.Entries.{Scalar, Number, Text, Value, One, Many, ConfEntry, Open, Close, Assign, after_entry, after_entries,
-    sections, is_given, fits_scalar, scalars_of, keeps_limits, keep_limits}
-use Rattle.conf_text.specs.Grammar.{is_name, gap_byte, after_gap, IsGap, IsName, EndsWord, IsScalar, IsArray, IsValue, IsKey, IsEntry,
-    EndsEntry, BeginsWith, IsTextOf}
+use Rattle.conf_text.specs.Entries.{Scalar, Number, Text, Value, One, Many, ConfEntry, Open, Close, Assign, after_entry, after_entries}
+use Rattle.conf_text.specs.Entries.{sections, is_given, fits_scalar, scalars_of, keeps_limits, keep_limits}
+use Rattle.conf_text.specs.Grammar.{is_name, gap_byte, after_gap, IsGap, IsName, EndsWord, IsScalar, IsArray, IsValue, IsKey, IsEntry}
+use Rattle.conf_text.specs.Grammar.{EndsEntry, BeginsWith, IsTextOf}
 use Rattle.conf_text.specs.declared.reader.Mode.TheVariants.{Between, Word}
 use Rattle.conf_text.specs.declared.reader.Phase.{Phase}
 use Rattle.conf_text.specs.declared.reader.Phase.TheVariants.{Item, Named, Wanted, First, Next, After}
 use Rattle.conf_text.specs.Reader.{Reader, in_mode, outcome, reading, ended}
 use Rattle.conf_text.proofs.Depth.{sections-append, some_before, after_open, after_assign}
-use Rattle.conf_text.proofs.Steps.{in_state, reaches_then, reaches_itself, reaches_step, gap_mode, step_is, gap_reaches, name_more,
-    name_begins, word_ends, both_true, Arrives, arrives_then, EndsScalar, scalar_arrives}
+use Rattle.conf_text.proofs.Steps.{in_state, reaches_then, reaches_itself, reaches_step, gap_mode, step_is, gap_reaches, name_more}
+use Rattle.conf_text.proofs.Steps.{name_begins, word_ends, both_true, Arrives, arrives_then, EndsScalar, scalar_arrives}
 
 abbrev pub between : Phase → List ℕ → List Scalar → List ConfEntry → List ℕ → Reader
 between p n ss es bs = in_state Between p [] n ss es bs
@@ -84,8 +84,8 @@ name_arrives [] rest at es bs h fresh ends = absurd (h.0 refl)
 name_arrives (b ∷ name) rest at es bs h fresh ends =
     let (first, others) = both_true (is_name (kind b)) (list_all (λ b. is_name (kind b)) name) h.1 in
     let one =
-        reaches_step at b (item es bs) (in_state Word Item (b ∷ []) [] [] es bs) (name ++ rest)
-            (step_is Between (kind b) b at (item es bs) refl refl ∙ name_begins (kind b) b at [] [] es bs first) in
+    reaches_step at b (item es bs) (in_state Word Item (b ∷ []) [] [] es bs) (name ++ rest)
+    (step_is Between (kind b) b at (item es bs) refl refl ∙ name_begins (kind b) b at [] [] es bs first) in
     let more = name_more name rest (at + 1) (b ∷ []) [] [] es bs others in
     let last = word_ends rest (at + 1 + length name) Item Named (b ∷ name) [] (b ∷ name) [] [] es es bs bs ends (rw fresh refl) in
     (at + 1 + length name, reaches_then one (reaches_then more last))
@@ -98,10 +98,10 @@ key_arrives key name rest at es bs (g, h, k, gap, name_is, gap_h, gap_k, parts) 
     rw whole (
     arrives_then (gap_arrives g (name ++ (h ++ 61 ∷ (k ++ rest))) at Item [] [] es bs gap) λ a.
     arrives_then (name_arrives name (h ++ 61 ∷ (k ++ rest)) a es bs name_is fresh
-        (gap_ends h (61 ∷ (k ++ rest)) gap_h (mark_ends 61 Equals (k ++ rest) kind-equals refl))) λ b.
+    (gap_ends h (61 ∷ (k ++ rest)) gap_h (mark_ends 61 Equals (k ++ rest) kind-equals refl))) λ b.
     arrives_then (gap_arrives h (61 ∷ (k ++ rest)) b Named name [] es bs gap_h) λ c.
     arrives_then (byte_arrives 61 Equals (k ++ rest) c (between Named name [] es bs) (between Wanted name [] es bs) refl kind-equals refl)
-        λ d.
+    λ d.
     gap_arrives k rest d Wanted name [] es bs gap_k)
 
 -- ---- arrays
@@ -133,18 +133,18 @@ array_arrives c q [] t inner rest at n ss es bs (g, x, h, gap, scalar, gap_h, pa
     let whole : inner ++ 93 ∷ rest ≡ g ++ (x ++ (h ++ 93 ∷ rest)) = rw parts (simp append_assoc refl) in
     rw whole (
     arrives_then (spaced_arrives c q t g x h (93 ∷ rest) at n ss es bs gap scalar gap_h (both_true (fits_scalar t) true fits).0
-        (mark_ends 93 CloseBracket rest kind-close_bracket refl)) λ a.
+    (mark_ends 93 CloseBracket rest kind-close_bracket refl)) λ a.
     byte_arrives 93 CloseBracket rest a (between (After q) n (ss ++ t ∷ []) es bs) (item (es ++ Assign n (Many (ss ++ t ∷ [])) ∷ []) bs)
-        refl kind-close_bracket refl)
+    refl kind-close_bracket refl)
 array_arrives c q (u ∷ ts) t inner rest at n ss es bs (g, x, h, more, gap, scalar, gap_h, others, parts) fits =
     let (first, fit) = both_true (fits_scalar t) (list_all fits_scalar (u ∷ ts)) fits in
     let whole : inner ++ 93 ∷ rest ≡ g ++ (x ++ (h ++ 44 ∷ (more ++ 93 ∷ rest))) = rw parts (simp append_assoc refl) in
     let all : ss ++ t ∷ u ∷ ts ≡ (ss ++ t ∷ []) ++ u ∷ ts = simp append_assoc refl in
     rw (whole, all) (
     arrives_then (spaced_arrives c q t g x h (44 ∷ (more ++ 93 ∷ rest)) at n ss es bs gap scalar gap_h first
-        (mark_ends 44 Comma (more ++ 93 ∷ rest) kind-comma refl)) λ a.
+    (mark_ends 44 Comma (more ++ 93 ∷ rest) kind-comma refl)) λ a.
     arrives_then (byte_arrives 44 Comma (more ++ 93 ∷ rest) a (between (After q) n (ss ++ t ∷ []) es bs)
-        (between (Next q) n (ss ++ t ∷ []) es bs) refl kind-comma refl) λ b.
+    (between (Next q) n (ss ++ t ∷ []) es bs) refl kind-comma refl) λ b.
     array_arrives false q ts u more rest b n (ss ++ t ∷ []) es bs others fit)
 
 -- ---- values and entries
@@ -159,15 +159,15 @@ value_arrives (Many []) x name rest at es bs (inner, gap, parts) fits ends =
     let whole : x ++ rest ≡ 91 ∷ (inner ++ 93 ∷ rest) = rw parts (simp append_assoc refl) in
     rw whole (
     arrives_then (byte_arrives 91 OpenBracket (inner ++ 93 ∷ rest) at (between Wanted name [] es bs) (between (First at) name [] es bs) refl
-        kind-open_bracket refl) λ a.
+    kind-open_bracket refl) λ a.
     arrives_then (gap_arrives inner (93 ∷ rest) a (First at) name [] es bs gap) λ b.
     byte_arrives 93 CloseBracket rest b (between (First at) name [] es bs) (item (es ++ Assign name (Many []) ∷ []) bs) refl
-        kind-close_bracket refl)
+    kind-close_bracket refl)
 value_arrives (Many (t ∷ ts)) x name rest at es bs (inner, array, parts) fits ends =
     let whole : x ++ rest ≡ 91 ∷ (inner ++ 93 ∷ rest) = rw parts (simp append_assoc refl) in
     rw whole (
     arrives_then (byte_arrives 91 OpenBracket (inner ++ 93 ∷ rest) at (between Wanted name [] es bs) (between (First at) name [] es bs) refl
-        kind-open_bracket refl) λ a.
+    kind-open_bracket refl) λ a.
     array_arrives true at ts t inner rest a name [] es bs array fits)
 
 not_true : (b : Bool) → not b ≡ true → b ≡ false
@@ -202,19 +202,24 @@ entry_arrives (Open name) x rest at es bs open_ (front, (g, h, gap, name_is, gap
     let whole : x ++ rest ≡ g ++ (name ++ (h ++ 123 ∷ rest)) = rw (parts, front_is) (simp append_assoc refl) in
     let a = gap_arrives g (name ++ (h ++ 123 ∷ rest)) at Item [] [] es bs gap in
     let b =
-        name_arrives name (h ++ 123 ∷ rest) a.0 es bs name_is (not_true (is_given (sections es) name) fresh)
-            (gap_ends h (123 ∷ rest) gap_h (mark_ends 123 OpenBrace rest kind-open_brace refl)) in
+    name_arrives name (h ++ 123 ∷ rest) a.0 es bs name_is (not_true (is_given (sections es) name) fresh)
+    (gap_ends h (123 ∷ rest) gap_h (mark_ends 123 OpenBrace rest kind-open_brace refl)) in
     let c = gap_arrives h (123 ∷ rest) b.0 Named name [] es bs gap_h in
     let d =
-        byte_arrives 123 OpenBrace rest c.0 (between Named name [] es bs) (item (es ++ Open name ∷ []) (c.0 ∷ bs)) refl kind-open_brace
-            (open_step c.0 name es bs deep) in
-    (c.0 ∷ bs, after_open (sections es) name (length bs) open_,
-        (d.0, rw whole (reaches_then a.1 (reaches_then b.1 (reaches_then c.1 d.1)))))
+    byte_arrives 123 OpenBrace rest c.0 (between Named name [] es bs) (item (es ++ Open name ∷ []) (c.0 ∷ bs)) refl kind-open_brace
+    (open_step c.0 name es bs deep) in (
+      c.0 ∷ bs,
+      after_open (sections es) name (length bs) open_,
+      (d.0, rw whole (reaches_then a.1 (reaches_then b.1 (reaches_then c.1 d.1)))),
+    )
 entry_arrives Close x rest at es bs open_ (g, gap, parts) limits some ends =
     let (b, more, bs_is, fewer) = closing (sections es) bs open_ some in
-    let whole : x ++ rest ≡ g ++ 125 ∷ rest = rw parts (simp append_assoc refl) in
-    (more, fewer, rw whole (subst (λ z. Arrives at (item es z) (g ++ 125 ∷ rest) (item (es ++ Close ∷ []) more) rest) (sym bs_is)
-        (close_arrives g rest at es b more gap)))
+    let whole : x ++ rest ≡ g ++ 125 ∷ rest = rw parts (simp append_assoc refl) in (
+      more,
+      fewer,
+      rw whole (subst (λ z. Arrives at (item es z) (g ++ 125 ∷ rest) (item (es ++ Close ∷ []) more) rest) (sym bs_is)
+          (close_arrives g rest at es b more gap)),
+    )
 entry_arrives (Assign name v) x rest at es bs open_ (key, y, key_is, value, parts) limits some ends =
     let (fresh, fits) = both_true (not (is_given (sections es) name)) (list_all fits_scalar (scalars_of v)) limits in
     let whole : x ++ rest ≡ key ++ (y ++ rest) = rw parts (simp append_assoc refl) in (
@@ -236,10 +241,10 @@ entries_arrive [] text rest at es bs open_ same limits some =
 entries_arrive (e ∷ fs) text rest at es bs open_ (x, more, parts, entry, ends, others) limits some =
     let (first, limits_on) = both_true (keeps_limits (sections es) e) (keep_limits (after_entry (sections es) e) fs) limits in
     let (bs', open_on, (a, one)) =
-        entry_arrives e x more at es bs open_ entry first (some_before (after_entry (sections es) e) fs some) ends in
+    entry_arrives e x more at es bs open_ entry first (some_before (after_entry (sections es) e) fs some) ends in
     let now : after_entry (sections es) e ≡ sections (es ++ e ∷ []) = sym (sections-append ([] ∷ []) es e) in
     let (bs'', open_end, (b, two)) =
-        entries_arrive fs more rest a (es ++ e ∷ []) bs' (rw (← now) open_on) others (rw (← now) limits_on) (rw (← now) some) in
+    entries_arrive fs more rest a (es ++ e ∷ []) bs' (rw (← now) open_on) others (rw (← now) limits_on) (rw (← now) some) in
     let all : es ++ e ∷ fs ≡ (es ++ e ∷ []) ++ fs = simp append_assoc refl in
     (bs'', ap (λ z. length (after_entries z fs)) now ∙ open_end, (b, rw (parts, all) (reaches_then one two)))
 
@@ -275,7 +280,7 @@ array_to_comma c q [] t inner rest at n ss es bs (g, x, h, gap, scalar, gap_h, p
     let whole : inner ++ 44 ∷ rest ≡ g ++ (x ++ (h ++ 44 ∷ rest)) = rw parts (simp append_assoc refl) in
     rw whole (
     arrives_then (spaced_arrives c q t g x h (44 ∷ rest) at n ss es bs gap scalar gap_h (both_true (fits_scalar t) true fits).0
-        (mark_ends 44 Comma rest kind-comma refl)) λ a.
+    (mark_ends 44 Comma rest kind-comma refl)) λ a.
     byte_arrives 44 Comma rest a (between (After q) n (ss ++ t ∷ []) es bs) (between (Next q) n (ss ++ t ∷ []) es bs) refl kind-comma refl)
 array_to_comma c q (u ∷ ts) t inner rest at n ss es bs (g, x, h, more, gap, scalar, gap_h, others, parts) fits =
     let (first, fit) = both_true (fits_scalar t) (list_all fits_scalar (u ∷ ts)) fits in
@@ -283,7 +288,7 @@ array_to_comma c q (u ∷ ts) t inner rest at n ss es bs (g, x, h, more, gap, sc
     let all : ss ++ t ∷ u ∷ ts ≡ (ss ++ t ∷ []) ++ u ∷ ts = simp append_assoc refl in
     rw (whole, all) (
     arrives_then (spaced_arrives c q t g x h (44 ∷ (more ++ 44 ∷ rest)) at n ss es bs gap scalar gap_h first
-        (mark_ends 44 Comma (more ++ 44 ∷ rest) kind-comma refl)) λ a.
+    (mark_ends 44 Comma (more ++ 44 ∷ rest) kind-comma refl)) λ a.
     arrives_then (byte_arrives 44 Comma (more ++ 44 ∷ rest) a (between (After q) n (ss ++ t ∷ []) es bs)
-        (between (Next q) n (ss ++ t ∷ []) es bs) refl kind-comma refl) λ b.
+    (between (Next q) n (ss ++ t ∷ []) es bs) refl kind-comma refl) λ b.
     array_to_comma false q ts u more rest b n (ss ++ t ∷ []) es bs others fit)

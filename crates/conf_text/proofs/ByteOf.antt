@@ -4,8 +4,8 @@ use Rattle.std.specs.Prelude.{◌||◌, ◌==◌}
 use Rattle.std.specs.Char.{is_ascii_digit}
 use Rattle.std.proofs.lemmas.Bool.{eqb-true}
 use Rattle.conf_text.specs.declared.kind.Kind.{Kind}
-use Rattle.conf_text.specs.declared.kind.Kind.TheVariants.{Digit, Letter, Blank, LineFeed, Hash, Quote, Backslash, OpenBrace, CloseBrace,
-    OpenBracket, CloseBracket, Equals, Comma, Zero, Other}
+use Rattle.conf_text.specs.declared.kind.Kind.TheVariants.{Digit, Letter, Blank, LineFeed, Hash, Quote, Backslash, OpenBrace, CloseBrace}
+use Rattle.conf_text.specs.declared.kind.Kind.TheVariants.{OpenBracket, CloseBracket, Equals, Comma, Zero, Other}
 use Rattle.conf_text.specs.Bytes.{kind, mark, is_letter}
 
 abbrev pub IsByteOf : Kind → ℕ → Type 0

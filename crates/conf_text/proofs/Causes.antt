@@ -1,6 +1,6 @@
 -- The answer is the tree that the text stands for, or the cause why it has none, and nothing else.
-use Rattle.std.proofs.Common.{◌≡◌, ◌≢◌, ℕ, suc, ◌+◌, ◌<◌, ◌≤◌, Bool, true, false, ltb, List, [], ◌∷◌, ◌++◌, length, take, drop, Result, Ok,
-    Err, refl, sym, ap, subst, ◌∙◌, append_assoc, length-append, arith, inl, inr}
+use Rattle.std.proofs.Common.{◌≡◌, ◌≢◌, ℕ, suc, ◌+◌, ◌<◌, ◌≤◌, Bool, true, false, ltb, List, [], ◌∷◌, ◌++◌, length, take, drop, Result, Ok}
+use Rattle.std.proofs.Common.{Err, refl, sym, ap, subst, ◌∙◌, append_assoc, length-append, arith, inl, inr}
 use Rattle.std.proofs.Math.Seq.{take-length}
 use Rattle.std.proofs.lemmas.List.{append-nil, take-append-drop, length-take}
 use Rattle.std.proofs.lemmas.Bool.{ltb-true, ltb-false, cases_order, cases_lt}
@@ -11,8 +11,8 @@ use Rattle.conf_text.specs.Entries.{ConfEntry, Open}
 use Rattle.conf_text.specs.Grammar.{Spells, IsTextOf}
 use Rattle.conf_text.specs.Reader.{start, reading}
 use Rattle.conf_text.specs.ReaderViews.{Fails}
-use Rattle.conf_text.specs.Refusals.{IsDuplicate, IsTooWide, IsTooDeep, KeepsTo, IsOpenString, IsOpenArray, IsOpenBrace, IsInnermost,
-    Begins, IsFirstBad, IsCut, IsBadToken, IsUnclosed, IsCause}
+use Rattle.conf_text.specs.Refusals.{IsDuplicate, IsTooWide, IsTooDeep, KeepsTo, IsOpenString, IsOpenArray, IsOpenBrace, IsInnermost}
+use Rattle.conf_text.specs.Refusals.{Begins, IsFirstBad, IsCut, IsBadToken, IsUnclosed, IsCause}
 use Rattle.conf_text.proofs.Accepted.{accepted}
 use Rattle.conf_text.proofs.OpenEnds.{string_read, array_read, brace_read, begins_last}
 use Rattle.conf_text.proofs.Parts.{Halts}
@@ -51,17 +51,35 @@ one_byte text p b c (z, x, first, at) (w, y, second, place) = same_byte z w x y 
 
 string_byte : (text : List ℕ) (p : ℕ) → IsOpenString text p → HasByte text p 34
 string_byte text p h =
-    let (u, whole) = begins_suffix h.before text (h.front ++ 34 ∷ h.inside) h.entries in
-    (u ++ h.front, h.inside, whole ∙ sym (append_assoc u h.front (34 ∷ h.inside)),
-        omega (arith, h.place_is, ap length whole, length-append u (h.front ++ 34 ∷ h.inside), length-append h.front (34 ∷ h.inside),
-        length-append u h.front))
+    let (u, whole) = begins_suffix h.before text (h.front ++ 34 ∷ h.inside) h.entries in (
+      u ++ h.front,
+      h.inside,
+      whole ∙ sym (append_assoc u h.front (34 ∷ h.inside)),
+      omega (
+        arith,
+        h.place_is,
+        ap length whole,
+        length-append u (h.front ++ 34 ∷ h.inside),
+        length-append h.front (34 ∷ h.inside),
+        length-append u h.front,
+      ),
+    )
 
 array_byte : (text : List ℕ) (p : ℕ) → IsOpenArray text p → HasByte text p 91
 array_byte text p h =
-    let (u, whole) = begins_suffix h.before text (h.key ++ 91 ∷ h.inside) h.entries in
-    (u ++ h.key, h.inside, whole ∙ sym (append_assoc u h.key (91 ∷ h.inside)),
-        omega (arith, h.place_is, ap length whole, length-append u (h.key ++ 91 ∷ h.inside), length-append h.key (91 ∷ h.inside),
-        length-append u h.key))
+    let (u, whole) = begins_suffix h.before text (h.key ++ 91 ∷ h.inside) h.entries in (
+      u ++ h.key,
+      h.inside,
+      whole ∙ sym (append_assoc u h.key (91 ∷ h.inside)),
+      omega (
+        arith,
+        h.place_is,
+        ap length whole,
+        length-append u (h.key ++ 91 ∷ h.inside),
+        length-append h.key (91 ∷ h.inside),
+        length-append u h.key,
+      ),
+    )
 
 brace_byte : (text : List ℕ) (p : ℕ) → IsOpenBrace text p → HasByte text p 123
 brace_byte text p h =
@@ -94,7 +112,7 @@ halts_open : (c : Bool) (p : ℕ) (text : List ℕ) → Halts c p 0 start text �
 halts_open c p text (inl e) = unclosed_open (length text) p (reading text) e
 halts_open c p text (inr (inl stops)) =
     let n : 0 + length text ≡ length text = omega arith in stopped_open (length text) (reading text)
-        (subst (λ n. IsStopped true n (reading text)) n stops)
+    (subst (λ n. IsStopped true n (reading text)) n stops)
 halts_open c p text (inr (inr (z, b, y, byte, parts, e))) = unclosed_open (length text) (0 + length z) (reading text) e
 
 string_open : (p : ℕ) (text : List ℕ) → (reading text ≡ refused (Unclosed p)) ⊎ IsStopped true (length text) (reading text)
@@ -163,8 +181,13 @@ open_innermost text q e (inl h) = inl h
 open_innermost text q e (inr (inl h)) =
     inr (inl (h, λ p s. no_string text p q 91 e (array_byte text q h) (λ k. absurd (omega (arith, k))) s))
 open_innermost text q e (inr (inr h)) =
-    inr (inr (h, λ p. (λ s. no_string text p q 123 e (brace_byte text q h) (λ k. absurd (omega (arith, k))) s,
-        λ a. no_array text p q e (brace_byte text q h) a)))
+    inr (inr (
+      h,
+      λ p. (
+        λ s. no_string text p q 123 e (brace_byte text q h) (λ k. absurd (omega (arith, k))) s,
+        λ a. no_array text p q e (brace_byte text q h) a,
+      ),
+    ))
 
 array_only : (text : List ℕ) (p q : ℕ) → ((k : ℕ) → ¬ IsOpenString text k) → IsOpen text q → (p ≡ q) ⊎ HasByte text q 34 → p ≡ q
 array_only text p q none is (inl place) = place
@@ -216,7 +239,7 @@ not_begins text p e less (more, es, spells) =
     let whole : reading (front ++ drop (suc p) text) ≡ refused (BadToken p) = ap reading (take-append-drop (suc p) text) ∙ e in
     let within : p < length front = omega (arith, length-take (suc p) text, less) in
     not_bad (length (front ++ more)) p (reading (front ++ more)) es (bad_after front (drop (suc p) text) more p whole within)
-        (spelled_read (front ++ more) es spells)
+    (spelled_read (front ++ more) es spells)
 
 bad_kind : (c : Bool) (text : List ℕ) (p : ℕ) → ltb p (length text) ≡ c → reading text ≡ refused (BadToken p) → p ≤ length text
     → Begins (take p text) → IsFirstBad text p ⊎ ((p ≡ length text) × IsCut text)
@@ -255,7 +278,7 @@ read_text text es same = subst (Tells 0 text) same (reading_told text)
 shorter : (text : List ℕ) (n m : ℕ) → n ≤ m → m ≤ length text → Begins (take m text) → Begins (take n text)
 shorter text n m less inside h =
     subst (λ z. Begins (take n z)) (take-append-drop m text)
-        (begins_front (take m text) (drop m text) n (omega (arith, length-take m text, less, inside)) h)
+    (begins_front (take m text) (drop m text) n (omega (arith, length-take m text, less, inside)) h)
 
 spelled_begins : (text : List ℕ) (es : List ConfEntry) → Spells text es → Begins text
 spelled_begins text es h = ([], es, subst (λ z. Spells z es) (sym (append-nil text)) h)

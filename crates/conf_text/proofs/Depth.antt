@@ -4,8 +4,8 @@ use Rattle.std.proofs.lemmas.List.{map_push}
 use Rattle.std.proofs.lemmas.Bool.{ltb-true}
 use Rattle.std.specs.Prelude.{not}
 use Rattle.conf_text.proofs.Steps.{both_true}
-use Rattle.conf_text.specs.Entries.{Value, ConfEntry, Open, Close, Assign, after_entry, after_entries, sections, is_given, keeps_limits,
-    keep_limits, IsBalanced}
+use Rattle.conf_text.specs.Entries.{Value, ConfEntry, Open, Close, Assign, after_entry, after_entries, sections, is_given, keeps_limits}
+use Rattle.conf_text.specs.Entries.{keep_limits, IsBalanced}
 
 pub sections-append : (given : List (List (List ℕ))) (es : List ConfEntry) (e : ConfEntry)
     → after_entries given (es ++ e ∷ []) ≡ after_entry (after_entries given es) e
@@ -85,8 +85,11 @@ entry_limited : (given : List (List (List ℕ))) (e : ConfEntry) → keeps_limit
     → length (after_entry given e) ≤ 17
 entry_limited [] e h k = omega arith
 entry_limited (names ∷ outer) (Open name) h k =
-    omega (arith, ltb-true (length (names ∷ outer)) 17
-        (both_true (not (is_given (names ∷ outer) name)) (ltb (length (names ∷ outer)) 17) h).1)
+    omega (
+      arith,
+      ltb-true (length (names ∷ outer)) 17
+          (both_true (not (is_given (names ∷ outer) name)) (ltb (length (names ∷ outer)) 17) h).1,
+    )
 entry_limited (names ∷ outer) Close h k = omega (arith, k)
 entry_limited (names ∷ outer) (Assign name v) h k = omega (arith, k)
 

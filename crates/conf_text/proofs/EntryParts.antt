@@ -1,6 +1,6 @@
 -- What the reader says of a text that ends within an entry of a section.
-use Rattle.std.proofs.Common.{◌≡◌, ℕ, ◌+◌, ◌<◌, true, false, List, [], ◌∷◌, ◌++◌, length, refl, sym, ap, subst, ◌∙◌, append_assoc, arith,
-    inl, inr}
+use Rattle.std.proofs.Common.{◌≡◌, ℕ, ◌+◌, ◌<◌, true, false, List, [], ◌∷◌, ◌++◌, length, refl, sym, ap, subst, ◌∙◌, append_assoc, arith}
+use Rattle.std.proofs.Common.{inl, inr}
 use Rattle.std.proofs.lemmas.List.{append-nil}
 use Rattle.conf_text.specs.declared.kind.Kind.TheVariants.{Equals}
 use Rattle.conf_text.specs.Bytes.{kind}
@@ -8,8 +8,8 @@ use Rattle.conf_text.specs.declared.reader.Phase.TheVariants.{Item, Named, Wante
 use Rattle.conf_text.specs.Entries.{Scalar, Value, One, Many, ConfEntry, Open, Close, Assign}
 use Rattle.conf_text.specs.Grammar.{is_name, IsGap, IsName, EndsWord, IsArray, IsValue, IsHeader, IsKey, IsEntry}
 use Rattle.conf_text.proofs.Accepted.{between, item, gap_arrives, byte_arrives, gap_ends, mark_ends, kind-equals}
-use Rattle.conf_text.proofs.Parts.{unclosed, Cut, cut, before_mark, ends_front, all_front, Halts, halts_then, nothing_halts, gap_halts,
-    scalar_halts, array_halts}
+use Rattle.conf_text.proofs.Parts.{unclosed, Cut, cut, before_mark, ends_front, all_front, Halts, halts_then, nothing_halts, gap_halts}
+use Rattle.conf_text.proofs.Parts.{scalar_halts, array_halts}
 use Rattle.conf_text.proofs.Runs.{stops_before, name_goes, header_goes, key_goes, bracket_arrives}
 use Rattle.conf_text.proofs.Steps.{Reaches}
 
@@ -20,7 +20,7 @@ name_halts q at name (b ∷ k) l es bs name_is same =
     let part : IsName (b ∷ k) = (λ e. absurd cc, all_front (λ b. is_name (kind b)) (b ∷ k) l (subst IsName same name_is).1) in
     subst (Halts true q at (item es (q ∷ bs))) (append-nil (b ∷ k))
     (halts_then true q at (item es (q ∷ bs)) (between Named (b ∷ k) [] es (q ∷ bs)) (b ∷ k) []
-        (name_goes true (b ∷ k) [] at es (q ∷ bs) part tt)
+    (name_goes true (b ∷ k) [] at es (q ∷ bs) part tt)
     (λ m. nothing_halts true Named q m (b ∷ k) [] es (q ∷ bs) refl))
 
 gap_word : (h : List ℕ) → IsGap h → EndsWord h
@@ -32,7 +32,7 @@ named_halts q at name h k c es bs name_is gap (inl (l, one, two)) = name_halts q
 named_halts q at name h k c es bs name_is gap (inr (l, one, two)) =
     subst (Halts true q at (item es (q ∷ bs))) (sym one)
     (halts_then true q at (item es (q ∷ bs)) (between Named name [] es (q ∷ bs)) name l
-        (name_goes true name l at es (q ∷ bs) name_is (ends_front l c (subst EndsWord two (gap_word h gap))))
+    (name_goes true name l at es (q ∷ bs) name_is (ends_front l c (subst EndsWord two (gap_word h gap))))
     (λ m. gap_halts true Named q m name [] es (q ∷ bs) l c refl (subst IsGap two gap)))
 
 front_halts : (q at : ℕ) (g name h a c : List ℕ) (es : List ConfEntry) (bs : List ℕ) → IsGap g → IsName name → IsGap h
@@ -62,9 +62,9 @@ equals_halts q at header name k a c es bs is gap (inr (y ∷ d, one, two)) =
     let whole : header ++ (61 ∷ d) ≡ a = ap (λ z. header ++ (z ∷ d)) first ∙ sym one in
     subst (Halts true q at (item es (q ∷ bs))) whole
     (halts_then true q at (item es (q ∷ bs)) (between Named name [] es (q ∷ bs)) header (61 ∷ d)
-        (header_goes true header name (61 ∷ d) at es (q ∷ bs) is (mark_ends 61 Equals d kind-equals refl))
+    (header_goes true header name (61 ∷ d) at es (q ∷ bs) is (mark_ends 61 Equals d kind-equals refl))
     (λ m. halts_then true q m (between Named name [] es (q ∷ bs)) (between Wanted name [] es (q ∷ bs)) (61 ∷ []) d
-        (inl (byte_arrives 61 Equals d m (between Named name [] es (q ∷ bs)) (between Wanted name [] es (q ∷ bs)) refl kind-equals refl))
+    (inl (byte_arrives 61 Equals d m (between Named name [] es (q ∷ bs)) (between Wanted name [] es (q ∷ bs)) refl kind-equals refl))
     (λ o. gap_halts true Wanted q o name [] es (q ∷ bs) d c refl (subst IsGap others gap))))
 
 -- a part of what stands before a value
@@ -72,7 +72,7 @@ key_halts : (q at : ℕ) (key name a c : List ℕ) (es : List ConfEntry) (bs : L
     → Halts true q at (item es (q ∷ bs)) a
 key_halts q at key name a c es bs (g, h, k, gap, name_is, gap_h, gap_k, parts) same =
     equals_halts q at (g ++ name ++ h) name k a c es bs (g, h, gap, name_is, gap_h, refl) gap_k
-        (cut a c (g ++ name ++ h) (61 ∷ k) (sym same ∙ parts))
+    (cut a c (g ++ name ++ h) (61 ∷ k) (sym same ∙ parts))
 
 -- what is open in an array is inside of the section too
 array_inside : (q at m : ℕ) (y n : List ℕ) (es : List ConfEntry) (bs : List ℕ)

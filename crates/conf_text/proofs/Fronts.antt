@@ -80,9 +80,14 @@ list_more (s ∷ ss) t list k y h gap last = array_more ss s t list k y h gap la
 -- a scalar of an array
 pub front_first : (base q : ℕ) (n : List ℕ) (ss : List Scalar) (s : Scalar) (f x : List ℕ) → IsEarly (First q) ss
     → IsFront base (First q) n ss f → IsScalar x s → IsFront base (After q) n (ss ++ s ∷ []) (f ++ x)
-front_first base q n ss s f x none (key, g, key_is, gap, parts, place) scalar =
-    (key, g ++ x, key_is, subst (λ z. IsList (g ++ x) (z ++ s ∷ [])) (sym none) (g, x, [], gap, scalar, refl, simp append-nil refl),
-        rw parts (simp append_assoc refl), place)
+front_first base q n ss s f x none (key, g, key_is, gap, parts, place) scalar = (
+  key,
+  g ++ x,
+  key_is,
+  subst (λ z. IsList (g ++ x) (z ++ s ∷ [])) (sym none) (g, x, [], gap, scalar, refl, simp append-nil refl),
+  rw parts (simp append_assoc refl),
+  place,
+)
 
 pub front_next : (base q : ℕ) (n : List ℕ) (ss : List Scalar) (s : Scalar) (f x : List ℕ) → IsFront base (Next q) n ss f → IsScalar x s
     → IsFront base (After q) n (ss ++ s ∷ []) (f ++ x)
@@ -188,7 +193,7 @@ wanted_completes : (base : ℕ) (n : List ℕ) (ss : List Scalar) (f : List ℕ)
     → IsEntry (f ++ (91 ∷ 93 ∷ [])) (Assign n (Many []))
 wanted_completes base n ss f h =
     regrouped f (91 ∷ []) (93 ∷ []) (Assign n (Many []))
-        (entry_empty base (base + length f) n ss (f ++ 91 ∷ []) (front_bracket base n ss f h))
+    (entry_empty base (base + length f) n ss (f ++ 91 ∷ []) (front_bracket base n ss f h))
 
 named_completes : (base : ℕ) (n : List ℕ) (ss : List Scalar) (f : List ℕ) → IsFront base Named n ss f
     → IsEntry (f ++ (61 ∷ 91 ∷ 93 ∷ [])) (Assign n (Many []))
@@ -207,7 +212,12 @@ front_completes Wanted base n ss f h = (91, 93 ∷ [], Assign n (Many []), brack
 front_completes (First q) base n ss f h = (93, [], Assign n (Many []), bracket_close_ends, entry_empty base q n ss f h, tt)
 front_completes (Next q) base n ss f h =
     let after = front_next base q n ss (Text []) f (34 ∷ 34 ∷ []) h nothing in
-    let entry = entry_list base q n (ss ++ Text [] ∷ []) (f ++ (34 ∷ 34 ∷ [])) after in
-    (34, 34 ∷ 93 ∷ [], Assign n (Many (ss ++ Text [] ∷ [])), quote_ends,
-        regrouped f (34 ∷ 34 ∷ []) (93 ∷ []) (Assign n (Many (ss ++ Text [] ∷ []))) entry, tt)
+    let entry = entry_list base q n (ss ++ Text [] ∷ []) (f ++ (34 ∷ 34 ∷ [])) after in (
+      34,
+      34 ∷ 93 ∷ [],
+      Assign n (Many (ss ++ Text [] ∷ [])),
+      quote_ends,
+      regrouped f (34 ∷ 34 ∷ []) (93 ∷ []) (Assign n (Many (ss ++ Text [] ∷ []))) entry,
+      tt,
+    )
 front_completes (After q) base n ss f h = (93, [], Assign n (Many ss), bracket_close_ends, entry_list base q n ss f h, tt)

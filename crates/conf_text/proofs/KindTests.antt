@@ -2,8 +2,8 @@
 use Rattle.std.proofs.Common.{◌≡◌, ℕ, Bool, true, false, Some, None, refl, arith}
 use Rattle.std.proofs.lemmas.Bool.Decides.{nat_tests}
 use Rattle.conf_text.specs.declared.kind.Kind.{Kind}
-use Rattle.conf_text.specs.declared.kind.Kind.TheVariants.{Digit, Letter, LineFeed, Quote, Backslash, OpenBrace, CloseBrace, OpenBracket,
-    CloseBracket, Equals, Comma, Zero, Other}
+use Rattle.conf_text.specs.declared.kind.Kind.TheVariants.{Digit, Letter, LineFeed, Quote, Backslash, OpenBrace, CloseBrace, OpenBracket}
+use Rattle.conf_text.specs.declared.kind.Kind.TheVariants.{CloseBracket, Equals, Comma, Zero, Other}
 use Rattle.conf_text.specs.Bytes.{kind}
 use Rattle.conf_text.specs.Grammar.{is_name, gap_byte, is_escaped, is_allowed}
 use Rattle.conf_text.specs.Scan.{is_quote, string_byte}

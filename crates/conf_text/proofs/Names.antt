@@ -26,7 +26,7 @@ sections-length name keys outer (names ∷ given) h = ap suc (outer-length (reve
 abbrev pub IsPut : {K : Type 0} → (K → List ℕ) → List K → List K → List ℕ → Type 0
 IsPut name old new k =
     (q : List ℕ) → list_any (λ x. pointwise nat_eq q (name x)) new
-        ≡ cond (pointwise nat_eq k q) true (list_any (λ x. pointwise nat_eq q (name x)) old)
+    ≡ cond (pointwise nat_eq k q) true (list_any (λ x. pointwise nat_eq q (name x)) old)
 
 either : (a b : Bool) → cond a true b ≡ (a || b)
 either true b = refl
@@ -68,16 +68,17 @@ pub section_entered : {K : Type 0} (name : K → List ℕ) (inner : List K) (k :
     → HasSections (λ x. x.now) o.names.keys (reverse before) (after_entry given (Assign k (Many []))) → after ≡ before ++ o ∷ []
     → inner ≡ [] → HasSections name inner (reverse after) (after_entry given (Open k))
 section_entered name inner k before after o [] has e none = absurd has
-section_entered name inner k before after o (names ∷ given) has e none =
-    (subst (λ x. HasNames name x []) (sym none) (λ q. refl),
-        subst (λ x. HasOuter x ((k ∷ names) ∷ given)) (sym (ap reverse e ∙ reverse-append before (o ∷ []))) has)
+section_entered name inner k before after o (names ∷ given) has e none = (
+  subst (λ x. HasNames name x []) (sym none) (λ q. refl),
+  subst (λ x. HasOuter x ((k ∷ names) ∷ given)) (sym (ap reverse e ∙ reverse-append before (o ∷ []))) has,
+)
 
 -- the places of the braces, with one more
 pub braces_pushed : (before after : List Outer) (o : Outer) → after ≡ before ++ o ∷ []
     → reverse (map (λ o. o.brace) after) ≡ o.brace ∷ reverse (map (λ o. o.brace) before)
 braces_pushed before after o e =
     ap (λ x. reverse (map (λ o. o.brace) x)) e ∙ ap reverse (map_push (λ o. o.brace) before o)
-        ∙ reverse-append (map (λ o. o.brace) before) (o.brace ∷ [])
+    ∙ reverse-append (map (λ o. o.brace) before) (o.brace ∷ [])
 
 pub entries_pushed : (old new : List code.ConfEntry) (e : code.ConfEntry) → new ≡ old ++ e ∷ []
     → map entry_view new ≡ map entry_view old ++ entry_view e ∷ []

@@ -29,12 +29,12 @@ same_tokens text a b h k =
 pub not_both : (text : List ℕ) (tokens : List Token) (e : ConfRefusal) → e ≢ NoMemory → IsTokensOf text tokens → ¬ IsTokenCause text e
 not_both text tokens e other h =
     λ cause. ok_not_err (scan (Between false) 0 text) tokens e (are_taken 0 text tokens h)
-        (stops_taken 0 text e (cause_stops text e other cause))
+    (stops_taken 0 text e (cause_stops text e other cause))
 
 pub same_cause : (text : List ℕ) (a b : ConfRefusal) → a ≢ NoMemory → b ≢ NoMemory → IsTokenCause text a → IsTokenCause text b → a ≡ b
 same_cause text a b m n h k =
     same_err (scan (Between false) 0 text) a b (stops_taken 0 text a (cause_stops text a m h))
-        (stops_taken 0 text b (cause_stops text b n k))
+    (stops_taken 0 text b (cause_stops text b n k))
 
 -- what taking gives
 pub taken_tokens : (text : List ℕ) (tokens : List Token) → scan (Between false) 0 text ≡ Ok tokens → IsTokensOf text tokens

@@ -1,6 +1,6 @@
 -- What the reader says of a text in which a string, an array or a section is open at the end.
-use Rattle.std.proofs.Common.{◌≡◌, ℕ, suc, ◌+◌, ◌<◌, Bool, true, false, List, [], ◌∷◌, ◌++◌, length, Result, Ok, Err, refl, sym, ap, subst,
-    ◌∙◌, append_assoc, arith, inl, inr}
+use Rattle.std.proofs.Common.{◌≡◌, ℕ, suc, ◌+◌, ◌<◌, Bool, true, false, List, [], ◌∷◌, ◌++◌, length, Result, Ok, Err, refl, sym, ap, subst}
+use Rattle.std.proofs.Common.{◌∙◌, append_assoc, arith, inl, inr}
 use Rattle.std.proofs.lemmas.List.{append-nil}
 use Rattle.std.specs.Prelude.{◌⊎◌}
 use Rattle.conf_text.specs.declared.refusal.ConfRefusal.{ConfRefusal}
@@ -15,8 +15,8 @@ use Rattle.conf_text.proofs.Accepted.{between, item, gap_arrives}
 use Rattle.conf_text.proofs.EntryParts.{entry_halts}
 use Rattle.conf_text.proofs.Parts.{unclosed, Halts, halts_joined, array_halts, string_part, quote_reaches, StringOpen}
 use Rattle.conf_text.proofs.Pieces.{begins_suffix}
-use Rattle.conf_text.proofs.Runs.{IsStopped, Stops, Goes, AfterEntries, OpensAt, stops_before, key_goes, comma_goes, bracket_arrives,
-    open_goes, entries_go}
+use Rattle.conf_text.proofs.Runs.{IsStopped, Stops, Goes, AfterEntries, OpensAt, stops_before, key_goes, comma_goes, bracket_arrives}
+use Rattle.conf_text.proofs.Runs.{open_goes, entries_go}
 use Rattle.conf_text.proofs.Standing.{content_more, escaped_mark, quote_allowed, quote_escaped}
 use Rattle.conf_text.proofs.Steps.{wants_scalar, Reaches, reaches_then, reaches_itself, Arrives}
 
@@ -41,29 +41,29 @@ scalar_read : (earlier : List Scalar) (front name rest : List ℕ) (at : ℕ) (e
     → IsBeforeScalar front name earlier → AtScalar at (item es bs) (front ++ rest) name earlier es bs rest
 scalar_read [] front name rest at es bs (inl key) =
     scalar_then at (item es bs) (between Wanted name [] es bs) (front ++ rest) rest name [] es bs rest
-        (key_goes true front name rest at es bs key) λ m.
+    (key_goes true front name rest at es bs key) λ m.
     inl (Wanted, refl, (m, reaches_itself m (between Wanted name [] es bs) rest))
 scalar_read [] front name rest at es bs (inr (key, g, key_is, gap, parts)) =
     let whole : front ++ rest ≡ key ++ 91 ∷ (g ++ rest) = rw parts (simp append_assoc refl) in
     rw whole (
     scalar_then at (item es bs) (between Wanted name [] es bs) (key ++ 91 ∷ (g ++ rest)) (91 ∷ (g ++ rest)) name [] es bs rest
-        (key_goes true key name (91 ∷ (g ++ rest)) at es bs key_is) λ a.
+    (key_goes true key name (91 ∷ (g ++ rest)) at es bs key_is) λ a.
     scalar_then a (between Wanted name [] es bs) (between (First a) name [] es bs) (91 ∷ (g ++ rest)) (g ++ rest) name [] es bs rest
-        (inl (bracket_arrives (g ++ rest) a name [] es bs)) λ b.
+    (inl (bracket_arrives (g ++ rest) a name [] es bs)) λ b.
     scalar_then b (between (First a) name [] es bs) (between (First a) name [] es bs) (g ++ rest) rest name [] es bs rest
-        (inl (gap_arrives g rest b (First a) name [] es bs gap)) λ m.
+    (inl (gap_arrives g rest b (First a) name [] es bs gap)) λ m.
     inl (First a, refl, (m, reaches_itself m (between (First a) name [] es bs) rest)))
 scalar_read (s ∷ ss) front name rest at es bs (key, list, g, key_is, array, gap, parts) =
     let whole : front ++ rest ≡ key ++ 91 ∷ (list ++ 44 ∷ (g ++ rest)) = rw parts (simp append_assoc refl) in
     rw whole (
     scalar_then at (item es bs) (between Wanted name [] es bs) (key ++ 91 ∷ (list ++ 44 ∷ (g ++ rest))) (91 ∷ (list ++ 44 ∷ (g ++ rest)))
-        name (s ∷ ss) es bs rest (key_goes true key name (91 ∷ (list ++ 44 ∷ (g ++ rest))) at es bs key_is) λ a.
+    name (s ∷ ss) es bs rest (key_goes true key name (91 ∷ (list ++ 44 ∷ (g ++ rest))) at es bs key_is) λ a.
     scalar_then a (between Wanted name [] es bs) (between (First a) name [] es bs) (91 ∷ (list ++ 44 ∷ (g ++ rest)))
-        (list ++ 44 ∷ (g ++ rest)) name (s ∷ ss) es bs rest (inl (bracket_arrives (list ++ 44 ∷ (g ++ rest)) a name [] es bs)) λ b.
+    (list ++ 44 ∷ (g ++ rest)) name (s ∷ ss) es bs rest (inl (bracket_arrives (list ++ 44 ∷ (g ++ rest)) a name [] es bs)) λ b.
     scalar_then b (between (First a) name [] es bs) (between (Next a) name (s ∷ ss) es bs) (list ++ 44 ∷ (g ++ rest)) (g ++ rest) name
-        (s ∷ ss) es bs rest (comma_goes true true a ss s list (g ++ rest) b name [] es bs array) λ d.
+    (s ∷ ss) es bs rest (comma_goes true true a ss s list (g ++ rest) b name [] es bs array) λ d.
     scalar_then d (between (Next a) name (s ∷ ss) es bs) (between (Next a) name (s ∷ ss) es bs) (g ++ rest) rest name (s ∷ ss) es bs rest
-        (inl (gap_arrives g rest d (Next a) name (s ∷ ss) es bs gap)) λ m.
+    (inl (gap_arrives g rest d (Next a) name (s ∷ ss) es bs gap)) λ m.
     inl (Next a, refl, (m, reaches_itself m (between (Next a) name (s ∷ ss) es bs) rest)))
 
 -- the reader after entries of the whole text
@@ -85,7 +85,7 @@ content_part : (content inside : List ℕ) (q : ℕ) (p : Phase) (n : List ℕ) 
 content_part content inside q p n ss es bs is (inl e) = string_part content inside [] q p n ss es bs is (sym e ∙ sym (append-nil inside))
 content_part content inside q p n ss es bs is (inr e) =
     let whole : escaped (content ++ 34 ∷ []) ≡ inside ++ 34 ∷ [] =
-        escaped_mark content 34 quote_escaped ∙ sym (append_assoc (escaped content) (92 ∷ []) (34 ∷ [])) ∙ ap (λ z. z ++ 34 ∷ []) (sym e) in
+    escaped_mark content 34 quote_escaped ∙ sym (append_assoc (escaped content) (92 ∷ []) (34 ∷ [])) ∙ ap (λ z. z ++ 34 ∷ []) (sym e) in
     string_part (content ++ 34 ∷ []) inside (34 ∷ []) q p n ss es bs (content_more content 34 is quote_allowed) whole
 
 -- an open string is unclosed, or the reader stops before
@@ -100,7 +100,7 @@ string_read text p h = read (from_start text h.before (h.front ++ 34 ∷ h.insid
         let three = quote_reaches q k h.inside h.name h.earlier h.before over wants in
         let place : k ≡ p = omega (arith, one.place, two.place, h.place_is) in
         inl (one.same ∙ two.same ∙ three.same ∙ content_part h.content h.inside k q h.name h.earlier h.before over h.content_is h.inside_is
-            (k + 1) [] ∙ ap unclosed place)
+        (k + 1) [] ∙ ap unclosed place)
     at_quote m over one (inr stops) = inr (stops_whole true text (stops_before true one stops))
 
     read : FromStart text h.before (h.front ++ 34 ∷ h.inside)
@@ -120,7 +120,7 @@ halts_from c q text es rest begins on = from (from_start text es rest begins)
         let (chunk, whole) = begins_suffix es text rest begins in
         let same = subst (λ z. Reaches 0 start z m (item es over) rest) whole one in
         subst (Halts c q 0 start) (sym whole) (halts_joined c q 0 m start (item es over) chunk rest same
-            (on m over (omega (arith, one.place))))
+        (on m over (omega (arith, one.place))))
     from (inr stops) = inr (inl stops)
 
 halts_at : (c : Bool) (q at : ℕ) (r s : Reader) (chunk y : List ℕ) → Goes true at r (chunk ++ y) s y
@@ -133,7 +133,7 @@ pub array_read : (text : List ℕ) (p : ℕ) → IsOpenArray text p → Halts fa
 array_read text p h =
     halts_from false p text h.before (h.key ++ 91 ∷ h.inside) h.entries λ m over place.
     halts_at false p m (item h.before over) (between Wanted h.name [] h.before over) h.key (91 ∷ h.inside)
-        (key_goes true h.key h.name (91 ∷ h.inside) m h.before over h.key_is) λ k place_k.
+    (key_goes true h.key h.name (91 ∷ h.inside) m h.before over h.key_is) λ k place_k.
     bracket k over (omega (arith, place, place_k, h.place_is))
   where
     bracket : (k : ℕ) (over : List ℕ) → k ≡ p → Halts false p k (between Wanted h.name [] h.before over) (91 ∷ h.inside)
@@ -141,7 +141,7 @@ array_read text p h =
         let (m, one) = bracket_arrives h.inside k h.name [] h.before over in
         halts_joined false p k m (between Wanted h.name [] h.before over) (between (First k) h.name [] h.before over) (91 ∷ []) h.inside one
         (subst (λ q. Halts false q m (between (First k) h.name [] h.before over) h.inside) same
-            (array_halts false true k m h.scalars h.inside h.closing h.name [] h.before over h.array))
+        (array_halts false true k m h.scalars h.inside h.closing h.name [] h.before over h.array))
 
 -- ---- sections
 
@@ -171,11 +171,11 @@ inner_halts : (p k m : ℕ) (es inner : List ConfEntry) (inside rest closing ove
 inner_halts p k m es inner inside rest closing over e same begins balanced some entry (inl (up, deep, (n, one))) =
     let (chunk, whole) = begins_suffix inner inside rest begins in
     let none : up ++ (k ∷ over) ≡ p ∷ over =
-        ap (λ z. z ++ (k ∷ over)) (none_over up (sections inner) balanced deep) ∙ ap (λ z. z ∷ over) same in
+    ap (λ z. z ++ (k ∷ over)) (none_over up (sections inner) balanced deep) ∙ ap (λ z. z ∷ over) same in
     let reach = subst (λ z. Reaches m (item es (k ∷ over)) inside n (item (es ++ inner) z) rest) none one in
     subst (Halts true p m (item es (k ∷ over))) (sym whole)
     (halts_joined true p m n (item es (k ∷ over)) (item (es ++ inner) (p ∷ over)) chunk rest
-        (subst (λ z. Reaches m (item es (k ∷ over)) z n (item (es ++ inner) (p ∷ over)) rest) whole reach)
+    (subst (λ z. Reaches m (item es (k ∷ over)) z n (item (es ++ inner) (p ∷ over)) rest) whole reach)
     (entry_halts p n e rest closing (es ++ inner) over entry some))
 inner_halts p k m es inner inside rest closing over e same begins balanced some entry (inr stops) =
     inr (inl (stopped_more (m + length inside) (outcome m (item es (k ∷ over)) inside) stops))

@@ -1,6 +1,6 @@
 -- What the reader says of a text that ends within an entry.
-use Rattle.std.proofs.Common.{◌≡◌, ℕ, ◌+◌, ◌<◌, Bool, true, false, cond, List, [], ◌∷◌, ◌++◌, length, Some, Result, Err, refl, sym, ap,
-    subst, ◌∙◌, append_assoc, length-append, arith, inl, inr}
+use Rattle.std.proofs.Common.{◌≡◌, ℕ, ◌+◌, ◌<◌, Bool, true, false, cond, List, [], ◌∷◌, ◌++◌, length, Some, Result, Err, refl, sym, ap}
+use Rattle.std.proofs.Common.{subst, ◌∙◌, append_assoc, length-append, arith, inl, inr}
 use Rattle.std.proofs.lemmas.List.{append-nil}
 use Rattle.std.proofs.lemmas.List.Folds.{list_all-append}
 use Rattle.std.specs.Prelude.{◌⊎◌}
@@ -15,13 +15,13 @@ use Rattle.conf_text.specs.declared.reader.Mode.TheVariants.{Between, String, Es
 use Rattle.conf_text.specs.declared.reader.Phase.{Phase}
 use Rattle.conf_text.specs.declared.reader.Phase.TheVariants.{Item, Named, Wanted, First, Next, After}
 use Rattle.conf_text.specs.Entries.{Scalar, Number, Text, One, ConfEntry, Assign}
-use Rattle.conf_text.specs.Grammar.{is_digit, is_allowed, is_escaped, gap_byte, after_gap, IsGap, IsContent, escaped, EndsWord, IsScalar,
-    IsArray}
+use Rattle.conf_text.specs.Grammar.{is_digit, is_allowed, is_escaped, gap_byte, after_gap, IsGap, IsContent, escaped, EndsWord, IsScalar}
+use Rattle.conf_text.specs.Grammar.{IsArray}
 use Rattle.conf_text.specs.Reader.{Reader, with_scalar, outcome, ended, ended_between}
 use Rattle.conf_text.proofs.Accepted.{between, in_array, gap_arrives, byte_arrives, gap_ends, mark_ends, kind-comma}
 use Rattle.conf_text.proofs.Runs.{Stops, Goes, stops_before, scalar_goes, array_scalar}
-use Rattle.conf_text.proofs.Steps.{in_state, gap_mode, wants_scalar, both_true, and_then_some, Reaches, reaches_step, step_is, gap_reaches,
-    letter_reaches, kind-quote, kind-backslash, quote_begins, EndsScalar}
+use Rattle.conf_text.proofs.Steps.{in_state, gap_mode, wants_scalar, both_true, and_then_some, Reaches, reaches_step, step_is, gap_reaches}
+use Rattle.conf_text.proofs.Steps.{letter_reaches, kind-quote, kind-backslash, quote_begins, EndsScalar}
 
 -- ---- lists in two ways
 
@@ -134,7 +134,7 @@ gap_halts c p q at n ss es bs a b open_ gap =
     let one = gap_reaches false a [] at p [] n ss es bs d part in
     subst (Halts c q at (between p n ss es bs)) (append-nil a)
     (halts_joined c q at (at + length a) (between p n ss es bs) (in_state (gap_mode d) p [] n ss es bs) a [] one
-        (inl (gap_ended d p q (at + length a) n ss es bs open_)))
+    (inl (gap_ended d p q (at + length a) n ss es bs open_)))
 
 -- ---- scalars in part
 
@@ -159,18 +159,18 @@ letter_part f b s [] e q p n ss es bs mark allowed same on = λ at w. string_end
 letter_part true b s (k ∷ []) e q p n ss es bs mark allowed same on = λ at w.
     let first : 92 ≡ k = cc in
     let one =
-        reaches_step at 92 (in_state (String q) p w n ss es bs) (in_state (Escape q) p w n ss es bs) []
-            (step_is (String q) Backslash 92 at (in_state (String q) p w n ss es bs) refl kind-backslash) in
+    reaches_step at 92 (in_state (String q) p w n ss es bs) (in_state (Escape q) p w n ss es bs) []
+    (step_is (String q) Backslash 92 at (in_state (String q) p w n ss es bs) refl kind-backslash) in
     subst (λ z. outcome at (in_state (String q) p w n ss es bs) (z ∷ []) ≡ Err (Unclosed q)) first
-        (one.same ∙ escape_ended (at + 1) q p w n ss es bs)
+    (one.same ∙ escape_ended (at + 1) q p w n ss es bs)
 letter_part true b s (k ∷ l ∷ c) e q p n ss es bs mark allowed same on = λ at w.
     let first : 92 ≡ k = cc in
     let second : b ≡ l = cc in
     let others : escaped s ≡ c ++ e = cc in
     let (m, one) = letter_reaches true b c at q p w n ss es bs allowed mark in
     subst (λ z. outcome at (in_state (String q) p w n ss es bs) (z ∷ l ∷ c) ≡ Err (Unclosed q)) first
-        (subst (λ z. outcome at (in_state (String q) p w n ss es bs) (92 ∷ z ∷ c) ≡ Err (Unclosed q)) second
-        (one.same ∙ on c others m (w ++ b ∷ [])))
+    (subst (λ z. outcome at (in_state (String q) p w n ss es bs) (92 ∷ z ∷ c) ≡ Err (Unclosed q)) second
+    (one.same ∙ on c others m (w ++ b ∷ [])))
 letter_part false b s (k ∷ c) e q p n ss es bs mark allowed same on = λ at w.
     let first : b ≡ k = cc in
     let others : escaped s ≡ c ++ e = cc in
@@ -189,7 +189,7 @@ pub quote_reaches : (p : Phase) (at : ℕ) (rest n : List ℕ) (ss : List Scalar
     → Reaches at (between p n ss es bs) (34 ∷ rest) (at + 1) (in_state (String at) p [] n ss es bs) rest
 quote_reaches p at rest n ss es bs wants =
     reaches_step at 34 (between p n ss es bs) (in_state (String at) p [] n ss es bs) rest
-        (step_is Between Quote 34 at (between p n ss es bs) refl kind-quote ∙ quote_begins p at n ss es bs wants)
+    (step_is Between Quote 34 at (between p n ss es bs) refl kind-quote ∙ quote_begins p at n ss es bs wants)
 
 inner_quote : (c : Bool) → InnerByte c 34
 inner_quote true = inl refl
@@ -219,7 +219,7 @@ whole_halts : (f : Bool) (p : Phase) (q at : ℕ) (s : Scalar) (x n : List ℕ) 
 whole_halts f p q at s x n ss es bs wants open_ scalar =
     subst (Halts f q at (between p n ss es bs)) (append-nil x)
     (halts_then f q at (between p n ss es bs) (with_scalar p (between p n ss es bs) s) x []
-        (scalar_goes true s x [] at p n ss es bs wants scalar (ends_nothing s)) (λ m. inl (scalar_ended p q m s n ss es bs wants open_)))
+    (scalar_goes true s x [] at p n ss es bs wants scalar (ends_nothing s)) (λ m. inl (scalar_ended p q m s n ss es bs wants open_)))
 
 text_halts : (f : Bool) (p : Phase) (q at : ℕ) (s c d n : List ℕ) (ss : List Scalar) (es : List ConfEntry) (bs : List ℕ)
     → wants_scalar p ≡ true → IsOpenAt p bs q → IsContent s → Cut c d (escaped s) (34 ∷ []) → Halts f q at (between p n ss es bs) (34 ∷ c)
@@ -238,12 +238,12 @@ pub scalar_halts : (f : Bool) (p : Phase) (q at : ℕ) (s : Scalar) (c d n : Lis
 scalar_halts f p q at s [] d n ss es bs wants open_ scalar = nothing_halts f p q at n ss es bs open_
 scalar_halts f p q at (Number k) (b ∷ c) d n ss es bs wants open_ scalar =
     whole_halts f p q at (Number (digits_value 10 (b ∷ c))) (b ∷ c) n ss es bs wants open_
-        ((λ e. absurd cc, all_front (λ b. is_digit (kind b)) (b ∷ c) d scalar.0.1), refl)
+    ((λ e. absurd cc, all_front (λ b. is_digit (kind b)) (b ∷ c) d scalar.0.1), refl)
 scalar_halts f p q at (Text s) (b ∷ c) d n ss es bs wants open_ (content, parts) =
     let first : 34 ≡ b = cc in
     let others : c ++ d ≡ escaped s ++ 34 ∷ [] = cc in
     subst (λ z. Halts f q at (between p n ss es bs) (z ∷ c)) first
-        (text_halts f p q at s c d n ss es bs wants open_ content (cut c d (escaped s) (34 ∷ []) others))
+    (text_halts f p q at s c d n ss es bs wants open_ content (cut c d (escaped s) (34 ∷ []) others))
 
 -- ---- arrays in part
 
@@ -265,7 +265,7 @@ after_halts f q m h tail l b n ss es bs gap on (inl (o, one, two)) = gap_halts f
 after_halts f q m h tail l b n ss es bs gap on (inr (o, one, two)) =
     subst (Halts f q m (between (After q) n ss es bs)) (sym one)
     (halts_then f q m (between (After q) n ss es bs) (between (After q) n ss es bs) h o (inl (gap_arrives h o m (After q) n ss es bs gap))
-        (λ k. on o two k))
+    (λ k. on o two k))
 
 ends_part : (s : Scalar) (l b : List ℕ) → EndsWord (l ++ b) → EndsScalar s l
 ends_part (Number k) l b h = ends_front l b h
@@ -290,7 +290,7 @@ spaced_halts f c q at s g x h tail a b n ss es bs gap scalar gap_h ends on (inl 
 spaced_halts f c q at s g x h tail a b n ss es bs gap scalar gap_h ends on (inr (k, one, two)) =
     subst (Halts f q at (between (in_array c q) n ss es bs)) (sym one)
     (halts_then f q at (between (in_array c q) n ss es bs) (between (in_array c q) n ss es bs) g k
-        (inl (gap_arrives g k at (in_array c q) n ss es bs gap))
+    (inl (gap_arrives g k at (in_array c q) n ss es bs gap))
     (λ m. element_halts f c q m s x h tail k b n ss es bs scalar gap_h ends on (cut k b x (h ++ tail) (sym two))))
 
 ended_follows : (f : Bool) (q : ℕ) (b n : List ℕ) (ss : List Scalar) (es : List ConfEntry) (bs : List ℕ) → Follows f q [] b n ss es bs
@@ -305,8 +305,8 @@ comma_follows f q rest b n ss es bs on (l ∷ k) same m =
     let others : rest ≡ k ++ b = cc in
     subst (λ z. Halts f q m (between (After q) n ss es bs) (z ∷ k)) first
     (halts_then f q m (between (After q) n ss es bs) (between (Next q) n ss es bs) (44 ∷ []) k
-        (inl (byte_arrives 44 Comma k m (between (After q) n ss es bs) (between (Next q) n ss es bs) refl kind-comma refl))
-        (λ o. on k others o))
+    (inl (byte_arrives 44 Comma k m (between (After q) n ss es bs) (between (Next q) n ss es bs) refl kind-comma refl))
+    (λ o. on k others o))
 
 -- a part of an array
 pub array_halts : (f c : Bool) (q at : ℕ) (scalars : List Scalar) (a b n : List ℕ) (ss : List Scalar) (es : List ConfEntry) (bs : List ℕ)
@@ -315,10 +315,10 @@ array_halts f c q at [] a b n ss es bs gap = gap_halts f (in_array c q) q at n s
 array_halts f c q at (s ∷ []) a b n ss es bs (g, x, h, gap, scalar, gap_h, parts) =
     let whole : a ++ b ≡ g ++ (x ++ (h ++ [])) = parts ∙ simp (append_assoc, append-nil) refl in
     spaced_halts f c q at s g x h [] a b n ss es bs gap scalar gap_h tt (ended_follows f q b n (ss ++ s ∷ []) es bs)
-        (cut a b g (x ++ (h ++ [])) whole)
+    (cut a b g (x ++ (h ++ [])) whole)
 array_halts f c q at (s ∷ t ∷ ts) a b n ss es bs (g, x, h, rest, gap, scalar, gap_h, others, parts) =
     let whole : a ++ b ≡ g ++ (x ++ (h ++ 44 ∷ rest)) = parts ∙ simp append_assoc refl in
     spaced_halts f c q at s g x h (44 ∷ rest) a b n ss es bs gap scalar gap_h (mark_ends 44 Comma rest kind-comma refl)
     (comma_follows f q rest b n (ss ++ s ∷ []) es bs
-        (λ k same m. array_halts f false q m (t ∷ ts) k b n (ss ++ s ∷ []) es bs (subst (λ z. IsArray z (t ∷ ts)) same others)))
-        (cut a b g (x ++ (h ++ 44 ∷ rest)) whole)
+    (λ k same m. array_halts f false q m (t ∷ ts) k b n (ss ++ s ∷ []) es bs (subst (λ z. IsArray z (t ∷ ts)) same others)))
+    (cut a b g (x ++ (h ++ 44 ∷ rest)) whole)

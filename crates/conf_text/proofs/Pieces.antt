@@ -27,9 +27,17 @@ array_gap (t ∷ ss) s list k (g, x, h, rest, gap, scalar, gap_h, others, parts)
 -- an array with a scalar more
 pub array_more : (ss : List Scalar) (s t : Scalar) (list k y : List ℕ) → IsArray list (s ∷ ss) → IsGap k → IsScalar y t
     → IsArray (list ++ (44 ∷ (k ++ y))) (s ∷ (ss ++ t ∷ []))
-array_more [] s t list k y (g, x, h, gap, scalar, gap_h, parts) gap_k last =
-    (g, x, h, k ++ y, gap, scalar, gap_h, (k, y, [], gap_k, last, refl, simp (append_assoc, append-nil) refl),
-        rw parts (simp append_assoc refl))
+array_more [] s t list k y (g, x, h, gap, scalar, gap_h, parts) gap_k last = (
+  g,
+  x,
+  h,
+  k ++ y,
+  gap,
+  scalar,
+  gap_h,
+  (k, y, [], gap_k, last, refl, simp (append_assoc, append-nil) refl),
+  rw parts (simp append_assoc refl),
+)
 array_more (u ∷ ss) s t list k y (g, x, h, rest, gap, scalar, gap_h, others, parts) gap_k last =
     (g, x, h, rest ++ (44 ∷ (k ++ y)), gap, scalar, gap_h, array_more ss u t rest k y others gap_k last, rw parts (simp append_assoc refl))
 

@@ -1,6 +1,6 @@
 -- Where a limit is broken, the reader refuses the text for it, at its place.
-use Rattle.std.proofs.Common.{◌≡◌, ℕ, ◌+◌, ◌-◌, ◌<◌, ◌≤◌, ◌^◌, true, false, ltb, List, [], ◌∷◌, ◌++◌, length, Result, Err, refl, ap, ◌∙◌,
-    append_assoc, arith, inl, inr}
+use Rattle.std.proofs.Common.{◌≡◌, ℕ, ◌+◌, ◌-◌, ◌<◌, ◌≤◌, ◌^◌, true, false, ltb, List, [], ◌∷◌, ◌++◌, length, Result, Err, refl, ap, ◌∙◌}
+use Rattle.std.proofs.Common.{append_assoc, arith, inl, inr}
 use Rattle.std.proofs.lemmas.Bool.{le-ltb}
 use Rattle.std.specs.List.{list_all}
 use Rattle.std.specs.Str.Parse.{digits_value}
@@ -15,10 +15,10 @@ use Rattle.conf_text.specs.Entries.{Scalar, ConfEntry, sections, is_given, fits_
 use Rattle.conf_text.specs.Grammar.{is_name, is_digit, IsName, IsDigits, EndsWord}
 use Rattle.conf_text.specs.Refusals.{IsBeforeScalar, IsDuplicate, IsTooWide, IsTooDeep}
 use Rattle.conf_text.specs.Reader.{Read, ◌>>=◌, step, outcome, reading, ended, begun, word_ended}
-use Rattle.conf_text.proofs.Steps.{in_state, reaches_then, reaches_step, step_is, name_more, name_begins, digits_more, digit_begins,
-    word_step, both_true, Arrives, wants_scalar}
-use Rattle.conf_text.proofs.Accepted.{between, item, gap_arrives, name_arrives, key_arrives, byte_arrives, gap_ends, mark_ends,
-    array_to_comma, entries_arrive, kind-open_bracket, kind-open_brace}
+use Rattle.conf_text.proofs.Steps.{in_state, reaches_then, reaches_step, step_is, name_more, name_begins, digits_more, digit_begins}
+use Rattle.conf_text.proofs.Steps.{word_step, both_true, Arrives, wants_scalar}
+use Rattle.conf_text.proofs.Accepted.{between, item, gap_arrives, name_arrives, key_arrives, byte_arrives, gap_ends, mark_ends}
+use Rattle.conf_text.proofs.Accepted.{array_to_comma, entries_arrive, kind-open_bracket, kind-open_brace}
 
 abbrev refused : ConfRefusal → Result (List ConfEntry) ConfRefusal
 refused e = Err e
@@ -44,23 +44,23 @@ name_refused [] more at place es bs h ends given same = absurd (h.0 refl)
 name_refused (b ∷ name) more at place es bs h ends given same =
     let (first, others) = both_true (is_name (kind b)) (list_all (λ b. is_name (kind b)) name) h.1 in
     let one =
-        reaches_step at b (item es bs) (in_state Word Item (b ∷ []) [] [] es bs) (name ++ more)
-            (step_is Between (kind b) b at (item es bs) refl refl ∙ name_begins (kind b) b at [] [] es bs first) in
+    reaches_step at b (item es bs) (in_state Word Item (b ∷ []) [] [] es bs) (name ++ more)
+    (step_is Between (kind b) b at (item es bs) refl refl ∙ name_begins (kind b) b at [] [] es bs first) in
     let two = name_more name more (at + 1) (b ∷ []) [] [] es bs others in
     let from : (at + 1 + length name) - length (b ∷ name) ≡ place = omega (arith, same) in
     one.same ∙ two.same ∙ word_refused more (at + 1 + length name) Item (b ∷ name) [] [] es bs (DuplicateKey place) ends
-        (rw (given, from) refl)
+    (rw (given, from) refl)
 
 pub duplicate_refused : (text : List ℕ) (place : ℕ) → IsDuplicate text place → reading text ≡ Err (DuplicateKey place)
 duplicate_refused text place h =
     let (bs, open_, (a, one)) =
-        entries_arrive h.before text (h.gap ++ h.name ++ h.more) 0 [] [] refl h.entries h.limits
-            (some_given (sections h.before) h.name h.given) in
+    entries_arrive h.before text (h.gap ++ h.name ++ h.more) 0 [] [] refl h.entries h.limits
+    (some_given (sections h.before) h.name h.given) in
     let parts : h.gap ++ h.name ++ h.more ≡ h.gap ++ (h.name ++ h.more) = append_assoc h.gap h.name h.more in
     let (m, two) = gap_arrives h.gap (h.name ++ h.more) a Item [] [] h.before bs h.gap_is in
     let same : m ≡ place = omega (arith, one.place, two.place, h.place_is, ap length parts) in
     one.same ∙ ap (outcome a (item h.before bs)) parts ∙ two.same
-        ∙ name_refused h.name h.more m place h.before bs h.name_is h.name_ends h.given same
+    ∙ name_refused h.name h.more m place h.before bs h.name_is h.name_ends h.given same
 
 -- the reader before a scalar, where the earlier ones are read
 AtScalar : ℕ → List ℕ → List ℕ → List ℕ → List Scalar → List ConfEntry → List ℕ → Type 0
@@ -75,16 +75,16 @@ scalar_awaited [] front name rest at es bs (inl key) fits fresh = (Wanted, refl,
 scalar_awaited [] front name rest at es bs (inr (key, g, key_is, gap, parts)) fits fresh =
     let (a, one) = key_arrives key name (91 ∷ (g ++ rest)) at es bs key_is fresh in
     let two =
-        byte_arrives 91 OpenBracket (g ++ rest) a (between Wanted name [] es bs) (between (First a) name [] es bs) refl kind-open_bracket
-            refl in
+    byte_arrives 91 OpenBracket (g ++ rest) a (between Wanted name [] es bs) (between (First a) name [] es bs) refl kind-open_bracket
+    refl in
     let three = gap_arrives g rest two.0 (First a) name [] es bs gap in
     let whole : front ++ rest ≡ key ++ 91 ∷ (g ++ rest) = rw parts (simp append_assoc refl) in
     (First a, refl, (three.0, rw whole (reaches_then one (reaches_then two.1 three.1))))
 scalar_awaited (s ∷ ss) front name rest at es bs (key, list, g, key_is, array, gap, parts) fits fresh =
     let (a, one) = key_arrives key name (91 ∷ (list ++ 44 ∷ (g ++ rest))) at es bs key_is fresh in
     let two =
-        byte_arrives 91 OpenBracket (list ++ 44 ∷ (g ++ rest)) a (between Wanted name [] es bs) (between (First a) name [] es bs) refl
-            kind-open_bracket refl in
+    byte_arrives 91 OpenBracket (list ++ 44 ∷ (g ++ rest)) a (between Wanted name [] es bs) (between (First a) name [] es bs) refl
+    kind-open_bracket refl in
     let three = array_to_comma true a ss s list (g ++ rest) two.0 name [] es bs array fits in
     let four = gap_arrives g rest three.0 (Next a) name (s ∷ ss) es bs gap in
     let whole : front ++ rest ≡ key ++ 91 ∷ (list ++ 44 ∷ (g ++ rest)) = rw parts (simp append_assoc refl) in
@@ -105,13 +105,13 @@ digits_refused p [] more at place n ss es bs f h ends wide same = absurd (h.0 re
 digits_refused p (b ∷ x) more at place n ss es bs f h ends wide same =
     let (first, others) = both_true (is_digit (kind b)) (list_all (λ b. is_digit (kind b)) x) h.1 in
     let one =
-        reaches_step at b (between p n ss es bs) (in_state Word p (b ∷ []) n ss es bs) (x ++ more)
-            (step_is Between (kind b) b at (between p n ss es bs) refl refl ∙ digit_begins (kind b) b at p n ss es bs f first) in
+    reaches_step at b (between p n ss es bs) (in_state Word p (b ∷ []) n ss es bs) (x ++ more)
+    (step_is Between (kind b) b at (between p n ss es bs) refl refl ∙ digit_begins (kind b) b at p n ss es bs f first) in
     let two = digits_more x more (at + 1) p (b ∷ []) n ss es bs others in
     let from : (at + 1 + length x) - length (b ∷ x) ≡ place = omega (arith, same) in
     let big : ltb (digits_value 10 (b ∷ x)) (2 ^ 64) ≡ false = le-ltb _ _ wide in
     one.same ∙ two.same ∙ word_refused more (at + 1 + length x) p (b ∷ x) n ss es bs (NumberTooWide place) ends
-        (rw from (number_refused p at (b ∷ x) n ss es bs place f big))
+    (rw from (number_refused p at (b ∷ x) n ss es bs place f big))
 
 pub too_wide_refused : (text : List ℕ) (place : ℕ) → IsTooWide text place → reading text ≡ Err (NumberTooWide place)
 unfolding AtScalar
@@ -119,17 +119,17 @@ too_wide_refused text place h =
     let (bs, open_, (a, one)) = entries_arrive h.before text (h.front ++ h.digits ++ h.more) 0 [] [] refl h.entries h.limits h.inside in
     let parts : h.front ++ h.digits ++ h.more ≡ h.front ++ (h.digits ++ h.more) = append_assoc h.front h.digits h.more in
     let (p, wants, (m, two)) =
-        scalar_awaited h.earlier h.front h.name (h.digits ++ h.more) a h.before bs h.front_is h.earlier_fit h.fresh in
+    scalar_awaited h.earlier h.front h.name (h.digits ++ h.more) a h.before bs h.front_is h.earlier_fit h.fresh in
     let same : m ≡ place = omega (arith, one.place, two.place, h.place_is, ap length parts) in
     one.same ∙ ap (outcome a (item h.before bs)) parts ∙ two.same
-        ∙ digits_refused p h.digits h.more m place h.name h.earlier h.before bs wants h.digits_are h.digits_end h.wide same
+    ∙ digits_refused p h.digits h.more m place h.name h.earlier h.before bs wants h.digits_are h.digits_end h.wide same
 
 pub deep_step : (at : ℕ) (name : List ℕ) (es : List ConfEntry) (bs rest : List ℕ) → ltb (length (sections es)) 17 ≡ false
     → outcome at (between Named name [] es bs) (123 ∷ rest) ≡ Err (TooDeep at)
 unfolding outcome
 deep_step at name es bs rest deep =
     let one : step at 123 (between Named name [] es bs) ≡ Err (TooDeep at) =
-        step_is Between OpenBrace 123 at (between Named name [] es bs) refl kind-open_brace ∙ rw deep refl in
+    step_is Between OpenBrace 123 at (between Named name [] es bs) refl kind-open_brace ∙ rw deep refl in
     ap (λ (x : Read). x >>= λ t. outcome (at + 1) t rest) one
 
 pub too_deep_refused : (text : List ℕ) (place : ℕ) → IsTooDeep text place → reading text ≡ Err (TooDeep place)
@@ -141,10 +141,10 @@ too_deep_refused text place h =
     let whole : h.front ++ 123 ∷ rest ≡ g ++ (h.name ++ (k ++ 123 ∷ rest)) = rw parts (simp append_assoc refl) in
     let b = gap_arrives g (h.name ++ (k ++ 123 ∷ rest)) a Item [] [] h.before bs gap in
     let c =
-        name_arrives h.name (k ++ 123 ∷ rest) b.0 h.before bs name_is h.fresh
-            (gap_ends k (123 ∷ rest) gap_k (mark_ends 123 OpenBrace rest kind-open_brace refl)) in
+    name_arrives h.name (k ++ 123 ∷ rest) b.0 h.before bs name_is h.fresh
+    (gap_ends k (123 ∷ rest) gap_k (mark_ends 123 OpenBrace rest kind-open_brace refl)) in
     let d = gap_arrives k (123 ∷ rest) c.0 Named h.name [] h.before bs gap_k in
     let same : d.0 ≡ place = omega (arith, one.place, b.1.place, c.1.place, d.1.place, h.place_is, ap length whole) in
     let deep : ltb (length (sections h.before)) 17 ≡ false = rw h.deep refl in
     one.same ∙ ap (outcome a (item h.before bs)) whole ∙ b.1.same ∙ c.1.same ∙ d.1.same ∙ deep_step d.0 h.name h.before bs rest deep
-        ∙ ap (λ n. refused (TooDeep n)) same
+    ∙ ap (λ n. refused (TooDeep n)) same

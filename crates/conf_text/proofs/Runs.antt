@@ -1,6 +1,6 @@
 -- What the reader does over a text of the grammar, whether it keeps the limits or not.
-use Rattle.std.proofs.Common.{◌≡◌, ℕ, suc, ◌+◌, ◌<◌, ◌≤◌, ◌^◌, Bool, true, false, ltb, List, [], ◌∷◌, ◌++◌, length, Result, Ok, Err, refl,
-    sym, ap, subst, ◌∙◌, append_assoc, arith, inl, inr}
+use Rattle.std.proofs.Common.{◌≡◌, ℕ, suc, ◌+◌, ◌<◌, ◌≤◌, ◌^◌, Bool, true, false, ltb, List, [], ◌∷◌, ◌++◌, length, Result, Ok, Err, refl}
+use Rattle.std.proofs.Common.{sym, ap, subst, ◌∙◌, append_assoc, arith, inl, inr}
 use Rattle.std.proofs.lemmas.List.{append-nil}
 use Rattle.std.proofs.lemmas.Bool.{ltb-false}
 use Rattle.std.specs.Prelude.{◌⊎◌}
@@ -10,18 +10,18 @@ use Rattle.conf_text.specs.declared.kind.Kind.TheVariants.{OpenBrace, CloseBrace
 use Rattle.conf_text.specs.declared.reader.Mode.TheVariants.{Between}
 use Rattle.conf_text.specs.declared.reader.Phase.{Phase}
 use Rattle.conf_text.specs.declared.reader.Phase.TheVariants.{Item, Named, Wanted, First, Next, After}
-use Rattle.conf_text.specs.Entries.{Scalar, Number, Text, Value, One, Many, ConfEntry, Open, Close, Assign, after_entry, after_entries,
-    sections, is_given}
-use Rattle.conf_text.specs.Grammar.{after_gap, IsGap, IsName, EndsWord, IsScalar, IsArray, IsValue, IsHeader, IsKey, IsEntry, EndsEntry,
-    BeginsWith, Spells}
+use Rattle.conf_text.specs.Entries.{Scalar, Number, Text, Value, One, Many, ConfEntry, Open, Close, Assign, after_entry, after_entries}
+use Rattle.conf_text.specs.Entries.{sections, is_given}
+use Rattle.conf_text.specs.Grammar.{after_gap, IsGap, IsName, EndsWord, IsScalar, IsArray, IsValue, IsHeader, IsKey, IsEntry, EndsEntry}
+use Rattle.conf_text.specs.Grammar.{BeginsWith, Spells}
 use Rattle.conf_text.specs.Reader.{Reader, Read, ◌>>=◌, with_scalar, step, outcome, reading}
-use Rattle.conf_text.proofs.Accepted.{between, item, in_array, gap_arrives, name_arrives, byte_arrives, gap_ends, mark_ends, ends_scalar,
-    open_step, close_arrives, last_gap, ended_item, kind-open_brace, kind-close_brace, kind-open_bracket, kind-close_bracket, kind-equals,
-    kind-comma}
+use Rattle.conf_text.proofs.Accepted.{between, item, in_array, gap_arrives, name_arrives, byte_arrives, gap_ends, mark_ends, ends_scalar}
+use Rattle.conf_text.proofs.Accepted.{open_step, close_arrives, last_gap, ended_item, kind-open_brace, kind-close_brace, kind-open_bracket}
+use Rattle.conf_text.proofs.Accepted.{kind-close_bracket, kind-equals, kind-comma}
 use Rattle.conf_text.proofs.Depth.{some_before, after_open, after_assign, after_close}
 use Rattle.conf_text.proofs.Refused.{name_refused, digits_refused, deep_step}
-use Rattle.conf_text.proofs.Steps.{wants_scalar, Reaches, reaches_then, reaches_itself, Arrives, gap_reaches, step_is, EndsScalar,
-    scalar_arrives}
+use Rattle.conf_text.proofs.Steps.{wants_scalar, Reaches, reaches_then, reaches_itself, Arrives, gap_reaches, step_is, EndsScalar}
+use Rattle.conf_text.proofs.Steps.{scalar_arrives}
 
 -- a limit is broken, or with the flag, a brace too many is closed before this place
 abbrev pub IsStopped : Bool → ℕ → Result (List ConfEntry) ConfRefusal → Type 0
@@ -87,9 +87,9 @@ key_goes c key name rest at es bs (g, h, k, gap, name_is, gap_h, gap_k, parts) =
     let whole : key ++ rest ≡ (g ++ name ++ h) ++ (61 ∷ (k ++ rest)) = rw parts (simp append_assoc refl) in
     rw whole (
     goes_then c (header_goes c (g ++ name ++ h) name (61 ∷ (k ++ rest)) at es bs (g, h, gap, name_is, gap_h, refl)
-        (mark_ends 61 Equals (k ++ rest) kind-equals refl)) λ a.
+    (mark_ends 61 Equals (k ++ rest) kind-equals refl)) λ a.
     goes_then c (inl (byte_arrives 61 Equals (k ++ rest) a (between Named name [] es bs) (between Wanted name [] es bs) refl kind-equals
-        refl)) λ b.
+    refl)) λ b.
     inl (gap_arrives k rest b Wanted name [] es bs gap_k))
 
 -- ---- scalars and arrays
@@ -100,7 +100,7 @@ number_goes : (c f : Bool) (k : ℕ) (x rest : List ℕ) (at : ℕ) (p : Phase) 
 number_goes c true k x rest at p n ss es bs fits wants h ends = inl (scalar_arrives (Number k) x rest at p n ss es bs wants h fits ends)
 number_goes c false k x rest at p n ss es bs fits wants h ends =
     inr (stopped_at c (at + length (x ++ rest)) _ (NumberTooWide at)
-        (digits_refused p x rest at at n ss es bs wants h.0 ends (subst (λ z. 2 ^ 64 ≤ z) h.1 (ltb-false k (2 ^ 64) fits)) refl) tt)
+    (digits_refused p x rest at at n ss es bs wants h.0 ends (subst (λ z. 2 ^ 64 ≤ z) h.1 (ltb-false k (2 ^ 64) fits)) refl) tt)
 
 pub scalar_goes : (c : Bool) (s : Scalar) (x rest : List ℕ) (at : ℕ) (p : Phase) (n : List ℕ) (ss : List Scalar) (es : List ConfEntry)
     (bs : List ℕ) → wants_scalar p ≡ true → IsScalar x s → EndsScalar s rest
@@ -130,17 +130,17 @@ array_goes c f q [] t inner rest at n ss es bs (g, x, h, gap, scalar, gap_h, par
     let whole : inner ++ 93 ∷ rest ≡ g ++ (x ++ (h ++ 93 ∷ rest)) = rw parts (simp append_assoc refl) in
     rw whole (
     goes_then c (spaced_goes c f q t g x h (93 ∷ rest) at n ss es bs gap scalar gap_h
-        (mark_ends 93 CloseBracket rest kind-close_bracket refl)) λ a.
+    (mark_ends 93 CloseBracket rest kind-close_bracket refl)) λ a.
     inl (byte_arrives 93 CloseBracket rest a (between (After q) n (ss ++ t ∷ []) es bs)
-        (item (es ++ Assign n (Many (ss ++ t ∷ [])) ∷ []) bs) refl kind-close_bracket refl))
+    (item (es ++ Assign n (Many (ss ++ t ∷ [])) ∷ []) bs) refl kind-close_bracket refl))
 array_goes c f q (u ∷ ts) t inner rest at n ss es bs (g, x, h, more, gap, scalar, gap_h, others, parts) =
     let whole : inner ++ 93 ∷ rest ≡ g ++ (x ++ (h ++ 44 ∷ (more ++ 93 ∷ rest))) = rw parts (simp append_assoc refl) in
     let all : ss ++ t ∷ u ∷ ts ≡ (ss ++ t ∷ []) ++ u ∷ ts = simp append_assoc refl in
     rw (whole, all) (
     goes_then c (spaced_goes c f q t g x h (44 ∷ (more ++ 93 ∷ rest)) at n ss es bs gap scalar gap_h
-        (mark_ends 44 Comma (more ++ 93 ∷ rest) kind-comma refl)) λ a.
+    (mark_ends 44 Comma (more ++ 93 ∷ rest) kind-comma refl)) λ a.
     goes_then c (inl (byte_arrives 44 Comma (more ++ 93 ∷ rest) a (between (After q) n (ss ++ t ∷ []) es bs)
-        (between (Next q) n (ss ++ t ∷ []) es bs) refl kind-comma refl)) λ b.
+    (between (Next q) n (ss ++ t ∷ []) es bs) refl kind-comma refl)) λ b.
     array_goes c false q ts u more rest b n (ss ++ t ∷ []) es bs others)
 
 -- the scalars of an array up to the comma behind them
@@ -152,15 +152,15 @@ comma_goes c f q [] t inner rest at n ss es bs (g, x, h, gap, scalar, gap_h, par
     rw whole (
     goes_then c (spaced_goes c f q t g x h (44 ∷ rest) at n ss es bs gap scalar gap_h (mark_ends 44 Comma rest kind-comma refl)) λ a.
     inl (byte_arrives 44 Comma rest a (between (After q) n (ss ++ t ∷ []) es bs) (between (Next q) n (ss ++ t ∷ []) es bs) refl kind-comma
-        refl))
+    refl))
 comma_goes c f q (u ∷ ts) t inner rest at n ss es bs (g, x, h, more, gap, scalar, gap_h, others, parts) =
     let whole : inner ++ 44 ∷ rest ≡ g ++ (x ++ (h ++ 44 ∷ (more ++ 44 ∷ rest))) = rw parts (simp append_assoc refl) in
     let all : ss ++ t ∷ u ∷ ts ≡ (ss ++ t ∷ []) ++ u ∷ ts = simp append_assoc refl in
     rw (whole, all) (
     goes_then c (spaced_goes c f q t g x h (44 ∷ (more ++ 44 ∷ rest)) at n ss es bs gap scalar gap_h
-        (mark_ends 44 Comma (more ++ 44 ∷ rest) kind-comma refl)) λ a.
+    (mark_ends 44 Comma (more ++ 44 ∷ rest) kind-comma refl)) λ a.
     goes_then c (inl (byte_arrives 44 Comma (more ++ 44 ∷ rest) a (between (After q) n (ss ++ t ∷ []) es bs)
-        (between (Next q) n (ss ++ t ∷ []) es bs) refl kind-comma refl)) λ b.
+    (between (Next q) n (ss ++ t ∷ []) es bs) refl kind-comma refl)) λ b.
     comma_goes c false q ts u more rest b n (ss ++ t ∷ []) es bs others)
 
 pub bracket_arrives : (rest : List ℕ) (at : ℕ) (n : List ℕ) (ss : List Scalar) (es : List ConfEntry) (bs : List ℕ)
@@ -179,7 +179,7 @@ value_goes c (Many []) x name rest at es bs (inner, gap, parts) ends =
     goes_then c (inl (bracket_arrives (inner ++ 93 ∷ rest) at name [] es bs)) λ a.
     goes_then c (inl (gap_arrives inner (93 ∷ rest) a (First at) name [] es bs gap)) λ b.
     inl (byte_arrives 93 CloseBracket rest b (between (First at) name [] es bs) (item (es ++ Assign name (Many []) ∷ []) bs) refl
-        kind-close_bracket refl))
+    kind-close_bracket refl))
 value_goes c (Many (t ∷ ts)) x name rest at es bs (inner, array, parts) ends =
     let whole : x ++ rest ≡ 91 ∷ (inner ++ 93 ∷ rest) = rw parts (simp append_assoc refl) in
     rw whole (
@@ -198,8 +198,8 @@ opens_if : (c f : Bool) (m at : ℕ) (name text rest : List ℕ) (es : List Conf
     → OpensAt c at (item es bs) text (es ++ Open name ∷ []) bs rest
 opens_if c true m at name text rest es bs e one =
     let two =
-        byte_arrives 123 OpenBrace rest m (between Named name [] es bs) (item (es ++ Open name ∷ []) (m ∷ bs)) refl kind-open_brace
-            (open_step m name es bs e) in
+    byte_arrives 123 OpenBrace rest m (between Named name [] es bs) (item (es ++ Open name ∷ []) (m ∷ bs)) refl kind-open_brace
+    (open_step m name es bs e) in
     inl (m, one.place, (two.0, reaches_then one two.1))
 opens_if c false m at name text rest es bs e one =
     inr (stops_before c one (stopped_at c (m + suc (length rest)) _ (TooDeep m) (deep_step m name es bs rest e) tt))
@@ -214,7 +214,7 @@ pub open_goes : (c : Bool) (x name rest : List ℕ) (at : ℕ) (es : List ConfEn
 open_goes c x name rest at es bs (front, header, parts) =
     let whole : x ++ rest ≡ front ++ (123 ∷ rest) = rw parts (simp append_assoc refl) in
     rw whole (opens c at name (front ++ (123 ∷ rest)) rest es bs
-        (header_goes c front name (123 ∷ rest) at es bs header (mark_ends 123 OpenBrace rest kind-open_brace refl)))
+    (header_goes c front name (123 ∷ rest) at es bs header (mark_ends 123 OpenBrace rest kind-open_brace refl)))
 
 -- the reader after entries, with the braces that they opened over those that were open
 abbrev pub AfterEntries : Bool → List (List (List ℕ)) → ℕ → Reader → List ℕ → List ConfEntry → List ℕ → List ℕ → Type 0
@@ -261,7 +261,7 @@ close_over true given g rest at es [] below (inr e) same deep gap = absurd cc
 close_over true given g rest at es [] below (inl none) same deep gap =
     let (m, one) = gap_arrives g (125 ∷ rest) at Item [] [] es below gap in
     inr (stops_before true one (stopped_at true (m + suc (length rest)) _ (BadToken m)
-        (ap (λ z. outcome m (item es z) (125 ∷ rest)) none ∙ close_stops rest m es) (omega arith)))
+    (ap (λ z. outcome m (item es z) (125 ∷ rest)) none ∙ close_stops rest m es) (omega arith)))
 
 entry_goes : (c : Bool) (e : ConfEntry) (x rest : List ℕ) (at : ℕ) (given : List (List (List ℕ))) (es : List ConfEntry)
     (over below : List ℕ) → (below ≡ []) ⊎ (c ≡ false) → length given ≡ suc (length over) → IsEntry x e → IsDeep c (after_entry given e)
@@ -269,7 +269,7 @@ entry_goes : (c : Bool) (e : ConfEntry) (x rest : List ℕ) (at : ℕ) (given : 
     → AfterEntries c (after_entry given e) at (item es (over ++ below)) (x ++ rest) (es ++ e ∷ []) below rest
 entry_goes c (Open name) x rest at given es over below low same entry deep ends =
     opened_over c given name at (item es (over ++ below)) (x ++ rest) (es ++ Open name ∷ []) over below rest same
-        (open_goes c x name rest at es (over ++ below) entry)
+    (open_goes c x name rest at es (over ++ below) entry)
 entry_goes c Close x rest at given es over below low same (g, gap, parts) deep ends =
     let whole : x ++ rest ≡ g ++ 125 ∷ rest = rw parts (simp append_assoc refl) in
     rw whole (close_over c given g rest at es over below low same deep gap)
@@ -298,7 +298,7 @@ entries_next : (c : Bool) (e : ConfEntry) (fs : List ConfEntry) (given : List (L
     → AfterEntries c (after_entries (after_entry given e) fs) at r text ((es ++ e ∷ []) ++ fs) below rest
 entries_next c e fs given at r text more es below rest (inl (up, same, (m, one))) on =
     entries_joined c (after_entries (after_entry given e) fs) at m r text more (item (es ++ e ∷ []) (up ++ below)) ((es ++ e ∷ []) ++ fs)
-        below rest one (on m up same)
+    below rest one (on m up same)
 entries_next c e fs given at r text more es below rest (inr stops) on = inr stops
 
 pub entries_go : (c : Bool) (fs : List ConfEntry) (text rest : List ℕ) (at : ℕ) (given : List (List (List ℕ))) (es : List ConfEntry)
@@ -330,5 +330,5 @@ spelled_read text es s = read (entries_go false es text s.gap 0 ([] ∷ []) [] [
         let (d, gap) = last_gap (after_gap false s.gap) s.ended in
         let two = gap_reaches false s.gap [] a Item [] [] [] es (over ++ []) d gap in
         inl (one.same ∙ ap (outcome a (item es (over ++ []))) (sym (append-nil s.gap)) ∙ two.same
-            ∙ rw (no_more over same) (ended_item d (a + length s.gap) es))
+        ∙ rw (no_more over same) (ended_item d (a + length s.gap) es))
     read (inr stops) = let n : 0 + length text ≡ length text = omega arith in inr (subst (λ n. IsStopped false n (reading text)) n stops)

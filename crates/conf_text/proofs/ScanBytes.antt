@@ -1,6 +1,6 @@
 -- What a byte does while a text's tokens are taken.
-use Rattle.std.proofs.Common.{◌≡◌, ℕ, ◌+◌, ◌<◌, ◌≤◌, Bool, true, false, List, [], ◌∷◌, length, get_or, drop, Option, Some, None, Ok, Err,
-    refl, sym, ap, ◌∙◌, add-one}
+use Rattle.std.proofs.Common.{◌≡◌, ℕ, ◌+◌, ◌<◌, ◌≤◌, Bool, true, false, List, [], ◌∷◌, length, get_or, drop, Option, Some, None, Ok, Err}
+use Rattle.std.proofs.Common.{refl, sym, ap, ◌∙◌, add-one}
 use Rattle.std.proofs.Math.Seq.{drop-cons}
 use Rattle.std.proofs.lemmas.List.{drop_all}
 use Rattle.conf_text.specs.declared.refusal.ConfRefusal.TheVariants.{BadToken}
@@ -9,8 +9,8 @@ use Rattle.conf_text.specs.declared.token.TokenKind.TheVariants.{Word, Text, Mar
 use Rattle.conf_text.specs.Bytes.{kind}
 use Rattle.conf_text.specs.Grammar.{is_name, gap_byte}
 use Rattle.conf_text.specs.Tokens.{is_mark}
-use Rattle.conf_text.specs.Scan.{Mode, Between, InWord, InString, is_quote, Scanned, Step, token, gap_went, between, after_word,
-    string_byte, closes, step, ended, with_tokens, proceed, scan, scan_at}
+use Rattle.conf_text.specs.Scan.{Mode, Between, InWord, InString, is_quote, Scanned, Step, token, gap_went, between, after_word}
+use Rattle.conf_text.specs.Scan.{string_byte, closes, step, ended, with_tokens, proceed, scan, scan_at}
 use Rattle.conf_text.proofs.KindTests.{name_no_gap, quote_no_gap, quote_no_name, mark_no_gap, mark_no_name, mark_no_quote}
 
 pub with_none : (s : Scanned) → with_tokens [] s ≡ s

@@ -1,6 +1,6 @@
 -- What the bytes read so far are, by where the reader is.
-use Rattle.std.proofs.Common.{◌≡◌, ℕ, suc, ◌+◌, ◌<◌, ◌≤◌, true, false, cond, List, [], ◌∷◌, ◌++◌, length, take, drop, Some, refl, sym, ap,
-    subst, ◌∙◌, append_assoc, length-append, arith}
+use Rattle.std.proofs.Common.{◌≡◌, ℕ, suc, ◌+◌, ◌<◌, ◌≤◌, true, false, cond, List, [], ◌∷◌, ◌++◌, length, take, drop, Some, refl, sym, ap}
+use Rattle.std.proofs.Common.{subst, ◌∙◌, append_assoc, length-append, arith}
 use Rattle.std.proofs.Math.Seq.{take-append_seam}
 use Rattle.std.proofs.lemmas.List.{take-append-drop, take-append-le}
 use Rattle.std.proofs.lemmas.List.Folds.{list_all-append}
@@ -14,15 +14,15 @@ use Rattle.conf_text.specs.declared.reader.Mode.{Mode}
 use Rattle.conf_text.specs.declared.reader.Mode.TheVariants.{Between, Comment, Word, String, Escape}
 use Rattle.conf_text.specs.declared.reader.Phase.{Phase}
 use Rattle.conf_text.specs.declared.reader.Phase.TheVariants.{Item, Named, Wanted, First, Next, After}
-use Rattle.conf_text.specs.Entries.{Scalar, Number, Text, Value, One, ConfEntry, Assign, sections, is_given, fits_scalar, scalars_of,
-    keeps_limits}
-use Rattle.conf_text.specs.Grammar.{is_digit, is_allowed, is_escaped, after_gap, IsName, IsDigits, IsContent, escaped, EndsWord, IsScalar,
-    IsEntry, EndsEntry, Spells}
+use Rattle.conf_text.specs.Entries.{Scalar, Number, Text, Value, One, ConfEntry, Assign, sections, is_given, fits_scalar, scalars_of}
+use Rattle.conf_text.specs.Entries.{keeps_limits}
+use Rattle.conf_text.specs.Grammar.{is_digit, is_allowed, is_escaped, after_gap, IsName, IsDigits, IsContent, escaped, EndsWord, IsScalar}
+use Rattle.conf_text.specs.Grammar.{IsEntry, EndsEntry, Spells}
 use Rattle.conf_text.specs.Refusals.{Begins, IsDuplicate, IsTooWide, IsTooDeep}
 use Rattle.conf_text.specs.Reader.{Reader}
 use Rattle.conf_text.proofs.Accepted.{item}
-use Rattle.conf_text.proofs.Fronts.{IsFront, IsEarly, IsAssign, Completes, completes, front_gap, front_name, front_first, front_next,
-    entry_scalar, front_completes}
+use Rattle.conf_text.proofs.Fronts.{IsFront, IsEarly, IsAssign, Completes, completes, front_gap, front_name, front_first, front_next}
+use Rattle.conf_text.proofs.Fronts.{entry_scalar, front_completes}
 use Rattle.conf_text.proofs.Pieces.{gap_append}
 use Rattle.conf_text.proofs.Steps.{in_state, wants_scalar, cond-append}
 use Rattle.conf_text.proofs.Upto.{Upto, Any, grow, assigned, viable}
@@ -44,7 +44,7 @@ IsTail base (String q) p w n ss f =
     (g : List ℕ) × IsFront base p n ss g × (wants_scalar p ≡ true) × IsContent w × (f ≡ g ++ (34 ∷ escaped w)) × (q ≡ base + length g)
 IsTail base (Escape q) p w n ss f =
     (g : List ℕ) × IsFront base p n ss g × (wants_scalar p ≡ true) × IsContent w × (f ≡ g ++ (34 ∷ (escaped w ++ 92 ∷ [])))
-        × (q ≡ base + length g)
+    × (q ≡ base + length g)
 
 -- the name at hand is new
 abbrev pub IsFresh : Phase → List (List (List ℕ)) → List ℕ → Type 0
@@ -75,8 +75,18 @@ RefusedEarly from text (TooDeep p) = IsTooDeep text p × Begins (take (suc p) te
 pub weaken : {P Q : List ℕ → Type 0} (x : List ℕ) (es : List ConfEntry) (bs front : List ℕ) → ((y : List ℕ) → Q y → P y)
     → Upto P x es bs front → Upto Q x es bs front
 weaken x es bs front may h =
-    record { opened = h.opened; inside = h.inside; done = h.done; inner = h.inner; bytes = h.bytes; listed = h.listed; stack = h.stack;
-        balanced = h.balanced; entries = λ y q. h.entries y (may y q); limits = h.limits }
+    record {
+      opened = h.opened;
+      inside = h.inside;
+      done = h.done;
+      inner = h.inner;
+      bytes = h.bytes;
+      listed = h.listed;
+      stack = h.stack;
+      balanced = h.balanced;
+      entries = λ y q. h.entries y (may y q);
+      limits = h.limits;
+    }
 
 -- a byte that ends no entry
 pub goes_on : {P : List ℕ → Type 0} (x : List ℕ) (b : ℕ) (r : Reader) → ((y : List ℕ) → P (b ∷ y)) → (h : Stands P x r)
@@ -105,7 +115,7 @@ pub ends_key : {P : List ℕ → Type 0} (x : List ℕ) (b : ℕ) (r : Reader) �
 ends_key x b r may h e is entry ends keeps =
     new_entry (x ++ b ∷ []) (r.entries ++ e ∷ []) r.braces
     (assigned (x ++ b ∷ []) r.entries r.braces (h.front ++ b ∷ []) e is entry (λ y any. any) (λ y any. ends y) keeps
-        (grow x b r.entries r.braces h.front may h.upto))
+    (grow x b r.entries r.braces h.front may h.upto))
 
 pub keeps_key : (given : List (List (List ℕ))) (n : List ℕ) (v : Value) → is_given given n ≡ false
     → list_all fits_scalar (scalars_of v) ≡ true → keeps_limits given (Assign n v) ≡ true
@@ -117,7 +127,7 @@ keeps_key given n v fresh fit = rw (fresh, fit) refl
 pub begins_less : (x : List ℕ) (n : ℕ) → Begins x → Begins (take n x)
 begins_less x n (more, es, spells) =
     let whole : x ++ more ≡ take n x ++ (drop n x ++ more) =
-        ap (λ z. z ++ more) (sym (take-append-drop n x)) ∙ append_assoc (take n x) (drop n x) more in
+    ap (λ z. z ++ more) (sym (take-append-drop n x)) ∙ append_assoc (take n x) (drop n x) more in
     (drop n x ++ more, es, subst (λ z. Spells z es) whole spells)
 
 pub begins_front : (x y : List ℕ) (n : ℕ) → n ≤ length x → Begins x → Begins (take n (x ++ y))
@@ -145,17 +155,22 @@ completes_more f a (closing, e, some, entry, assign) here =
 -- a scalar in part
 pub scalar_completes : (p : Phase) (base : ℕ) (n : List ℕ) (ss : List Scalar) (s : Scalar) (g x c : List ℕ) → wants_scalar p ≡ true
     → IsEarly p ss → IsFront base p n ss g → IsScalar (x ++ c) s → 0 < length c → Completes (g ++ x)
-scalar_completes Wanted base n ss s g x c wants early is scalar some =
-    (c, Assign n (One s), some, subst (λ z. IsEntry z (Assign n (One s))) (sym (append_assoc g x c))
-        (entry_scalar base n ss s g (x ++ c) is scalar), tt)
+scalar_completes Wanted base n ss s g x c wants early is scalar some = (
+  c,
+  Assign n (One s),
+  some,
+  subst (λ z. IsEntry z (Assign n (One s))) (sym (append_assoc g x c))
+      (entry_scalar base n ss s g (x ++ c) is scalar),
+  tt,
+)
 scalar_completes (First q) base n ss s g x c wants early is scalar some =
     let after =
-        subst (λ z. IsFront base (After q) n (ss ++ s ∷ []) z) (sym (append_assoc g x c))
-            (front_first base q n ss s g (x ++ c) early is scalar) in
+    subst (λ z. IsFront base (After q) n (ss ++ s ∷ []) z) (sym (append_assoc g x c))
+    (front_first base q n ss s g (x ++ c) early is scalar) in
     completes_more (g ++ x) c (completes ((g ++ x) ++ c) (front_completes (After q) base n (ss ++ s ∷ []) ((g ++ x) ++ c) after)) some
 scalar_completes (Next q) base n ss s g x c wants early is scalar some =
     let after =
-        subst (λ z. IsFront base (After q) n (ss ++ s ∷ []) z) (sym (append_assoc g x c)) (front_next base q n ss s g (x ++ c) is scalar) in
+    subst (λ z. IsFront base (After q) n (ss ++ s ∷ []) z) (sym (append_assoc g x c)) (front_next base q n ss s g (x ++ c) is scalar) in
     completes_more (g ++ x) c (completes ((g ++ x) ++ c) (front_completes (After q) base n (ss ++ s ∷ []) ((g ++ x) ++ c) after)) some
 scalar_completes _ base n ss s g x c wants early is scalar some = absurd cc
 
@@ -171,13 +186,13 @@ digits_complete : (p : Phase) (base : ℕ) (n : List ℕ) (ss : List Scalar) (g 
     → IsFront base p n ss g → IsDigits w → Completes (g ++ w)
 digits_complete p base n ss g w wants early is digits =
     scalar_completes p base n ss (Number (digits_value 10 (w ++ 48 ∷ []))) g w (48 ∷ []) wants early is
-        (digit_more w 48 digits zero_digit, refl) (omega arith)
+    (digit_more w 48 digits zero_digit, refl) (omega arith)
 
 pub escaped_append : (a b : List ℕ) → escaped (a ++ b) ≡ escaped a ++ escaped b
 escaped_append [] b = refl
 escaped_append (c ∷ a) b =
     ap (λ z. cond (is_escaped (kind c)) (92 ∷ c ∷ z) (c ∷ z)) (escaped_append a b)
-        ∙ sym (cond-append (is_escaped (kind c)) (92 ∷ c ∷ escaped a) (c ∷ escaped a) (escaped b))
+    ∙ sym (cond-append (is_escaped (kind c)) (92 ∷ c ∷ escaped a) (c ∷ escaped a) (escaped b))
 
 pub quoted : (s : List ℕ) → IsContent s → IsScalar (34 ∷ (escaped s ++ 34 ∷ [])) (Text s)
 quoted s content = (content, refl)
@@ -212,7 +227,7 @@ escape_completes p base n ss g w wants early is content =
     ap (λ z. g ++ (34 ∷ z)) (escaped_mark w 34 quote_escaped) ∙ simp append_assoc refl in
     completes_more (g ++ (34 ∷ (escaped w ++ 92 ∷ []))) (34 ∷ [])
     (subst Completes whole (string_completes p base n ss g (w ++ 34 ∷ []) wants early is (content_more w 34 content quote_allowed)))
-        (omega arith)
+    (omega arith)
 
 feed_ends : after_gap true (10 ∷ []) ≡ Some false
 unfolding kind
@@ -223,7 +238,7 @@ pub comment_front : (p : Phase) (base : ℕ) (n : List ℕ) (ss : List Scalar) (
     → after_gap false c ≡ Some true → IsFront base p n ss ((g ++ c) ++ 10 ∷ [])
 comment_front p base n ss g c is comment =
     subst (IsFront base p n ss) (sym (append_assoc g c (10 ∷ [])))
-        (front_gap p base n ss g (c ++ 10 ∷ []) is (gap_append false c (10 ∷ []) true false comment feed_ends))
+    (front_gap p base n ss g (c ++ 10 ∷ []) is (gap_append false c (10 ∷ []) true false comment feed_ends))
 
 word_completes : (p : Phase) (base : ℕ) (n : List ℕ) (ss : List Scalar) (g w : List ℕ) → IsEarly p ss → IsFront base p n ss g
     → IsWordFor p w → Completes (g ++ w)
@@ -241,8 +256,8 @@ pub tail_completes : (m : Mode) (p : Phase) (base : ℕ) (w n : List ℕ) (ss : 
 tail_completes Between p base w n ss f early (none, is) = completes f (front_completes p base n ss f is)
 tail_completes Comment p base w n ss f early (g, c, none, is, comment, parts) =
     subst Completes (sym parts) (completes_more (g ++ c) (10 ∷ [])
-        (completes ((g ++ c) ++ 10 ∷ []) (front_completes p base n ss ((g ++ c) ++ 10 ∷ []) (comment_front p base n ss g c is comment)))
-        (omega arith))
+    (completes ((g ++ c) ++ 10 ∷ []) (front_completes p base n ss ((g ++ c) ++ 10 ∷ []) (comment_front p base n ss g c is comment)))
+    (omega arith))
 tail_completes Word p base w n ss f early (g, is, word, parts) = subst Completes (sym parts) (word_completes p base n ss g w early is word)
 tail_completes (String q) p base w n ss f early (g, is, wants, content, parts, place) =
     subst Completes (sym parts) (string_completes p base n ss g w wants early is content)

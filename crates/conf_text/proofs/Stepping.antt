@@ -1,29 +1,29 @@
 -- What the bytes read so far are, one byte later.
-use Rattle.std.proofs.Common.{◌≡◌, ℕ, suc, ◌+◌, ◌≤◌, Bool, true, false, cond, ltb, List, [], ◌∷◌, ◌++◌, length, take, Ok, Err, refl, sym,
-    ap, subst, ◌∙◌, append_assoc, length-append, arith}
+use Rattle.std.proofs.Common.{◌≡◌, ℕ, suc, ◌+◌, ◌≤◌, Bool, true, false, cond, ltb, List, [], ◌∷◌, ◌++◌, length, take, Ok, Err, refl, sym}
+use Rattle.std.proofs.Common.{ap, subst, ◌∙◌, append_assoc, length-append, arith}
 use Rattle.std.proofs.lemmas.Bool.{ltb-false}
 use Rattle.std.specs.List.{list_all}
 use Rattle.conf_text.specs.declared.refusal.ConfRefusal.TheVariants.{BadToken, TooDeep}
 use Rattle.conf_text.specs.declared.kind.Kind.{Kind}
-use Rattle.conf_text.specs.declared.kind.Kind.TheVariants.{Digit, Letter, Blank, LineFeed, Hash, Quote, Backslash, OpenBrace, CloseBrace,
-    OpenBracket, CloseBracket, Equals, Comma, Zero, Other}
+use Rattle.conf_text.specs.declared.kind.Kind.TheVariants.{Digit, Letter, Blank, LineFeed, Hash, Quote, Backslash, OpenBrace, CloseBrace}
+use Rattle.conf_text.specs.declared.kind.Kind.TheVariants.{OpenBracket, CloseBracket, Equals, Comma, Zero, Other}
 use Rattle.conf_text.specs.Bytes.{kind}
 use Rattle.conf_text.specs.declared.reader.Mode.TheVariants.{Between, Comment, Word, String}
 use Rattle.conf_text.specs.declared.reader.Phase.{Phase}
 use Rattle.conf_text.specs.declared.reader.Phase.TheVariants.{Item, Named, Wanted, First, Next, After}
-use Rattle.conf_text.specs.Entries.{Scalar, Value, Many, ConfEntry, Open, Close, Assign, sections, is_given, fits_scalar, scalars_of,
-    keeps_limits}
+use Rattle.conf_text.specs.Entries.{Scalar, Value, Many, ConfEntry, Open, Close, Assign, sections, is_given, fits_scalar, scalars_of}
+use Rattle.conf_text.specs.Entries.{keeps_limits}
 use Rattle.conf_text.specs.Grammar.{is_name, IsGap, IsName, IsDigits, EndsWord, IsEntry, EndsEntry, BeginsWith}
 use Rattle.conf_text.specs.Refusals.{Begins}
-use Rattle.conf_text.specs.Reader.{Read, closed, item_begun, named_begun, value_begun, first_begun, next_begun, after_begun, token_begun,
-    begun}
+use Rattle.conf_text.specs.Reader.{Read, closed, item_begun, named_begun, value_begun, first_begun, next_begun, after_begun, token_begun}
+use Rattle.conf_text.specs.Reader.{begun}
 use Rattle.conf_text.proofs.Accepted.{between, item}
 use Rattle.conf_text.proofs.ByteOf.{byte_of}
 use Rattle.conf_text.proofs.Depth.{entries_limited}
-use Rattle.conf_text.proofs.Fronts.{IsFront, front_gap, front_equals, front_bracket, front_comma, entry_open, entry_close, entry_empty,
-    entry_list}
-use Rattle.conf_text.proofs.Standing.{IsWordFor, Stands, RefusedEarly, goes_on, new_entry, ends_key, keeps_key, bad_here, front_begins,
-    begins_front}
+use Rattle.conf_text.proofs.Fronts.{IsFront, front_gap, front_equals, front_bracket, front_comma, entry_open, entry_close, entry_empty}
+use Rattle.conf_text.proofs.Fronts.{entry_list}
+use Rattle.conf_text.proofs.Standing.{IsWordFor, Stands, RefusedEarly, goes_on, new_entry, ends_key, keeps_key, bad_here, front_begins}
+use Rattle.conf_text.proofs.Standing.{begins_front}
 use Rattle.conf_text.proofs.Steps.{in_state, wants_scalar}
 use Rattle.conf_text.proofs.Upto.{Any, grow, opened_section, closed_section, opens_begins, upto_begins}
 
@@ -47,7 +47,7 @@ gap_good : {P : List ℕ → Type 0} (x : List ℕ) (b : ℕ) (p : Phase) (n : L
     → IsGap (b ∷ []) → Ready P x b p n ss es bs → Good x b (Ok (between p n ss es bs))
 gap_good x b p n ss es bs gap (h, may, weak) =
     goes_on x b (between p n ss es bs) may h Between p [] n ss h.fresh h.fit h.early
-        (refl, front_gap p h.base n ss h.front (b ∷ []) h.tail.1 gap)
+    (refl, front_gap p h.base n ss h.front (b ∷ []) h.tail.1 gap)
 
 blank_gap : (b : ℕ) → kind b ≡ Blank → IsGap (b ∷ [])
 blank_gap b e = rw e refl
@@ -76,7 +76,7 @@ quote_good : {P : List ℕ → Type 0} (x : List ℕ) (b at : ℕ) (p : Phase) (
     → Good x b (Ok (in_state (String at) p [] n ss es bs))
 quote_good x b at p n ss es bs same wants e (h, may, weak) =
     goes_on x b (between p n ss es bs) may h (String at) p [] n ss h.fresh h.fit h.early
-        (h.front, h.tail.1, wants, refl, ap (λ z. h.front ++ (z ∷ [])) (byte_of b Quote e), same ∙ sym h.place)
+    (h.front, h.tail.1, wants, refl, ap (λ z. h.front ++ (z ∷ [])) (byte_of b Quote e), same ∙ sym h.place)
 
 -- a key's entry ends with this byte
 key_good : {P : List ℕ → Type 0} (x : List ℕ) (b : ℕ) (p : Phase) (n : List ℕ) (ss : List Scalar) (es : List ConfEntry) (bs : List ℕ)
@@ -92,7 +92,7 @@ closed_good x b at n ss es [] same e h = bad x b at Item n ss es [] same h
 closed_good x b at n ss es (p ∷ bs) same e (h, may, weak) =
     let entry = subst (λ z. IsEntry (h.front ++ z ∷ []) Close) (sym (byte_of b CloseBrace e)) (entry_close h.base n ss h.front h.tail.1) in
     new_entry (x ++ b ∷ []) (es ++ Close ∷ []) bs
-        (closed_section (x ++ b ∷ []) es p bs (h.front ++ b ∷ []) entry (grow x b es (p ∷ bs) h.front may h.upto))
+    (closed_section (x ++ b ∷ []) es p bs (h.front ++ b ∷ []) entry (grow x b es (p ∷ bs) h.front may h.upto))
 
 item_good : {P : List ℕ → Type 0} (x : List ℕ) (k : Kind) (b at : ℕ) (n : List ℕ) (ss : List Scalar) (es : List ConfEntry) (bs : List ℕ)
     → at ≡ length x → kind b ≡ k → Ready P x b Item n ss es bs → Good x b (item_begun k b at (between Item n ss es bs))
@@ -112,13 +112,13 @@ opened_good true x b at n ss es bs same e deep (h, may, weak) =
     let entry = subst (λ z. IsEntry (h.front ++ z ∷ []) (Open n)) (sym (byte_of b OpenBrace e)) (entry_open h.base n ss h.front h.tail.1) in
     let place : suc at ≡ length (x ++ b ∷ []) = omega (arith, same, length-append x (b ∷ [])) in
     new_entry (x ++ b ∷ []) (es ++ Open n ∷ []) (at ∷ bs)
-        (opened_section (x ++ b ∷ []) es bs (h.front ++ b ∷ []) n at entry place (open_keeps (sections es) n h.fresh deep)
-        (grow x b es bs h.front may h.upto))
+    (opened_section (x ++ b ∷ []) es bs (h.front ++ b ∷ []) n at entry place (open_keeps (sections es) n h.fresh deep)
+    (grow x b es bs h.front may h.upto))
 opened_good {P} false x b at n ss es bs same e deep (h, may, weak) = λ y.
     let brace = byte_of b OpenBrace e in
     let begins =
-        subst (λ z. Begins (x ++ z ∷ [])) (sym brace)
-            (opens_begins x es bs h.front n (entry_open h.base n ss h.front h.tail.1) (λ z. subst (λ k. P (k ∷ z)) brace (may z)) h.upto) in
+    subst (λ z. Begins (x ++ z ∷ [])) (sym brace)
+    (opens_begins x es bs h.front n (entry_open h.base n ss h.front h.tail.1) (λ z. subst (λ k. P (k ∷ z)) brace (may z)) h.upto) in
     let place : suc at ≤ length (x ++ b ∷ []) = omega (arith, same, length-append x (b ∷ [])) in (
       record {
         before = es;
@@ -131,7 +131,7 @@ opened_good {P} false x b at n ss es bs same e deep (h, may, weak) = λ y.
         header = h.tail.1;
         deep =
             let most : length (sections es) ≤ 17 = entries_limited es ([] ∷ []) h.upto.limits (omega arith) in omega
-                (arith, most, ltb-false (length (sections es)) 17 deep);
+            (arith, most, ltb-false (length (sections es)) 17 deep);
         place_is = omega (arith, same, length-append x (b ∷ y));
       },
       subst (λ z. Begins (take (suc at) z)) (append_assoc x (b ∷ []) y) (begins_front (x ++ b ∷ []) y (suc at) place begins),
@@ -140,9 +140,11 @@ opened_good {P} false x b at n ss es bs same e deep (h, may, weak) = λ y.
 named_good : {P : List ℕ → Type 0} (x : List ℕ) (k : Kind) (b at : ℕ) (n : List ℕ) (ss : List Scalar) (es : List ConfEntry) (bs : List ℕ)
     → at ≡ length x → kind b ≡ k → Ready P x b Named n ss es bs → Good x b (named_begun k at (between Named n ss es bs))
 named_good x Equals b at n ss es bs same e (h, may, weak) =
-    goes_on x b (between Named n ss es bs) may h Between Wanted [] n ss h.fresh h.fit h.early
-        (refl, subst (λ z. IsFront h.base Wanted n ss (h.front ++ z ∷ [])) (sym (byte_of b Equals e))
-        (front_equals h.base n ss h.front h.tail.1))
+    goes_on x b (between Named n ss es bs) may h Between Wanted [] n ss h.fresh h.fit h.early (
+      refl,
+      subst (λ z. IsFront h.base Wanted n ss (h.front ++ z ∷ [])) (sym (byte_of b Equals e))
+          (front_equals h.base n ss h.front h.tail.1),
+    )
 named_good x OpenBrace b at n ss es bs same e h = opened_good (ltb (length (sections es)) 17) x b at n ss es bs same e refl h
 named_good x _ b at n ss es bs same e h = bad x b at Named n ss es bs same h
 
@@ -151,10 +153,12 @@ value_good : {P : List ℕ → Type 0} (x : List ℕ) (k : Kind) (b at : ℕ) (n
 value_good x Digit b at n ss es bs same e h = word_good x b Wanted n ss es bs (one_digit b e) h
 value_good x Quote b at n ss es bs same e h = quote_good x b at Wanted n ss es bs same refl e h
 value_good x OpenBracket b at n ss es bs same e (h, may, weak) =
-    goes_on x b (between Wanted n ss es bs) may h Between (First at) [] n ss h.fresh h.fit h.early
-    (refl, subst (λ q. IsFront h.base (First q) n ss (h.front ++ b ∷ [])) (h.place ∙ sym same)
-        (subst (λ z. IsFront h.base (First (h.base + length h.front)) n ss (h.front ++ z ∷ [])) (sym (byte_of b OpenBracket e))
-        (front_bracket h.base n ss h.front h.tail.1)))
+    goes_on x b (between Wanted n ss es bs) may h Between (First at) [] n ss h.fresh h.fit h.early (
+      refl,
+      subst (λ q. IsFront h.base (First q) n ss (h.front ++ b ∷ [])) (h.place ∙ sym same)
+          (subst (λ z. IsFront h.base (First (h.base + length h.front)) n ss (h.front ++ z ∷ [])) (sym (byte_of b OpenBracket e))
+          (front_bracket h.base n ss h.front h.tail.1)),
+    )
 value_good x _ b at n ss es bs same e h = bad x b at Wanted n ss es bs same h
 
 first_good : {P : List ℕ → Type 0} (x : List ℕ) (k : Kind) (b at q : ℕ) (n : List ℕ) (ss : List Scalar) (es : List ConfEntry) (bs : List ℕ)
@@ -163,8 +167,8 @@ first_good x Digit b at q n ss es bs same e h = word_good x b (First q) n ss es 
 first_good x Quote b at q n ss es bs same e h = quote_good x b at (First q) n ss es bs same refl e h
 first_good x CloseBracket b at q n ss es bs same e h =
     key_good x b (First q) n ss es bs (Many []) h h.0.fresh refl
-        (subst (λ z. IsEntry (h.0.front ++ z ∷ []) (Assign n (Many []))) (sym (byte_of b CloseBracket e))
-        (entry_empty h.0.base q n ss h.0.front h.0.tail.1)) (λ y. tt)
+    (subst (λ z. IsEntry (h.0.front ++ z ∷ []) (Assign n (Many []))) (sym (byte_of b CloseBracket e))
+    (entry_empty h.0.base q n ss h.0.front h.0.tail.1)) (λ y. tt)
 first_good x _ b at q n ss es bs same e h = bad x b at (First q) n ss es bs same h
 
 next_good : {P : List ℕ → Type 0} (x : List ℕ) (k : Kind) (b at q : ℕ) (n : List ℕ) (ss : List Scalar) (es : List ConfEntry) (bs : List ℕ)
@@ -176,13 +180,15 @@ next_good x _ b at q n ss es bs same e h = bad x b at (Next q) n ss es bs same h
 after_good : {P : List ℕ → Type 0} (x : List ℕ) (k : Kind) (b at q : ℕ) (n : List ℕ) (ss : List Scalar) (es : List ConfEntry) (bs : List ℕ)
     → at ≡ length x → kind b ≡ k → Ready P x b (After q) n ss es bs → Good x b (after_begun q k at (between (After q) n ss es bs))
 after_good x Comma b at q n ss es bs same e (h, may, weak) =
-    goes_on x b (between (After q) n ss es bs) may h Between (Next q) [] n ss h.fresh h.fit tt
-        (refl, subst (λ z. IsFront h.base (Next q) n ss (h.front ++ z ∷ [])) (sym (byte_of b Comma e))
-        (front_comma h.base q n ss h.front h.tail.1))
+    goes_on x b (between (After q) n ss es bs) may h Between (Next q) [] n ss h.fresh h.fit tt (
+      refl,
+      subst (λ z. IsFront h.base (Next q) n ss (h.front ++ z ∷ [])) (sym (byte_of b Comma e))
+          (front_comma h.base q n ss h.front h.tail.1),
+    )
 after_good x CloseBracket b at q n ss es bs same e h =
     key_good x b (After q) n ss es bs (Many ss) h h.0.fresh h.0.fit
-        (subst (λ z. IsEntry (h.0.front ++ z ∷ []) (Assign n (Many ss))) (sym (byte_of b CloseBracket e))
-        (entry_list h.0.base q n ss h.0.front h.0.tail.1)) (λ y. tt)
+    (subst (λ z. IsEntry (h.0.front ++ z ∷ []) (Assign n (Many ss))) (sym (byte_of b CloseBracket e))
+    (entry_list h.0.base q n ss h.0.front h.0.tail.1)) (λ y. tt)
 after_good x _ b at q n ss es bs same e h = bad x b at (After q) n ss es bs same h
 
 token_good : {P : List ℕ → Type 0} (x : List ℕ) (p : Phase) (k : Kind) (b at : ℕ) (n : List ℕ) (ss : List Scalar) (es : List ConfEntry)

@@ -1,6 +1,6 @@
 -- What the reader does over gaps, words and strings.
-use Rattle.std.proofs.Common.{◌≡◌, ℕ, suc, ◌+◌, ◌-◌, Bool, true, false, List, [], ◌∷◌, ◌++◌, length, ◌^◌, Option, Some, None, Ok, refl, ap,
-    subst, ◌∙◌, append_assoc, arith, cond, ltb, add-zero}
+use Rattle.std.proofs.Common.{◌≡◌, ℕ, suc, ◌+◌, ◌-◌, Bool, true, false, List, [], ◌∷◌, ◌++◌, length, ◌^◌, Option, Some, None, Ok, refl, ap}
+use Rattle.std.proofs.Common.{subst, ◌∙◌, append_assoc, arith, cond, ltb, add-zero}
 use Rattle.std.proofs.lemmas.List.{append-nil}
 use Rattle.std.specs.Prelude.{unwrap_or, ◌&&◌}
 use Rattle.std.specs.Option.{option_and_then}
@@ -73,17 +73,17 @@ pub gap_reaches : (c : Bool) (g rest : List ℕ) (at : ℕ) (p : Phase) (w n : L
 gap_reaches c [] rest at p w n ss es bs d e =
     let same : c ≡ d = ap (λ o. unwrap_or o false) e in
     subst (λ x. Reaches at (in_state (gap_mode c) p w n ss es bs) rest (at + 0) (in_state (gap_mode x) p w n ss es bs) rest) same
-        (subst (λ k. Reaches at (in_state (gap_mode c) p w n ss es bs) rest k (in_state (gap_mode c) p w n ss es bs) rest) (omega arith)
-        (reaches_itself at (in_state (gap_mode c) p w n ss es bs) rest))
+    (subst (λ k. Reaches at (in_state (gap_mode c) p w n ss es bs) rest k (in_state (gap_mode c) p w n ss es bs) rest) (omega arith)
+    (reaches_itself at (in_state (gap_mode c) p w n ss es bs) rest))
 gap_reaches c (b ∷ g) rest at p w n ss es bs d e =
     let (next, first, others) = and_then_some (λ x. after_gap x g) (gap_byte c (kind b)) d e in
     let one =
-        reaches_step at b (in_state (gap_mode c) p w n ss es bs) (in_state (gap_mode next) p w n ss es bs) (g ++ rest)
-            (gap_byte_step c b at p w n ss es bs next first) in
+    reaches_step at b (in_state (gap_mode c) p w n ss es bs) (in_state (gap_mode next) p w n ss es bs) (g ++ rest)
+    (gap_byte_step c b at p w n ss es bs next first) in
     let more = gap_reaches next g rest (at + 1) p w n ss es bs d others in
     let place : (at + 1) + length g ≡ at + suc (length g) = omega arith in
     subst (λ k. Reaches at (in_state (gap_mode c) p w n ss es bs) (b ∷ (g ++ rest)) k (in_state (gap_mode d) p w n ss es bs) rest) place
-        (reaches_then one more)
+    (reaches_then one more)
 
 -- bytes of a name
 pub name_step : (k : Kind) (b at : ℕ) (w n : List ℕ) (ss : List Scalar) (es : List ConfEntry) (bs : List ℕ) → is_name k ≡ true
@@ -131,8 +131,8 @@ name_more [] rest at w n ss es bs e = rw (append-nil, add-zero) (reaches_itself 
 name_more (b ∷ x) rest at w n ss es bs e =
     let (first, others) = both_true (is_name (kind b)) (list_all (λ b. is_name (kind b)) x) e in
     let one =
-        reaches_step at b (in_state Word Item w n ss es bs) (in_state Word Item (w ++ b ∷ []) n ss es bs) (x ++ rest)
-            (step_is Word (kind b) b at (in_state Word Item w n ss es bs) refl refl ∙ name_step (kind b) b at w n ss es bs first) in
+    reaches_step at b (in_state Word Item w n ss es bs) (in_state Word Item (w ++ b ∷ []) n ss es bs) (x ++ rest)
+    (step_is Word (kind b) b at (in_state Word Item w n ss es bs) refl refl ∙ name_step (kind b) b at w n ss es bs first) in
     let more = name_more x rest (at + 1) (w ++ b ∷ []) n ss es bs others in
     let place : (at + 1) + length x ≡ at + suc (length x) = omega arith in
     let both = reaches_then one more in
@@ -145,8 +145,8 @@ digits_more [] rest at p w n ss es bs e = rw (append-nil, add-zero) (reaches_its
 digits_more (b ∷ x) rest at p w n ss es bs e =
     let (first, others) = both_true (is_digit (kind b)) (list_all (λ b. is_digit (kind b)) x) e in
     let one =
-        reaches_step at b (in_state Word p w n ss es bs) (in_state Word p (w ++ b ∷ []) n ss es bs) (x ++ rest)
-            (step_is Word (kind b) b at (in_state Word p w n ss es bs) refl refl ∙ digit_step (kind b) b at p w n ss es bs first) in
+    reaches_step at b (in_state Word p w n ss es bs) (in_state Word p (w ++ b ∷ []) n ss es bs) (x ++ rest)
+    (step_is Word (kind b) b at (in_state Word p w n ss es bs) refl refl ∙ digit_step (kind b) b at p w n ss es bs first) in
     let more = digits_more x rest (at + 1) p (w ++ b ∷ []) n ss es bs others in
     let place : (at + 1) + length x ≡ at + suc (length x) = omega arith in
     let both = reaches_then one more in
@@ -169,7 +169,7 @@ word_ends (b ∷ rest) at p p' w n n' ss ss' es es' bs bs' ends e =
     let r = in_state Word p w n ss es bs in
     let s = in_state Between p' [] n' ss' es' bs' in
     let one : step at b r ≡ step at b s =
-        word_step p (kind b) b at r refl ends ∙ ap (λ (x : Read). x >>= λ t. begun t.phase (kind b) b at t) e in
+    word_step p (kind b) b at r refl ends ∙ ap (λ (x : Read). x >>= λ t. begun t.phase (kind b) b at t) e in
     record { same = ap (λ (x : Read). x >>= λ t. outcome (at + 1) t rest) one; place = refl }
 
 -- ---- strings
@@ -203,17 +203,19 @@ pub letter_reaches : (c : Bool) (b : ℕ) (rest : List ℕ) (at q : ℕ) (p : Ph
     (bs : List ℕ) → is_allowed (kind b) ≡ true → is_escaped (kind b) ≡ c
     → (m : ℕ) × Reaches at (in_state (String q) p w n ss es bs) (cond c (92 ∷ b ∷ rest) (b ∷ rest)) m
     (in_state (String q) p (w ++ b ∷ []) n ss es bs) rest
-letter_reaches false b rest at q p w n ss es bs e f =
-    (at + 1, reaches_step at b (in_state (String q) p w n ss es bs) (in_state (String q) p (w ++ b ∷ []) n ss es bs) rest
-        (step_is (String q) (kind b) b at (in_state (String q) p w n ss es bs) refl refl ∙ plain_step (kind b) b at q p w n ss es bs e f))
+letter_reaches false b rest at q p w n ss es bs e f = (
+  at + 1,
+  reaches_step at b (in_state (String q) p w n ss es bs) (in_state (String q) p (w ++ b ∷ []) n ss es bs) rest
+      (step_is (String q) (kind b) b at (in_state (String q) p w n ss es bs) refl refl ∙ plain_step (kind b) b at q p w n ss es bs e f),
+)
 letter_reaches true b rest at q p w n ss es bs e f =
     let one =
-        reaches_step at 92 (in_state (String q) p w n ss es bs) (in_state (Escape q) p w n ss es bs) (b ∷ rest)
-            (step_is (String q) Backslash 92 at (in_state (String q) p w n ss es bs) refl kind-backslash) in
+    reaches_step at 92 (in_state (String q) p w n ss es bs) (in_state (Escape q) p w n ss es bs) (b ∷ rest)
+    (step_is (String q) Backslash 92 at (in_state (String q) p w n ss es bs) refl kind-backslash) in
     let two =
-        reaches_step (at + 1) b (in_state (Escape q) p w n ss es bs) (in_state (String q) p (w ++ b ∷ []) n ss es bs) rest
-            (step_is (Escape q) (kind b) b (at + 1) (in_state (Escape q) p w n ss es bs) refl refl
-            ∙ escaped_step (kind b) b (at + 1) q p w n ss es bs f) in
+    reaches_step (at + 1) b (in_state (Escape q) p w n ss es bs) (in_state (String q) p (w ++ b ∷ []) n ss es bs) rest
+    (step_is (Escape q) (kind b) b (at + 1) (in_state (Escape q) p w n ss es bs) refl refl
+    ∙ escaped_step (kind b) b (at + 1) q p w n ss es bs f) in
     (at + 1 + 1, reaches_then one two)
 
 pub cond-append : (c : Bool) (x y rest : List ℕ) → (cond c x y) ++ rest ≡ cond c (x ++ rest) (y ++ rest)
@@ -227,9 +229,11 @@ string_more [] rest at q p w n ss es bs e = (at, rw append-nil (reaches_itself a
 string_more (b ∷ s) rest at q p w n ss es bs e =
     let (first, others) = both_true (is_allowed (kind b)) (list_all (λ b. is_allowed (kind b)) s) e in
     let (k, one) = letter_reaches (is_escaped (kind b)) b (escaped s ++ rest) at q p w n ss es bs first refl in
-    let (m, more) = string_more s rest k q p (w ++ b ∷ []) n ss es bs others in
-    (m, rw (cond-append (is_escaped (kind b)) (92 ∷ b ∷ escaped s) (b ∷ escaped s) rest, ← append_assoc w (b ∷ []) s)
-        (reaches_then one more))
+    let (m, more) = string_more s rest k q p (w ++ b ∷ []) n ss es bs others in (
+      m,
+      rw (cond-append (is_escaped (kind b)) (92 ∷ b ∷ escaped s) (b ∷ escaped s) rest, ← append_assoc w (b ∷ []) s)
+          (reaches_then one more),
+    )
 
 -- ---- scalars
 
@@ -276,20 +280,20 @@ scalar_arrives (Number k) [] rest at p n ss es bs f h e ends = absurd (h.0.0 ref
 scalar_arrives (Number k) (b ∷ x) rest at p n ss es bs f h e ends =
     let (first, others) = both_true (is_digit (kind b)) (list_all (λ b. is_digit (kind b)) x) h.0.1 in
     let one =
-        reaches_step at b (in_state Between p [] n ss es bs) (in_state Word p (b ∷ []) n ss es bs) (x ++ rest)
-            (step_is Between (kind b) b at (in_state Between p [] n ss es bs) refl refl
-            ∙ digit_begins (kind b) b at p n ss es bs f first) in
+    reaches_step at b (in_state Between p [] n ss es bs) (in_state Word p (b ∷ []) n ss es bs) (x ++ rest)
+    (step_is Between (kind b) b at (in_state Between p [] n ss es bs) refl refl
+    ∙ digit_begins (kind b) b at p n ss es bs f first) in
     let more = digits_more x rest (at + 1) p (b ∷ []) n ss es bs others in
     let small : ltb (digits_value 10 (b ∷ x)) (2 ^ 64) ≡ true = rw (← h.1) e in
     let last = number_ends p (at + 1 + length x) (b ∷ x) n ss es bs rest f small ends in
     (at + 1 + length x, rw h.1 (reaches_then one (reaches_then more last)))
 scalar_arrives (Text s) x rest at p n ss es bs f h e ends =
     let one =
-        reaches_step at 34 (in_state Between p [] n ss es bs) (in_state (String at) p [] n ss es bs) (escaped s ++ 34 ∷ rest)
-            (step_is Between Quote 34 at (in_state Between p [] n ss es bs) refl kind-quote ∙ quote_begins p at n ss es bs f) in
+    reaches_step at 34 (in_state Between p [] n ss es bs) (in_state (String at) p [] n ss es bs) (escaped s ++ 34 ∷ rest)
+    (step_is Between Quote 34 at (in_state Between p [] n ss es bs) refl kind-quote ∙ quote_begins p at n ss es bs f) in
     let (m, more) = string_more s (34 ∷ rest) (at + 1) at p [] n ss es bs h.0 in
     let last =
-        reaches_step m 34 (in_state (String at) p s n ss es bs) (with_scalar p (in_state Between p [] n ss es bs) (Text s)) rest
-            (step_is (String at) Quote 34 m (in_state (String at) p s n ss es bs) refl kind-quote ∙ string_ends p m at s n ss es bs f) in
+    reaches_step m 34 (in_state (String at) p s n ss es bs) (with_scalar p (in_state Between p [] n ss es bs) (Text s)) rest
+    (step_is (String at) Quote 34 m (in_state (String at) p s n ss es bs) refl kind-quote ∙ string_ends p m at s n ss es bs f) in
     let whole : x ++ rest ≡ 34 ∷ escaped s ++ 34 ∷ rest = rw (h.1, append_assoc) refl in
     (m + 1, rw whole (reaches_then one (reaches_then more last)))

@@ -1,6 +1,6 @@
 -- Tokens of a text, or a cause, are what is taken: so there is one outcome at most.
-use Rattle.std.proofs.Common.{◌≡◌, ℕ, ◌+◌, Bool, true, false, List, [], ◌∷◌, ◌++◌, length, Option, Some, None, Ok, Err, refl, sym, ap, ◌∙◌,
-    append_assoc, inl, inr, arith}
+use Rattle.std.proofs.Common.{◌≡◌, ℕ, ◌+◌, Bool, true, false, List, [], ◌∷◌, ◌++◌, length, Option, Some, None, Ok, Err, refl, sym, ap, ◌∙◌}
+use Rattle.std.proofs.Common.{append_assoc, inl, inr, arith}
 use Rattle.std.specs.Prelude.{if◌then◌else◌, IsSome}
 use Rattle.std.specs.List.{list_all}
 use Rattle.std.specs.Option.{option_and_then}
@@ -14,13 +14,13 @@ use Rattle.conf_text.specs.declared.token.TokenKind.TheVariants.{Word, Text, Mar
 use Rattle.conf_text.specs.Bytes.{kind}
 use Rattle.conf_text.specs.Grammar.{is_name, EndsWord, gap_byte, after_gap, is_escaped, is_allowed, IsContent, escaped}
 use Rattle.conf_text.specs.Scan.{Mode, Between, InWord, InString, is_quote, closes, token, string_byte, with_tokens, scan}
-use Rattle.conf_text.specs.Tokens.{IsTokenBytes, EndsToken, BeginsToken, BeginsTokens, AreTokens, may_stand, may_stand_in_string, inside,
-    IsBadBetween, IsBadInString, IsCutString, Stops, StopsAfterTokens}
-use Rattle.conf_text.proofs.KindTests.{bad_no_gap, bad_no_name, bad_no_quote, bad_no_mark, plain_no_quote, plain_goes_on, not_allowed_stops,
-    not_allowed_no_quote}
+use Rattle.conf_text.specs.Tokens.{IsTokenBytes, EndsToken, BeginsToken, BeginsTokens, AreTokens, may_stand, may_stand_in_string, inside}
+use Rattle.conf_text.specs.Tokens.{IsBadBetween, IsBadInString, IsCutString, Stops, StopsAfterTokens}
+use Rattle.conf_text.proofs.KindTests.{bad_no_gap, bad_no_name, bad_no_quote, bad_no_mark, plain_no_quote, plain_goes_on, not_allowed_stops}
+use Rattle.conf_text.proofs.KindTests.{not_allowed_no_quote}
 use Rattle.conf_text.proofs.Steps.{both_true, kind-quote, kind-backslash}
-use Rattle.conf_text.proofs.ScanBytes.{with_none, with_more, scan_none, gap_goes, comment_stuck, word_begins, string_begins, mark_taken,
-    nothing_begins, word_goes, word_stops, string_goes, string_stuck, string_closes}
+use Rattle.conf_text.proofs.ScanBytes.{with_none, with_more, scan_none, gap_goes, comment_stuck, word_begins, string_begins, mark_taken}
+use Rattle.conf_text.proofs.ScanBytes.{nothing_begins, word_goes, word_stops, string_goes, string_stuck, string_closes}
 
 -- what is taken at a place that is said otherwise
 elsewhere : (mode : Mode) (at to : ℕ) (rest : List ℕ) → at ≡ to → scan mode at rest ≡ scan mode to rest
@@ -103,15 +103,15 @@ token_taken Word [] rest at e ends = absurd (e.0 refl)
 token_taken Word (b ∷ word) rest at e ends =
     let (first, others) = both_true (is_name (kind b)) _ e.1 in
     word_begins at b (word ++ rest) first ∙ word_run word rest at (at + 1) others
-        ∙ elsewhere (InWord at) _ (at + length (b ∷ word)) rest (omega arith)
+    ∙ elsewhere (InWord at) _ (at + length (b ∷ word)) rest (omega arith)
     ∙ word_ends rest at (at + length (b ∷ word)) ends
 token_taken Text bytes rest at e ends =
     let (content, allowed, is) = e in
     let long : at + 1 + length (escaped content) + 1 ≡ at + length bytes =
-        rw is (omega (arith, length-append (escaped content) (34 ∷ []))) in
+    rw is (omega (arith, length-append (escaped content) (34 ∷ []))) in
     let regrouped : bytes ++ rest ≡ 34 ∷ (inside content false ++ 34 ∷ rest) = rw is (simp append_assoc refl) in
     ap (scan (Between false) at) regrouped ∙ open_run content (34 ∷ rest) false at allowed
-        ∙ quote_closes at (at + 1 + length (escaped content)) rest
+    ∙ quote_closes at (at + 1 + length (escaped content)) rest
     ∙ ap (λ n. with_tokens (token at n Text ∷ []) (scan (Between false) n rest)) long
 token_taken Mark bytes rest at e ends =
     let (b, mark, is) = e in
@@ -160,7 +160,7 @@ pub are_taken : (start : ℕ) (text : List ℕ) (tokens : List Token) → AreTok
 are_taken start text tokens h =
     let (at, place) = tokens_place tokens start text h.gap h.begun in
     tokens_come tokens start at text h.gap h.begun place ∙ ap (with_tokens tokens) (last_gap h.gap (after_gap false h.gap) at refl h.ended)
-        ∙ ap Ok (append-nil tokens)
+    ∙ ap Ok (append-nil tokens)
 
 -- ---- causes
 
@@ -189,7 +189,7 @@ bad_in_string_taken : (start : ℕ) (text : List ℕ) (place : ℕ) → IsBadInS
 bad_in_string_taken start text place h =
     let at = start + length h.gap in
     ap (scan (Between false) start) h.text_is
-        ∙ gap_run h.gap (34 ∷ (inside h.content h.slash ++ h.byte ∷ h.more)) false false start h.gap_is
+    ∙ gap_run h.gap (34 ∷ (inside h.content h.slash ++ h.byte ∷ h.more)) false false start h.gap_is
     ∙ open_run h.content (h.byte ∷ h.more) h.slash at h.content_is
     ∙ string_stuck (at + 1 + length (inside h.content h.slash)) h.byte h.more h.slash at (closed_not h.slash (kind h.byte) h.bad)
     (stuck_not h.slash (kind h.byte) h.bad)

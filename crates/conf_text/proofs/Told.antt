@@ -1,6 +1,6 @@
 -- What a text is read as: its tree, or the cause why it has none.
-use Rattle.std.proofs.Common.{◌≡◌, ℕ, ◌+◌, ◌-◌, ◌<◌, ◌≤◌, Bool, true, false, List, [], ◌∷◌, ◌++◌, length, Option, Some, None, Result, Ok,
-    Err, refl, sym, ap, subst, ◌∙◌, append_assoc, length-append, arith, inl, inr}
+use Rattle.std.proofs.Common.{◌≡◌, ℕ, ◌+◌, ◌-◌, ◌<◌, ◌≤◌, Bool, true, false, List, [], ◌∷◌, ◌++◌, length, Option, Some, None, Result, Ok}
+use Rattle.std.proofs.Common.{Err, refl, sym, ap, subst, ◌∙◌, append_assoc, length-append, arith, inl, inr}
 use Rattle.std.proofs.Math.Seq.{take-length}
 use Rattle.std.proofs.lemmas.List.{append-nil}
 use Rattle.std.specs.Prelude.{◌⊎◌, IsSome}
@@ -15,8 +15,8 @@ use Rattle.conf_text.specs.Grammar.{after_gap, IsGap, IsLastGap, IsContent, esca
 use Rattle.conf_text.specs.Refusals.{Begins, IsBeforeScalar, IsOpenString, IsOpenArray, IsOpenBrace}
 use Rattle.conf_text.specs.ReaderViews.{IsWordOf}
 use Rattle.conf_text.specs.Reader.{Reader, Read, ◌>>=◌, start, step, outcome, reading, ended, ended_in, ended_between, word_ended}
-use Rattle.conf_text.proofs.Fronts.{IsFront, IsEarly, IsList, Completes, completes, before_first, before_wanted, before_next,
-    front_completes}
+use Rattle.conf_text.proofs.Fronts.{IsFront, IsEarly, IsList, Completes, completes, before_first, before_wanted, before_next}
+use Rattle.conf_text.proofs.Fronts.{front_completes}
 use Rattle.conf_text.specs.Bytes.{kind}
 use Rattle.conf_text.proofs.Pieces.{gap_gap, gap_append, array_gap, array_more, begins_suffix}
 use Rattle.conf_text.proofs.Standing.{IsTail, Stands, RefusedEarly, front_begins, stands_begins, tail_completes}
@@ -62,7 +62,7 @@ tells_before from n text (Err (TooDeep p)) less h = h
 at_end : {P : List ℕ → Type 0} (x : List ℕ) (es : List ConfEntry) (bs front : List ℕ) → Upto P x es bs front → P [] → BeginsWith x es front
 at_end x es bs front h may =
     subst (λ z. BeginsWith z es front) (append-nil x)
-        (subst (λ z. BeginsWith (x ++ []) es z) (append-nil front) (upto_begins x es bs front [] h may))
+    (subst (λ z. BeginsWith (x ++ []) es z) (append-nil front) (upto_begins x es bs front [] h may))
 
 before_scalar : (p : Phase) (base : ℕ) (n : List ℕ) (ss : List Scalar) (f : List ℕ) → wants_scalar p ≡ true → IsEarly p ss
     → IsFront base p n ss f → IsBeforeScalar f n ss
@@ -92,7 +92,7 @@ string_open x q m p w n ss es bs g inside h wants is content inside_is parts pla
 abbrev ArrayPart : ℕ → ℕ → List ℕ → List ℕ → Type 0
 ArrayPart base q n f =
     (key inside closing : List ℕ) × (scalars : List Scalar) × IsKey key n × (f ≡ key ++ (91 ∷ inside)) × IsArray (inside ++ closing) scalars
-        × (q ≡ base + length key)
+    × (q ≡ base + length key)
 
 -- the place of the array's bracket
 abbrev in_array : Phase → Option ℕ
@@ -110,24 +110,45 @@ next_closed : (ss : List Scalar) (list g c t : List ℕ) → IsList list ss → 
 next_closed [] list g c t h gap more = absurd h
 next_closed (s ∷ ss) list g c t h gap more =
     let whole : list ++ (44 ∷ ((g ++ (c ++ t)) ++ (34 ∷ 34 ∷ []))) ≡ (list ++ (44 ∷ (g ++ c))) ++ (t ++ (34 ∷ 34 ∷ [])) =
-        simp append_assoc refl in
+    simp append_assoc refl in
     subst (λ z. IsArray z (s ∷ (ss ++ Text [] ∷ []))) whole
-        (array_more ss s (Text []) list (g ++ (c ++ t)) (34 ∷ 34 ∷ []) h (gap_gap g (c ++ t) gap more) (refl, refl))
+    (array_more ss s (Text []) list (g ++ (c ++ t)) (34 ∷ 34 ∷ []) h (gap_gap g (c ++ t) gap more) (refl, refl))
 
 array_part : (p : Phase) (q base : ℕ) (n : List ℕ) (ss : List Scalar) (f g c t : List ℕ) → in_array p ≡ Some q → IsFront base p n ss g
     → IsGap (c ++ t) → f ≡ g ++ c → ArrayPart base q n f
 array_part (First a) q base n ss f g c t e (key, k, key_is, gap, parts, place) more whole =
-    let same : a ≡ q = cc in
-    (key, k ++ c, t, [], key_is, whole ∙ ap (λ z. z ++ c) parts ∙ append_assoc key (91 ∷ k) c,
-        subst IsGap (sym (append_assoc k c t)) (gap_gap k (c ++ t) gap more), sym same ∙ place)
+    let same : a ≡ q = cc in (
+      key,
+      k ++ c,
+      t,
+      [],
+      key_is,
+      whole ∙ ap (λ z. z ++ c) parts ∙ append_assoc key (91 ∷ k) c,
+      subst IsGap (sym (append_assoc k c t)) (gap_gap k (c ++ t) gap more),
+      sym same ∙ place,
+    )
 array_part (Next a) q base n ss f g c t e (key, list, k, key_is, list_is, gap, parts, place) more whole =
-    let same : a ≡ q = cc in
-    (key, list ++ (44 ∷ (k ++ c)), t ++ (34 ∷ 34 ∷ []), ss ++ Text [] ∷ [], key_is, whole ∙ ap (λ z. z ++ c) parts ∙ simp append_assoc refl,
-        next_closed ss list k c t list_is gap more, sym same ∙ place)
+    let same : a ≡ q = cc in (
+      key,
+      list ++ (44 ∷ (k ++ c)),
+      t ++ (34 ∷ 34 ∷ []),
+      ss ++ Text [] ∷ [],
+      key_is,
+      whole ∙ ap (λ z. z ++ c) parts ∙ simp append_assoc refl,
+      next_closed ss list k c t list_is gap more,
+      sym same ∙ place,
+    )
 array_part (After a) q base n ss f g c t e (key, list, key_is, list_is, parts, place) more whole =
-    let same : a ≡ q = cc in
-    (key, list ++ c, t, ss, key_is, whole ∙ ap (λ z. z ++ c) parts ∙ simp append_assoc refl, list_closed ss list c t list_is more,
-        sym same ∙ place)
+    let same : a ≡ q = cc in (
+      key,
+      list ++ c,
+      t,
+      ss,
+      key_is,
+      whole ∙ ap (λ z. z ++ c) parts ∙ simp append_assoc refl,
+      list_closed ss list c t list_is more,
+      sym same ∙ place,
+    )
 array_part _ q base n ss f g c t e is more whole = absurd cc
 
 array_open : {P : List ℕ → Type 0} (x : List ℕ) (q base : ℕ) (n : List ℕ) (es : List ConfEntry) (bs front : List ℕ) → Upto P x es bs front
@@ -158,13 +179,13 @@ brace_open x p es bs front h may (closing, e, some, entry, assign) = open_ h.sta
           inside = h.inside;
           entries =
               subst (λ z. BeginsWith z ((outer ++ inner) ++ Open name ∷ []) h.inside) (sym h.bytes)
-                  (subst (λ z. BeginsWith (h.opened ++ h.inside) z h.inside) listed
-                  (stack_begins (p ∷ bs) h.opened h.done h.inside h.stack));
+              (subst (λ z. BeginsWith (h.opened ++ h.inside) z h.inside) listed
+              (stack_begins (p ∷ bs) h.opened h.done h.inside h.stack));
           inner = h.inner;
           rest = front;
           whole =
               subst (λ z. BeginsWith z h.inner front) (append-nil h.inside)
-                  (subst (λ z. BeginsWith (h.inside ++ []) h.inner z) (append-nil front) (h.entries [] may));
+              (subst (λ z. BeginsWith (h.inside ++ []) h.inner z) (append-nil front) (h.entries [] may));
           balanced = h.balanced;
           closing = closing;
           entry = e;
@@ -174,21 +195,21 @@ brace_open x p es bs front h may (closing, e, some, entry, assign) = open_ h.sta
 
 -- the end between tokens: a front, with a comment that may be open
 record Rest (P : List ℕ → Type 0) (x : List ℕ) (p : Phase) (n : List ℕ) (ss : List Scalar) (es : List ConfEntry) (bs : List ℕ) : Type 0
-    where
-  base : ℕ
-  front : List ℕ
-  upto : Upto P x es bs front
-  may : P []
-  place : base + length front ≡ length x
-  g : List ℕ
-  c : List ℕ
-  t : List ℕ
-  is : IsFront base p n ss g
-  gap : IsGap (c ++ t)
-  last : IsLastGap c
-  whole : front ≡ g ++ c
-  completes : Completes front
-  begins : Begins x
+  where
+    base : ℕ
+    front : List ℕ
+    upto : Upto P x es bs front
+    may : P []
+    place : base + length front ≡ length x
+    g : List ℕ
+    c : List ℕ
+    t : List ℕ
+    is : IsFront base p n ss g
+    gap : IsGap (c ++ t)
+    last : IsLastGap c
+    whole : front ≡ g ++ c
+    completes : Completes front
+    begins : Begins x
 
 item_last : (g c : List ℕ) → IsGap g → IsLastGap c → IsLastGap (g ++ c)
 item_last g c gap last = last_of (after_gap false c) refl last
@@ -199,23 +220,33 @@ item_last g c gap last = last_of (after_gap false c) refl last
 
 between_told : {P : List ℕ → Type 0} (p : Phase) (x n : List ℕ) (ss : List Scalar) (es : List ConfEntry) (bs : List ℕ) (r : Reader)
     → r.entries ≡ es → Rest P x p n ss es bs → Tells (length x) x (ended_between p bs (length x) r)
-between_told (First q) x n ss es bs r e h =
-    (h.begins, inr (inl (array_open x q h.base n es bs h.front h.upto h.may h.place
-        (array_part (First q) q h.base n ss h.front h.g h.c h.t refl h.is h.gap h.whole))))
-between_told (Next q) x n ss es bs r e h =
-    (h.begins, inr (inl (array_open x q h.base n es bs h.front h.upto h.may h.place
-        (array_part (Next q) q h.base n ss h.front h.g h.c h.t refl h.is h.gap h.whole))))
-between_told (After q) x n ss es bs r e h =
-    (h.begins, inr (inl (array_open x q h.base n es bs h.front h.upto h.may h.place
-        (array_part (After q) q h.base n ss h.front h.g h.c h.t refl h.is h.gap h.whole))))
+between_told (First q) x n ss es bs r e h = (
+  h.begins,
+  inr (inl (array_open x q h.base n es bs h.front h.upto h.may h.place
+      (array_part (First q) q h.base n ss h.front h.g h.c h.t refl h.is h.gap h.whole))),
+)
+between_told (Next q) x n ss es bs r e h = (
+  h.begins,
+  inr (inl (array_open x q h.base n es bs h.front h.upto h.may h.place
+      (array_part (Next q) q h.base n ss h.front h.g h.c h.t refl h.is h.gap h.whole))),
+)
+between_told (After q) x n ss es bs r e h = (
+  h.begins,
+  inr (inl (array_open x q h.base n es bs h.front h.upto h.may h.place
+      (array_part (After q) q h.base n ss h.front h.g h.c h.t refl h.is h.gap h.whole))),
+)
 between_told Item x n ss es (b ∷ bs) r e h = (h.begins, inr (inr (brace_open x b es bs h.front h.upto h.may h.completes)))
 between_told Named x n ss es (b ∷ bs) r e h = (h.begins, inr (inr (brace_open x b es bs h.front h.upto h.may h.completes)))
 between_told Wanted x n ss es (b ∷ bs) r e h = (h.begins, inr (inr (brace_open x b es bs h.front h.upto h.may h.completes)))
 between_told Item x n ss es [] r e h =
     subst (IsTextOf x) (sym e) (record {
       spelled =
-          record { gap = h.front; entries = at_end x es [] h.front h.upto h.may;
-              ended = subst IsLastGap (sym h.whole) (item_last h.g h.c h.is h.last); balanced = upto_depth x es [] h.front h.upto };
+          record {
+            gap = h.front;
+            entries = at_end x es [] h.front h.upto h.may;
+            ended = subst IsLastGap (sym h.whole) (item_last h.g h.c h.is h.last);
+            balanced = upto_depth x es [] h.front h.upto;
+          };
       limits = h.upto.limits;
     })
 between_told Named x n ss es [] r e h = (omega arith, omega arith, subst Begins (sym (take-length x)) h.begins)
@@ -269,22 +300,24 @@ rest_comment x p w n ss es bs h (g, c, none, is, comment, parts) = record {
 word_told : (x : List ℕ) (a : Read) → Ended x a → Tells (length x) x (a >>= λ s. ended_between s.phase s.braces (length x) s)
 word_told x (Ok s) (h, is) =
     between_told s.phase x s.name s.scalars s.entries s.braces s refl
-        (rest_between x s.phase [] s.name s.scalars s.entries s.braces (λ y q. q) (subst (Stands EndsWord x) is h))
+    (rest_between x s.phase [] s.name s.scalars s.entries s.braces (λ y q. q) (subst (Stands EndsWord x) is h))
 word_told x (Err e) told = subst (λ z. Tells (length x) z (Err e)) (append-nil x) (tells_told (length x) (x ++ []) e (told [] tt))
 
 string_told : (x : List ℕ) (q : ℕ) (p : Phase) (w n : List ℕ) (ss : List Scalar) (es : List ConfEntry) (bs : List ℕ)
     → (h : Stands Any x (in_state (String q) p w n ss es bs)) → IsTail h.base (String q) p w n ss h.front
     → Tells (length x) x (Err (Unclosed q))
-string_told x q p w n ss es bs h (g, is, wants, content, parts, place) =
-    (stands_begins x (in_state (String q) p w n ss es bs) h,
-        inl (string_open x q (String q) p w n ss es bs g (escaped w) h wants is content (inl refl) parts place))
+string_told x q p w n ss es bs h (g, is, wants, content, parts, place) = (
+  stands_begins x (in_state (String q) p w n ss es bs) h,
+  inl (string_open x q (String q) p w n ss es bs g (escaped w) h wants is content (inl refl) parts place),
+)
 
 escape_told : (x : List ℕ) (q : ℕ) (p : Phase) (w n : List ℕ) (ss : List Scalar) (es : List ConfEntry) (bs : List ℕ)
     → (h : Stands Any x (in_state (Escape q) p w n ss es bs)) → IsTail h.base (Escape q) p w n ss h.front
     → Tells (length x) x (Err (Unclosed q))
-escape_told x q p w n ss es bs h (g, is, wants, content, parts, place) =
-    (stands_begins x (in_state (Escape q) p w n ss es bs) h,
-        inl (string_open x q (Escape q) p w n ss es bs g (escaped w ++ 92 ∷ []) h wants is content (inr refl) parts place))
+escape_told x q p w n ss es bs h (g, is, wants, content, parts, place) = (
+  stands_begins x (in_state (Escape q) p w n ss es bs) h,
+  inl (string_open x q (Escape q) p w n ss es bs g (escaped w ++ 92 ∷ []) h wants is content (inr refl) parts place),
+)
 
 mode_told : (x : List ℕ) (m : Mode) (p : Phase) (w n : List ℕ) (ss : List Scalar) (es : List ConfEntry) (bs : List ℕ)
     → Stands Any x (in_state m p w n ss es bs) → Tells (length x) x (ended_in m (length x) (in_state m p w n ss es bs))
@@ -301,7 +334,7 @@ ended_told : (x : List ℕ) (at : ℕ) (r : Reader) → at ≡ length x → Stan
 unfolding ended
 ended_told x at r same h =
     subst (λ m. Tells (length x) x (ended_in r.mode m r)) (sym same)
-        (mode_told x r.mode r.phase r.word r.name r.scalars r.entries r.braces h)
+    (mode_told x r.mode r.phase r.word r.name r.scalars r.entries r.braces h)
 
 -- ---- the whole text
 
@@ -311,7 +344,7 @@ goes_told : (x : List ℕ) (b at : ℕ) (y : List ℕ) (a : Read) → Good x b a
 goes_told x b at y (Ok s) h on =
     let less : length x ≤ length (x ++ b ∷ []) = omega (arith, length-append x (b ∷ [])) in
     tells_before (length x) (length (x ++ b ∷ [])) (x ++ (b ∷ y)) (outcome (at + 1) s y) less
-        (subst (λ z. Tells (length (x ++ b ∷ [])) z (outcome (at + 1) s y)) (append_assoc x (b ∷ []) y) (on s h))
+    (subst (λ z. Tells (length (x ++ b ∷ [])) z (outcome (at + 1) s y)) (append_assoc x (b ∷ []) y) (on s h))
 goes_told x b at y (Err e) told on = tells_told (length x) (x ++ (b ∷ y)) e (told y)
 
 pub outcome_told : (y x : List ℕ) (at : ℕ) (r : Reader) → at ≡ length x → Stands Any x r → Tells (length x) (x ++ y) (outcome at r y)
@@ -326,8 +359,18 @@ starts = record {
   base = 0;
   front = [];
   upto =
-      record { opened = []; inside = []; done = []; inner = []; bytes = refl; listed = refl; stack = (refl, refl); balanced = refl;
-          entries = λ y any. refl; limits = refl };
+      record {
+        opened = [];
+        inside = [];
+        done = [];
+        inner = [];
+        bytes = refl;
+        listed = refl;
+        stack = (refl, refl);
+        balanced = refl;
+        entries = λ y any. refl;
+        limits = refl;
+      };
   place = refl;
   fresh = tt;
   fit = refl;
@@ -358,7 +401,7 @@ same_after (b ∷ front) rest more x at p r same h e less =
     let within : p < at + 1 + length front = omega (arith, less) in
     let next : at + 1 ≡ length (x ++ b ∷ []) = omega (arith, same, length-append x (b ∷ [])) in
     both_bad x b p (step at b r) (λ s. outcome (at + 1) s (front ++ rest)) (λ s. outcome (at + 1) s (front ++ more))
-        (step_good x b at r same h)
+    (step_good x b at r same h)
     (λ s stands d. same_after front rest more (x ++ b ∷ []) (at + 1) p s next stands d within) e
 
 pub bad_after : (front rest more : List ℕ) (p : ℕ) → reading (front ++ rest) ≡ Err (BadToken p) → p < length front

@@ -2,8 +2,8 @@
 use Rattle.std.proofs.Common.{◌≡◌, ℕ, suc, true, List, [], ◌∷◌, ◌++◌, length, refl, sym, ap, subst, ◌∙◌, append_assoc}
 use Rattle.std.proofs.lemmas.List.{append-nil}
 use Rattle.conf_text.specs.Bytes.{kind}
-use Rattle.conf_text.specs.Entries.{Number, Text, One, Many, ConfEntry, Open, Close, Assign, after_entry, after_entries, sections,
-    IsBalanced, KeepsLimits, keeps_limits, keep_limits}
+use Rattle.conf_text.specs.Entries.{Number, Text, One, Many, ConfEntry, Open, Close, Assign, after_entry, after_entries, sections}
+use Rattle.conf_text.specs.Entries.{IsBalanced, KeepsLimits, keeps_limits, keep_limits}
 use Rattle.conf_text.specs.Grammar.{EndsWord, IsEntry, EndsEntry, BeginsWith}
 use Rattle.conf_text.specs.Refusals.{Begins}
 use Rattle.conf_text.proofs.Depth.{sections-append, after-append, balanced_after, after_assign, after_open, after_close, section_balanced}
@@ -16,8 +16,8 @@ abbrev pub IsStack : List ℕ → List ℕ → List ConfEntry → Type 0
 IsStack [] opened done = (opened ≡ []) × (done ≡ [])
 IsStack (p ∷ bs) opened done =
     (before inside : List ℕ) × (outer inner : List ConfEntry) × (name : List ℕ) × IsStack bs before outer × (opened ≡ before ++ inside)
-        × (done ≡ outer ++ (inner ++ Open name ∷ [])) × IsBalanced inner × (suc p ≡ length opened)
-        × ((y : List ℕ) → BeginsWith (inside ++ y) (inner ++ Open name ∷ []) y)
+    × (done ≡ outer ++ (inner ++ Open name ∷ [])) × IsBalanced inner × (suc p ≡ length opened)
+    × ((y : List ℕ) → BeginsWith (inside ++ y) (inner ++ Open name ∷ []) y)
 
 pub record Upto (P : List ℕ → Type 0) (x : List ℕ) (es : List ConfEntry) (bs : List ℕ) (front : List ℕ) : Type 0 where
   pub opened : List ℕ
@@ -83,7 +83,7 @@ pub opened_section : (x : List ℕ) (es : List ConfEntry) (bs front : List ℕ) 
     → keeps_limits (sections es) (Open n) ≡ true → Upto Any x es bs front → Upto Any x (es ++ Open n ∷ []) (p ∷ bs) []
 opened_section x es bs front n p entry place keeps h =
     let listed : es ++ Open n ∷ [] ≡ h.done ++ (h.inner ++ Open n ∷ []) =
-        ap (λ z. z ++ Open n ∷ []) h.listed ∙ append_assoc h.done h.inner (Open n ∷ []) in
+    ap (λ z. z ++ Open n ∷ []) h.listed ∙ append_assoc h.done h.inner (Open n ∷ []) in
     record {
       opened = x;
       inside = [];
@@ -91,9 +91,19 @@ opened_section x es bs front n p entry place keeps h =
       inner = [];
       bytes = sym (append-nil x);
       listed = sym (append-nil (es ++ Open n ∷ []));
-      stack =
-          (h.opened, h.inside, h.done, h.inner, n, h.stack, h.bytes, listed, h.balanced, place,
-              λ y. begins_more h.inner (h.inside ++ y) front y (Open n) (h.entries y tt) entry tt);
+      stack = (
+        h.opened,
+        h.inside,
+        h.done,
+        h.inner,
+        n,
+        h.stack,
+        h.bytes,
+        listed,
+        h.balanced,
+        place,
+        λ y. begins_more h.inner (h.inside ++ y) front y (Open n) (h.entries y tt) entry tt,
+      );
       balanced = refl;
       entries = λ y any. refl;
       limits = limits_more ([] ∷ []) es (Open n) h.limits keeps;
@@ -109,7 +119,7 @@ closed_section x es p bs front entry h = closed h.stack
         let more : (y : List ℕ) → BeginsWith ((inside ++ h.inside) ++ y) ((inner ++ Open name ∷ []) ++ (h.inner ++ Close ∷ [])) y = λ y.
         subst (λ z. BeginsWith z ((inner ++ Open name ∷ []) ++ (h.inner ++ Close ∷ [])) y) (sym (append_assoc inside h.inside y))
         (begins_both (inner ++ Open name ∷ []) (h.inner ++ Close ∷ []) (inside ++ (h.inside ++ y)) (h.inside ++ y) y (begun (h.inside ++ y))
-            (begins_more h.inner (h.inside ++ y) front y Close (h.entries y tt) entry tt)) in
+        (begins_more h.inner (h.inside ++ y) front y Close (h.entries y tt) entry tt)) in
         record {
           opened = before;
           inside = inside ++ h.inside;
@@ -131,7 +141,7 @@ stack_begins (p ∷ bs) opened done y (before, inside, outer, inner, name, stack
     subst (λ z. BeginsWith (z ++ y) done y) (sym opened_is) (subst (λ z. BeginsWith ((before ++ inside) ++ y) z y) (sym done_is)
     (subst (λ z. BeginsWith z (outer ++ (inner ++ Open name ∷ [])) y) (sym (append_assoc before inside y))
     (begins_both outer (inner ++ Open name ∷ []) (before ++ (inside ++ y)) (inside ++ y) y
-        (stack_begins bs before outer (inside ++ y) stack) (begun y))))
+    (stack_begins bs before outer (inside ++ y) stack) (begun y))))
 
 stack_depth : (bs opened : List ℕ) (done : List ConfEntry) → IsStack bs opened done → length (sections done) ≡ suc (length bs)
 stack_depth [] opened done (opened_is, done_is) = rw done_is refl
@@ -146,10 +156,10 @@ pub upto_begins : {P : List ℕ → Type 0} (x : List ℕ) (es : List ConfEntry)
     → BeginsWith (x ++ y) es (front ++ y)
 upto_begins x es bs front y h may =
     subst (λ z. BeginsWith (z ++ y) es (front ++ y)) (sym h.bytes)
-        (subst (λ z. BeginsWith ((h.opened ++ h.inside) ++ y) z (front ++ y)) (sym h.listed)
+    (subst (λ z. BeginsWith ((h.opened ++ h.inside) ++ y) z (front ++ y)) (sym h.listed)
     (subst (λ z. BeginsWith z (h.done ++ h.inner) (front ++ y)) (sym (append_assoc h.opened h.inside y))
     (begins_both h.done h.inner (h.opened ++ (h.inside ++ y)) (h.inside ++ y) (front ++ y)
-        (stack_begins bs h.opened h.done (h.inside ++ y) h.stack) (h.entries y may))))
+    (stack_begins bs h.opened h.done (h.inside ++ y) h.stack) (h.entries y may))))
 
 pub upto_depth : {P : List ℕ → Type 0} (x : List ℕ) (es : List ConfEntry) (bs front : List ℕ) → Upto P x es bs front
     → length (sections es) ≡ suc (length bs)
@@ -199,8 +209,8 @@ pub viable : {P : List ℕ → Type 0} (x : List ℕ) (es : List ConfEntry) (bs 
 viable x es bs front closing e is entry may h =
     let more = closing ++ closers bs in
     let begun =
-        subst (λ z. BeginsWith (x ++ more) es z) (sym (append_assoc front closing (closers bs)))
-            (upto_begins x es bs front more h (may (closers bs))) in
+    subst (λ z. BeginsWith (x ++ more) es z) (sym (append_assoc front closing (closers bs)))
+    (upto_begins x es bs front more h (may (closers bs))) in
     let first = begins_more es (x ++ more) (front ++ closing) (closers bs) e begun entry (entry_ends e bs is) in
     let depth = assign_depth e (sections es) (length bs) is (upto_depth x es bs front h) in (
       more,
@@ -211,8 +221,8 @@ viable x es bs front closing e is entry may h =
         ended = refl;
         balanced =
             ap length (after-append ([] ∷ []) (es ++ e ∷ []) (closes bs))
-                ∙ ap (λ g. length (after_entries g (closes bs))) (sections-append ([] ∷ []) es e)
-                ∙ closed_depth bs (after_entry (sections es) e) depth;
+            ∙ ap (λ g. length (after_entries g (closes bs))) (sections-append ([] ∷ []) es e)
+            ∙ closed_depth bs (after_entry (sections es) e) depth;
       },
     )
 
@@ -222,8 +232,8 @@ pub opens_begins : {P : List ℕ → Type 0} (x : List ℕ) (es : List ConfEntry
 opens_begins x es bs front n entry may h =
     let rest = 125 ∷ closers bs in
     let begun =
-        subst (λ z. BeginsWith (x ++ (123 ∷ rest)) es z) (sym (append_assoc front (123 ∷ []) rest))
-            (upto_begins x es bs front (123 ∷ rest) h (may rest)) in
+    subst (λ z. BeginsWith (x ++ (123 ∷ rest)) es z) (sym (append_assoc front (123 ∷ []) rest))
+    (upto_begins x es bs front (123 ∷ rest) h (may rest)) in
     let first = begins_more es (x ++ (123 ∷ rest)) (front ++ 123 ∷ []) rest (Open n) begun entry tt in
     let depth = after_open (sections es) n (length bs) (upto_depth x es bs front h) in (
       rest,
@@ -232,11 +242,11 @@ opens_begins x es bs front n entry may h =
         gap = [];
         entries =
             subst (λ z. BeginsWith z ((es ++ Open n ∷ []) ++ closes (0 ∷ bs)) []) (sym (append_assoc x (123 ∷ []) rest))
-                (begins_both (es ++ Open n ∷ []) (closes (0 ∷ bs)) (x ++ (123 ∷ rest)) rest [] first (closed_all (0 ∷ bs)));
+            (begins_both (es ++ Open n ∷ []) (closes (0 ∷ bs)) (x ++ (123 ∷ rest)) rest [] first (closed_all (0 ∷ bs)));
         ended = refl;
         balanced =
             ap length (after-append ([] ∷ []) (es ++ Open n ∷ []) (closes (0 ∷ bs)))
-                ∙ ap (λ g. length (after_entries g (closes (0 ∷ bs)))) (sections-append ([] ∷ []) es (Open n))
-                ∙ closed_depth (0 ∷ bs) (after_entry (sections es) (Open n)) depth;
+            ∙ ap (λ g. length (after_entries g (closes (0 ∷ bs)))) (sections-append ([] ∷ []) es (Open n))
+            ∙ closed_depth (0 ∷ bs) (after_entry (sections es) (Open n)) depth;
       },
     )

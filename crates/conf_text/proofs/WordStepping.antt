@@ -1,6 +1,6 @@
 -- What the bytes read so far are, one byte later in words, strings and comments.
-use Rattle.std.proofs.Common.{◌≡◌, ◌≢◌, ℕ, suc, ◌+◌, ◌-◌, ◌<◌, ◌^◌, Bool, true, false, cond, ltb, List, [], ◌∷◌, ◌++◌, length, take, Some,
-    Ok, Err, refl, sym, ap, subst, ◌∙◌, append_assoc, length-append, arith}
+use Rattle.std.proofs.Common.{◌≡◌, ◌≢◌, ℕ, suc, ◌+◌, ◌-◌, ◌<◌, ◌^◌, Bool, true, false, cond, ltb, List, [], ◌∷◌, ◌++◌, length, take, Some}
+use Rattle.std.proofs.Common.{Ok, Err, refl, sym, ap, subst, ◌∙◌, append_assoc, length-append, arith}
 use Rattle.std.proofs.lemmas.List.Folds.{list_all-append}
 use Rattle.std.proofs.lemmas.Bool.{ltb-false}
 use Rattle.std.specs.List.{list_all}
@@ -16,15 +16,15 @@ use Rattle.conf_text.specs.declared.reader.Phase.TheVariants.{Item, Named, Wante
 use Rattle.conf_text.specs.Entries.{Scalar, Number, Text, One, ConfEntry, Assign, sections, is_given, fits_scalar}
 use Rattle.conf_text.specs.Grammar.{is_name, is_allowed, is_escaped, after_gap, IsName, IsDigits, escaped, EndsWord, IsEntry, BeginsWith}
 use Rattle.conf_text.specs.Refusals.{Begins, IsBeforeScalar}
-use Rattle.conf_text.specs.Reader.{Reader, Read, ◌>>=◌, with_scalar, begun, word_ended, in_word, in_string, in_escape, in_comment, in_mode,
-    step}
+use Rattle.conf_text.specs.Reader.{Reader, Read, ◌>>=◌, with_scalar, begun, word_ended, in_word, in_string, in_escape, in_comment, in_mode}
+use Rattle.conf_text.specs.Reader.{step}
 use Rattle.conf_text.proofs.Accepted.{between, item}
 use Rattle.conf_text.proofs.ByteOf.{byte_of}
-use Rattle.conf_text.proofs.Fronts.{IsFront, front_gap, front_name, front_first, front_next, entry_scalar, before_first, before_wanted,
-    before_next}
+use Rattle.conf_text.proofs.Fronts.{IsFront, front_gap, front_name, front_first, front_next, entry_scalar, before_first, before_wanted}
+use Rattle.conf_text.proofs.Fronts.{before_next}
 use Rattle.conf_text.proofs.Pieces.{gap_append}
-use Rattle.conf_text.proofs.Standing.{IsWordFor, IsTail, Stands, RefusedEarly, weaken, goes_on, new_entry, ends_key, keeps_key, bad_here,
-    begins_front, stands_begins, quoted, content_more, escaped_plain, escaped_mark, digit_more}
+use Rattle.conf_text.proofs.Standing.{IsWordFor, IsTail, Stands, RefusedEarly, weaken, goes_on, new_entry, ends_key, keeps_key, bad_here}
+use Rattle.conf_text.proofs.Standing.{begins_front, stands_begins, quoted, content_more, escaped_plain, escaped_mark, digit_more}
 use Rattle.conf_text.proofs.Stepping.{Good, begun_good}
 use Rattle.conf_text.proofs.Steps.{in_state, wants_scalar}
 use Rattle.conf_text.proofs.Upto.{Any, assigned, upto_begins, upto_depth}
@@ -66,8 +66,12 @@ named_ended true x w n ss es bs e h = told h.tail
         name_ends = ends;
         given = e;
         place_is =
-            omega (arith, length-append w y, length-append x y,
-                word_place x g w h.base (ap (λ z. h.base + length z) (sym parts) ∙ h.place));
+            omega (
+              arith,
+              length-append w y,
+              length-append x y,
+              word_place x g w h.base (ap (λ z. h.base + length z) (sym parts) ∙ h.place),
+            );
       },
       word_begins x y w (in_state Word Item w n ss es bs) name.0
           (word_place x g w h.base (ap (λ z. h.base + length z) (sym parts) ∙ h.place)) h,
@@ -129,8 +133,7 @@ number_entry x w n ss es bs fits h = told h.tail
     told (g, is, digits, parts) =
         let k = digits_value 10 w in
         let entry =
-            subst (λ z. IsEntry z (Assign n (One (Number k)))) (sym parts) (entry_scalar h.base n ss (Number k) g w is (digits, refl)) in
-        (
+        subst (λ z. IsEntry z (Assign n (One (Number k)))) (sym parts) (entry_scalar h.base n ss (Number k) g w is (digits, refl)) in (
           new_entry x (es ++ Assign n (One (Number k)) ∷ []) bs
               (assigned x es bs h.front (Assign n (One (Number k))) tt entry (λ y q. tt) (λ y q. q)
               (keeps_key (sections es) n (One (Number k)) h.fresh (fits_one k fits)) h.upto),
@@ -156,9 +159,11 @@ number_first q x w n ss es bs fits h = told h.tail
         fresh = h.fresh;
         fit = fits_more ss (Number (digits_value 10 w)) h.fit fits;
         early = tt;
-        tail =
-            (refl, subst (λ z. IsFront h.base (After q) n (ss ++ Number (digits_value 10 w) ∷ []) z) (sym parts)
-                (front_first h.base q n ss (Number (digits_value 10 w)) g w h.early is (digits, refl)));
+        tail = (
+          refl,
+          subst (λ z. IsFront h.base (After q) n (ss ++ Number (digits_value 10 w) ∷ []) z) (sym parts)
+              (front_first h.base q n ss (Number (digits_value 10 w)) g w h.early is (digits, refl)),
+        );
       },
       refl,
     )
@@ -178,9 +183,11 @@ number_next q x w n ss es bs fits h = told h.tail
         fresh = h.fresh;
         fit = fits_more ss (Number (digits_value 10 w)) h.fit fits;
         early = tt;
-        tail =
-            (refl, subst (λ z. IsFront h.base (After q) n (ss ++ Number (digits_value 10 w) ∷ []) z) (sym parts)
-                (front_next h.base q n ss (Number (digits_value 10 w)) g w is (digits, refl)));
+        tail = (
+          refl,
+          subst (λ z. IsFront h.base (After q) n (ss ++ Number (digits_value 10 w) ∷ []) z) (sym parts)
+              (front_next h.base q n ss (Number (digits_value 10 w)) g w is (digits, refl)),
+        );
       },
       refl,
     )
@@ -230,7 +237,7 @@ in_word_more : (x : List ℕ) (b : ℕ) (p : Phase) (w n : List ℕ) (ss : List 
     → Good x b (Ok (in_state Word p (w ++ b ∷ []) n ss es bs))
 in_word_more x b p w n ss es bs h (g, is, word, parts) more =
     goes_on x b (in_state Word p w n ss es bs) (λ y. tt) h Word p (w ++ b ∷ []) n ss h.fresh h.fit h.early
-        (g, is, more, ap (λ z. z ++ b ∷ []) parts ∙ append_assoc g w (b ∷ []))
+    (g, is, more, ap (λ z. z ++ b ∷ []) parts ∙ append_assoc g w (b ∷ []))
 
 bad_inside : (x : List ℕ) (b at : ℕ) (r : Reader) → at ≡ length x → Stands Any x r → Good x b (Err (BadToken at))
 bad_inside x b at r same h = λ y. bad_here x at (b ∷ y) same (stands_begins x r h)
@@ -240,7 +247,7 @@ then_begun : (a : Read) (x : List ℕ) (k : Kind) (b at : ℕ) → at ≡ length
 then_begun (Ok s) x k b at same e other (h, is) =
     let word : is_name (kind b) ≡ false = ap is_name e ∙ other in
     subst (λ z. Good x b (begun s.phase k b at z)) (sym is)
-        (begun_good x s.phase k b at s.name s.scalars s.entries s.braces same e (subst (Stands EndsWord x) is h, λ y. word, λ y q. q))
+    (begun_good x s.phase k b at s.name s.scalars s.entries s.braces same e (subst (Stands EndsWord x) is h, λ y. word, λ y q. q))
 then_begun (Err f) x k b at same e other told = λ y. told (b ∷ y) (ap is_name e ∙ other)
 
 in_word_good : (x : List ℕ) (p : Phase) (k : Kind) (b at : ℕ) (w n : List ℕ) (ss : List Scalar) (es : List ConfEntry) (bs : List ℕ)
@@ -261,10 +268,10 @@ string_entry : (x : List ℕ) (b q : ℕ) (w n : List ℕ) (ss : List Scalar) (e
 string_entry x b q w n ss es bs e h (g, is, wants, content, parts, place) =
     let whole : g ++ (34 ∷ (escaped w ++ 34 ∷ [])) ≡ h.front ++ b ∷ [] = rw (parts, byte_of b Quote e) (simp append_assoc refl) in
     let entry =
-        subst (λ z. IsEntry z (Assign n (One (Text w)))) whole
-            (entry_scalar h.base n ss (Text w) g (34 ∷ (escaped w ++ 34 ∷ [])) is (quoted w content)) in
+    subst (λ z. IsEntry z (Assign n (One (Text w)))) whole
+    (entry_scalar h.base n ss (Text w) g (34 ∷ (escaped w ++ 34 ∷ [])) is (quoted w content)) in
     ends_key x b (in_state (String q) Wanted w n ss es bs) (λ y. tt) h (Assign n (One (Text w))) tt entry (λ y. tt)
-        (keeps_key (sections es) n (One (Text w)) h.fresh refl)
+    (keeps_key (sections es) n (One (Text w)) h.fresh refl)
 
 string_first : (x : List ℕ) (b q a : ℕ) (w n : List ℕ) (ss : List Scalar) (es : List ConfEntry) (bs : List ℕ) → kind b ≡ Quote
     → (h : Stands Any x (in_state (String q) (First a) w n ss es bs)) → IsTail h.base (String q) (First a) w n ss h.front
@@ -272,9 +279,11 @@ string_first : (x : List ℕ) (b q a : ℕ) (w n : List ℕ) (ss : List Scalar) 
 string_first x b q a w n ss es bs e h (g, is, wants, content, parts, place) =
     let whole : g ++ (34 ∷ (escaped w ++ 34 ∷ [])) ≡ h.front ++ b ∷ [] = rw (parts, byte_of b Quote e) (simp append_assoc refl) in
     goes_on x b (in_state (String q) (First a) w n ss es bs) (λ y. tt) h Between (After a) [] n (ss ++ Text w ∷ []) h.fresh
-        (fits_more ss (Text w) h.fit refl) tt
-    (refl, subst (λ z. IsFront h.base (After a) n (ss ++ Text w ∷ []) z) whole
-        (front_first h.base a n ss (Text w) g (34 ∷ (escaped w ++ 34 ∷ [])) h.early is (quoted w content)))
+    (fits_more ss (Text w) h.fit refl) tt (
+      refl,
+      subst (λ z. IsFront h.base (After a) n (ss ++ Text w ∷ []) z) whole
+          (front_first h.base a n ss (Text w) g (34 ∷ (escaped w ++ 34 ∷ [])) h.early is (quoted w content)),
+    )
 
 string_next : (x : List ℕ) (b q a : ℕ) (w n : List ℕ) (ss : List Scalar) (es : List ConfEntry) (bs : List ℕ) → kind b ≡ Quote
     → (h : Stands Any x (in_state (String q) (Next a) w n ss es bs)) → IsTail h.base (String q) (Next a) w n ss h.front
@@ -282,9 +291,11 @@ string_next : (x : List ℕ) (b q a : ℕ) (w n : List ℕ) (ss : List Scalar) (
 string_next x b q a w n ss es bs e h (g, is, wants, content, parts, place) =
     let whole : g ++ (34 ∷ (escaped w ++ 34 ∷ [])) ≡ h.front ++ b ∷ [] = rw (parts, byte_of b Quote e) (simp append_assoc refl) in
     goes_on x b (in_state (String q) (Next a) w n ss es bs) (λ y. tt) h Between (After a) [] n (ss ++ Text w ∷ []) h.fresh
-        (fits_more ss (Text w) h.fit refl) tt
-    (refl, subst (λ z. IsFront h.base (After a) n (ss ++ Text w ∷ []) z) whole
-        (front_next h.base a n ss (Text w) g (34 ∷ (escaped w ++ 34 ∷ [])) is (quoted w content)))
+    (fits_more ss (Text w) h.fit refl) tt (
+      refl,
+      subst (λ z. IsFront h.base (After a) n (ss ++ Text w ∷ []) z) whole
+          (front_next h.base a n ss (Text w) g (34 ∷ (escaped w ++ 34 ∷ [])) is (quoted w content)),
+    )
 
 string_ends : (p : Phase) (x : List ℕ) (b q : ℕ) (w n : List ℕ) (ss : List Scalar) (es : List ConfEntry) (bs : List ℕ) → kind b ≡ Quote
     → (h : Stands Any x (in_state (String q) p w n ss es bs)) → IsTail h.base (String q) p w n ss h.front
@@ -301,19 +312,19 @@ string_more : (x : List ℕ) (b q : ℕ) (p : Phase) (w n : List ℕ) (ss : List
     → IsTail h.base (String q) p w n ss h.front → Good x b (Ok (in_state (String q) p (w ++ b ∷ []) n ss es bs))
 string_more x b q p w n ss es bs allowed plain h (g, is, wants, content, parts, place) =
     let whole : h.front ++ b ∷ [] ≡ g ++ (34 ∷ escaped (w ++ b ∷ [])) =
-        ap (λ z. z ++ b ∷ []) parts ∙ append_assoc g (34 ∷ escaped w) (b ∷ []) ∙ ap (λ z. g ++ (34 ∷ z)) (sym (escaped_plain w b plain)) in
+    ap (λ z. z ++ b ∷ []) parts ∙ append_assoc g (34 ∷ escaped w) (b ∷ []) ∙ ap (λ z. g ++ (34 ∷ z)) (sym (escaped_plain w b plain)) in
     goes_on x b (in_state (String q) p w n ss es bs) (λ y. tt) h (String q) p (w ++ b ∷ []) n ss h.fresh h.fit h.early
-        (g, is, wants, content_more w b content allowed, whole, place)
+    (g, is, wants, content_more w b content allowed, whole, place)
 
 string_escape : (x : List ℕ) (b q : ℕ) (p : Phase) (w n : List ℕ) (ss : List Scalar) (es : List ConfEntry) (bs : List ℕ)
     → kind b ≡ Backslash → (h : Stands Any x (in_state (String q) p w n ss es bs)) → IsTail h.base (String q) p w n ss h.front
     → Good x b (Ok (in_state (Escape q) p w n ss es bs))
 string_escape x b q p w n ss es bs e h (g, is, wants, content, parts, place) =
     let whole : h.front ++ b ∷ [] ≡ g ++ (34 ∷ (escaped w ++ 92 ∷ [])) =
-        ap (λ z. z ++ b ∷ []) parts ∙ append_assoc g (34 ∷ escaped w) (b ∷ [])
-            ∙ ap (λ z. g ++ (34 ∷ (escaped w ++ z ∷ []))) (byte_of b Backslash e) in
+    ap (λ z. z ++ b ∷ []) parts ∙ append_assoc g (34 ∷ escaped w) (b ∷ [])
+    ∙ ap (λ z. g ++ (34 ∷ (escaped w ++ z ∷ []))) (byte_of b Backslash e) in
     goes_on x b (in_state (String q) p w n ss es bs) (λ y. tt) h (Escape q) p w n ss h.fresh h.fit h.early
-        (g, is, wants, content, whole, place)
+    (g, is, wants, content, whole, place)
 
 in_string_good : (x : List ℕ) (q : ℕ) (k : Kind) (b at : ℕ) (p : Phase) (w n : List ℕ) (ss : List Scalar) (es : List ConfEntry)
     (bs : List ℕ) → at ≡ length x → kind b ≡ k → (h : Stands Any x (in_state (String q) p w n ss es bs))
@@ -329,10 +340,10 @@ escape_more : (x : List ℕ) (b q : ℕ) (p : Phase) (w n : List ℕ) (ss : List
     → IsTail h.base (Escape q) p w n ss h.front → Good x b (Ok (in_state (String q) p (w ++ b ∷ []) n ss es bs))
 escape_more x b q p w n ss es bs allowed mark h (g, is, wants, content, parts, place) =
     let whole : h.front ++ b ∷ [] ≡ g ++ (34 ∷ escaped (w ++ b ∷ [])) =
-        ap (λ z. z ++ b ∷ []) parts ∙ append_assoc g (34 ∷ (escaped w ++ 92 ∷ [])) (b ∷ [])
-            ∙ ap (λ z. g ++ (34 ∷ z)) (append_assoc (escaped w) (92 ∷ []) (b ∷ []) ∙ sym (escaped_mark w b mark)) in
+    ap (λ z. z ++ b ∷ []) parts ∙ append_assoc g (34 ∷ (escaped w ++ 92 ∷ [])) (b ∷ [])
+    ∙ ap (λ z. g ++ (34 ∷ z)) (append_assoc (escaped w) (92 ∷ []) (b ∷ []) ∙ sym (escaped_mark w b mark)) in
     goes_on x b (in_state (Escape q) p w n ss es bs) (λ y. tt) h (String q) p (w ++ b ∷ []) n ss h.fresh h.fit h.early
-        (g, is, wants, content_more w b content allowed, whole, place)
+    (g, is, wants, content_more w b content allowed, whole, place)
 
 in_escape_good : (x : List ℕ) (q : ℕ) (k : Kind) (b at : ℕ) (p : Phase) (w n : List ℕ) (ss : List Scalar) (es : List ConfEntry)
     (bs : List ℕ) → at ≡ length x → kind b ≡ k → (h : Stands Any x (in_state (Escape q) p w n ss es bs))
@@ -353,14 +364,14 @@ comment_ends : (x : List ℕ) (b : ℕ) (p : Phase) (w n : List ℕ) (ss : List 
 comment_ends x b p w n ss es bs e h (g, c, none, is, comment, parts) =
     let whole : g ++ (c ++ b ∷ []) ≡ h.front ++ b ∷ [] = rw parts (simp append_assoc refl) in
     goes_on x b (in_state Comment p w n ss es bs) (λ y. tt) h Between p w n ss h.fresh h.fit h.early
-        (none, subst (IsFront h.base p n ss) whole (front_gap p h.base n ss g (c ++ b ∷ []) is (comment_more c b false comment e)))
+    (none, subst (IsFront h.base p n ss) whole (front_gap p h.base n ss g (c ++ b ∷ []) is (comment_more c b false comment e)))
 
 comment_stays : (x : List ℕ) (b : ℕ) (p : Phase) (w n : List ℕ) (ss : List Scalar) (es : List ConfEntry) (bs : List ℕ)
     → after_gap true (b ∷ []) ≡ Some true → (h : Stands Any x (in_state Comment p w n ss es bs)) → IsTail h.base Comment p w n ss h.front
     → Good x b (Ok (in_state Comment p w n ss es bs))
 comment_stays x b p w n ss es bs e h (g, c, none, is, comment, parts) =
     goes_on x b (in_state Comment p w n ss es bs) (λ y. tt) h Comment p w n ss h.fresh h.fit h.early
-        (g, c ++ b ∷ [], none, is, comment_more c b true comment e, ap (λ z. z ++ b ∷ []) parts ∙ append_assoc g c (b ∷ []))
+    (g, c ++ b ∷ [], none, is, comment_more c b true comment e, ap (λ z. z ++ b ∷ []) parts ∙ append_assoc g c (b ∷ []))
 
 in_comment_good : (x : List ℕ) (k : Kind) (b at : ℕ) (p : Phase) (w n : List ℕ) (ss : List Scalar) (es : List ConfEntry) (bs : List ℕ)
     → at ≡ length x → kind b ≡ k → (h : Stands Any x (in_state Comment p w n ss es bs)) → IsTail h.base Comment p w n ss h.front
@@ -377,7 +388,7 @@ in_mode_good : (x : List ℕ) (m : Mode) (k : Kind) (b at : ℕ) (p : Phase) (w 
 in_mode_good x Between k b at p w n ss es bs same e h =
     let r : in_state Between p w n ss es bs ≡ between p n ss es bs = ap (λ z. in_state Between p z n ss es bs) h.tail.0 in
     subst (λ z. Good x b (begun p k b at z)) (sym r)
-        (begun_good x p k b at n ss es bs same e (subst (Stands Any x) r h, λ y. tt, λ y q. tt))
+    (begun_good x p k b at n ss es bs same e (subst (Stands Any x) r h, λ y. tt, λ y q. tt))
 in_mode_good x Comment k b at p w n ss es bs same e h = in_comment_good x k b at p w n ss es bs same e h h.tail
 in_mode_good x Word k b at p w n ss es bs same e h = in_word_good x p k b at w n ss es bs same e h h.tail
 in_mode_good x (String q) k b at p w n ss es bs same e h = in_string_good x q k b at p w n ss es bs same e h h.tail

@@ -1,6 +1,6 @@
 -- The word at hand stands in the text just before the place at hand.
-use Rattle.std.proofs.Common.{◌≡◌, ℕ, ◌+◌, ◌-◌, ◌≤◌, List, [], ◌∷◌, ◌++◌, length, take, drop, refl, sym, ap, subst, ◌∙◌, append_assoc,
-    length-append, arith}
+use Rattle.std.proofs.Common.{◌≡◌, ℕ, ◌+◌, ◌-◌, ◌≤◌, List, [], ◌∷◌, ◌++◌, length, take, drop, refl, sym, ap, subst, ◌∙◌, append_assoc}
+use Rattle.std.proofs.Common.{length-append, arith}
 use Rattle.std.proofs.lemmas.List.{take-append-drop, length-take}
 use Rattle.conf_text.specs.ReaderViews.{EndsIn, IsWordAt}
 
@@ -15,8 +15,7 @@ word_at text w at from inside is (x, e) =
     let sizes : length x + length w ≡ at = omega (arith, ap length e, length-append x w, length-take at text, inside) in
     let same : length x ≡ from = omega (arith, sizes, is) in
     let whole : text ≡ x ++ (w ++ drop at text) =
-        sym (take-append-drop at text) ∙ ap (λ y. y ++ drop at text) e ∙ append_assoc x w (drop at text) in
-    (
+    sym (take-append-drop at text) ∙ ap (λ y. y ++ drop at text) e ∙ append_assoc x w (drop at text) in (
       omega (arith, sizes, same, inside),
       subst (λ n. take (length w) (drop n text) ≡ w) same
           (ap (λ y. take (length w) (drop (length x) y)) whole ∙ in_middle x w (drop at text)),

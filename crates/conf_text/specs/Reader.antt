@@ -8,8 +8,8 @@ use Rattle.conf_text.specs.declared.reader.Mode.TheVariants.{Between, Comment, W
 use Rattle.conf_text.specs.declared.reader.Phase.{Phase}
 use Rattle.conf_text.specs.declared.reader.Phase.TheVariants.{Item, Named, Wanted, First, Next, After}
 use Rattle.conf_text.specs.declared.kind.Kind.{Kind}
-use Rattle.conf_text.specs.declared.kind.Kind.TheVariants.{Digit, Letter, Blank, LineFeed, Hash, Quote, Backslash, OpenBrace, CloseBrace,
-    OpenBracket, CloseBracket, Equals, Comma, Zero}
+use Rattle.conf_text.specs.declared.kind.Kind.TheVariants.{Digit, Letter, Blank, LineFeed, Hash, Quote, Backslash, OpenBrace, CloseBrace}
+use Rattle.conf_text.specs.declared.kind.Kind.TheVariants.{OpenBracket, CloseBracket, Equals, Comma, Zero}
 use Rattle.conf_text.specs.Bytes.{kind}
 use Rattle.conf_text.specs.Entries.{Scalar, Number, Text, One, Many, ConfEntry, Open, Close, Assign, sections, is_given}
 
@@ -55,7 +55,7 @@ with_scalar _ r s = with_entry r (Assign r.name (One s))
 abbrev pub opened : ℕ → Reader → Read
 opened at r =
     if nat_lt (length (sections r.entries)) 17 then Ok (with_entry (record r { braces = at ∷ r.braces }) (Open r.name)) else Err
-        (TooDeep at)
+    (TooDeep at)
 
 -- the section of the innermost brace ends
 abbrev pub closed : ℕ → Reader → List ℕ → Read

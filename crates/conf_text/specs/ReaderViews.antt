@@ -11,8 +11,15 @@ use Rattle.conf_text.specs.Views.{scalar_view}
 -- what the code's reader stands for
 abbrev pub reader_view : code.Reader → Reader
 reader_view r =
-    record { mode = r.mode; phase = r.phase; word = r.word.items; name = r.name.now; scalars = map scalar_view r.scalars.items;
-        entries = r.outline.entries; braces = r.outline.braces }
+    record {
+      mode = r.mode;
+      phase = r.phase;
+      word = r.word.items;
+      name = r.name.now;
+      scalars = map scalar_view r.scalars.items;
+      entries = r.outline.entries;
+      braces = r.outline.braces;
+    }
 
 -- what a function returned, seen by view, is what reading gives, unless memory ran out
 abbrev pub Fails : {Y : Type 0} → ConfRefusal → Result Y ConfRefusal → Type 0

@@ -5,8 +5,8 @@ use Rattle.std.specs.Str.Parse.{digits_value}
 use Rattle.conf_text.specs.declared.refusal.ConfRefusal.{ConfRefusal}
 use Rattle.conf_text.specs.declared.refusal.ConfRefusal.TheVariants.{NoMemory, BadToken, Unclosed, DuplicateKey, NumberTooWide, TooDeep}
 use Rattle.conf_text.specs.Entries.{Scalar, ConfEntry, Open, sections, is_given, fits_scalar, IsBalanced, KeepsLimits}
-use Rattle.conf_text.specs.Grammar.{IsName, IsDigits, EndsWord, IsGap, IsContent, escaped, IsArray, IsKey, IsHeader, IsEntry, BeginsWith,
-    Spells}
+use Rattle.conf_text.specs.Grammar.{IsName, IsDigits, EndsWord, IsGap, IsContent, escaped, IsArray, IsKey, IsHeader, IsEntry, BeginsWith}
+use Rattle.conf_text.specs.Grammar.{Spells}
 
 -- the place where the rest of the text begins
 abbrev pub IsPlace : List ℕ → List ℕ → ℕ → Type 0

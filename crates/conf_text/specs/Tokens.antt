@@ -1,8 +1,8 @@
 -- The tokens of a text with their places, or why it has none.
 use Rattle.std.specs.Prelude.{◌≡◌, ℕ, ◌+◌, Bool, true, false, ◌⊎◌, List, [], ◌∷◌, ◌++◌, length, Some, IsTrue}
 use Rattle.conf_text.specs.declared.kind.Kind.{Kind}
-use Rattle.conf_text.specs.declared.kind.Kind.TheVariants.{Backslash, OpenBrace, CloseBrace, OpenBracket, CloseBracket, Equals, Comma, Zero,
-    Other}
+use Rattle.conf_text.specs.declared.kind.Kind.TheVariants.{Backslash, OpenBrace, CloseBrace, OpenBracket, CloseBracket, Equals, Comma, Zero}
+use Rattle.conf_text.specs.declared.kind.Kind.TheVariants.{Other}
 use Rattle.conf_text.specs.declared.refusal.ConfRefusal.{ConfRefusal}
 use Rattle.conf_text.specs.declared.refusal.ConfRefusal.TheVariants.{NoMemory, BadToken, Unclosed}
 use Rattle.conf_text.specs.declared.token.Token.{Token}

@@ -1,7 +1,7 @@
 -- The values that choices take, sector by sector and disk by disk.
-use Rattle.std.proofs.Common.{◌≡◌, ◌<◌, ◌⊎◌, ℕ, zero, suc, ◌+◌, Bool, true, false, nat_lt, cond, List, [], ◌∷◌, ◌++◌, length, take, drop,
-    get_or, slice_index_or, slice_index, flat_map, Option, None, inl, inr, ⊎_elim, refl, sym, ap, subst, ◌∙◌, arith, length-append,
-    below_more}
+use Rattle.std.proofs.Common.{◌≡◌, ◌<◌, ◌⊎◌, ℕ, zero, suc, ◌+◌, Bool, true, false, nat_lt, cond, List, [], ◌∷◌, ◌++◌, length, take, drop}
+use Rattle.std.proofs.Common.{get_or, slice_index_or, slice_index, flat_map, Option, None, inl, inr, ⊎_elim, refl, sym, ap, subst, ◌∙◌}
+use Rattle.std.proofs.Common.{arith, length-append, below_more}
 use Rattle.std.specs.List.{range_with_len}
 use Rattle.std.proofs.lemmas.List.{take_more, map-append, length-map, length-take-le, append-nil}
 use Rattle.std.proofs.lemmas.List.Concat.{flat_map-append}
@@ -51,8 +51,8 @@ pub takes_one_more : (told : Record) (pv count : ℕ) (choices : List ℕ) (sect
 takes_one_more told pv count choices sectors left all value left' so_far is here rest place =
     let f : ℕ → List (Option ℕ × List ℕ) = λ sector. values told.opened told.steps pv sector in
     let more : disk_values told pv (count + 1) ≡ disk_values told pv count ++ all ∷ [] =
-        map-range_with_len_more f 0 count count (omega arith)
-            ∙ ap (λ (x : List (Option ℕ × List ℕ)). disk_values told pv count ++ x ∷ []) (sym is) in
+    map-range_with_len_more f 0 count count (omega arith)
+    ∙ ap (λ (x : List (Option ℕ × List ℕ)). disk_values told pv count ++ x ∷ []) (sym is) in
     record {
       chosen_so =
           ap (λ (l : List (List ℕ)). l ++ value ∷ []) so_far.chosen_so
@@ -69,16 +69,18 @@ takes_one_more told pv count choices sectors left all value left' so_far is here
       each =
           below_more (λ (sector : ℕ). IsPossible told pv sector (slice_index_or (sectors ++ value ∷ []) sector [])) count
           (λ sector lt. subst (IsPossible told pv sector) (sym (get_or-append sectors (value ∷ []) [] sector (omega (arith, so_far.many))))
-              (so_far.each sector lt))
+          (so_far.each sector lt))
           (let at : get_or (sectors ++ value ∷ []) count [] ≡ value = ap (λ (k : ℕ). get_or (sectors ++ value ∷ []) k []) (sym so_far.many)
-              ∙ get_or-append_seam sectors value [] [] in
+          ∙ get_or-append_seam sectors value [] [] in
           let in_all = value_in all place.0 (None, []) place.1 in
           let possible =
-              may_of told.opened told.steps pv count (get_or all place.0 (None, [])).0 (get_or all place.0 (None, [])).1
-                  (subst (λ (l : List (Option ℕ × List ℕ)). InValues l (get_or all place.0 (None, [])).0 (get_or all place.0 (None, [])).1)
-                  is in_all) in
-          ((get_or all place.0 (None, [])).0, subst (MayLeave told.opened told.steps pv count (get_or all place.0 (None, [])).0)
-              (place.2 ∙ sym at) possible));
+          may_of told.opened told.steps pv count (get_or all place.0 (None, [])).0 (get_or all place.0 (None, [])).1
+          (subst (λ (l : List (Option ℕ × List ℕ)). InValues l (get_or all place.0 (None, [])).0 (get_or all place.0 (None, [])).1)
+          is in_all) in (
+            (get_or all place.0 (None, [])).0,
+            subst (MayLeave told.opened told.steps pv count (get_or all place.0 (None, [])).0)
+                (place.2 ∙ sym at) possible,
+          ));
     }
 
 -- a range and one number more
@@ -108,11 +110,11 @@ takes_disk_more told sizes count choices disks left sectors left' so_far lt disk
     let now : List (List (Option ℕ × List ℕ)) = disk_values told count (slice_index sizes count) in
     let more : row_values told sizes (count + 1) ≡ before ++ now =
     ap (λ (l : List ℕ). flat_map f l) (range_push 0 count) ∙ flat_map-append f (range_with_len 0 count) ((0 + count) ∷ [])
-        ∙ ap (λ (k : ℕ). before ++ flat_map f (k ∷ [])) (omega arith)
+    ∙ ap (λ (k : ℕ). before ++ flat_map f (k ∷ [])) (omega arith)
     ∙ ap (λ (l : List (List (Option ℕ × List ℕ))). before ++ l) (append-nil now) in
     let joined : flat_map (λ (d : List (List ℕ)). d) (disks ++ sectors ∷ []) ≡ flat_map (λ (d : List (List ℕ)). d) disks ++ sectors =
     flat_map-append (λ (d : List (List ℕ)). d) disks (sectors ∷ [])
-        ∙ ap (λ (l : List (List ℕ)). flat_map (λ (d : List (List ℕ)). d) disks ++ l) (append-nil sectors) in
+    ∙ ap (λ (l : List (List ℕ)). flat_map (λ (d : List (List ℕ)). d) disks ++ l) (append-nil sectors) in
     let mapped = simp length-map at (ap (λ (l : List ℕ). length l) so_far.sizes_so) in
     let many : length disks ≡ count = omega (arith, mapped, length-take-le count sizes (omega arith)) in
     record {
@@ -137,10 +139,10 @@ takes_disk_more told sizes count choices disks left sectors left' so_far lt disk
           λ pv sector below inside.
           below_more (λ (p : ℕ). sector < slice_index sizes p → IsPossible told p sector (image_of (disks ++ sectors ∷ []) p sector)) count
           (λ p le within. subst (λ (l : List (List ℕ)). IsPossible told p sector (get_or l sector []))
-              (sym (get_or-append disks (sectors ∷ []) [] p (omega (arith, many)))) (so_far.each p sector le within))
+          (sym (get_or-append disks (sectors ∷ []) [] p (omega (arith, many)))) (so_far.each p sector le within))
           (λ within.
           let at : get_or (disks ++ sectors ∷ []) count [] ≡ sectors =
-              ap (λ (k : ℕ). get_or (disks ++ sectors ∷ []) k []) (sym many) ∙ get_or-append_seam disks sectors [] [] in
+          ap (λ (k : ℕ). get_or (disks ++ sectors ∷ []) k []) (sym many) ∙ get_or-append_seam disks sectors [] [] in
           subst (λ (l : List (List ℕ)). IsPossible told count sector (get_or l sector [])) (sym at) (disk.each sector within))
           pv below inside;
     }

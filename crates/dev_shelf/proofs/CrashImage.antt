@@ -1,6 +1,6 @@
 -- What the choices take of a row in memory is an image that a crash may leave.
-use Rattle.std.proofs.Common.{◌≡◌, ◌≤◌, ◌<◌, ℕ, ◌+◌, ◌-◌, true, false, cond, ◌&&◌, ◌||◌, IsTrue, List, [], ◌∷◌, length, get_or,
-    slice_index_or, ⊎_elim, refl, sym, ap, subst, ◌∙◌, arith}
+use Rattle.std.proofs.Common.{◌≡◌, ◌≤◌, ◌<◌, ℕ, ◌+◌, ◌-◌, true, false, cond, ◌&&◌, ◌||◌, IsTrue, List, [], ◌∷◌, length, get_or}
+use Rattle.std.proofs.Common.{slice_index_or, ⊎_elim, refl, sym, ap, subst, ◌∙◌, arith}
 use Rattle.std.proofs.lemmas.Bool.{cases_lt}
 use Rattle.std.proofs.lemmas.Bool.Decides.{nat_tests}
 use Rattle.std.proofs.lemmas.List.{get_or_past, take_all}
@@ -27,7 +27,7 @@ not_past sizes span sectors pv sector fills past inside =
     let same : span.pv ≡ pv = grind (arith, nat_tests) in
     let below : sector < span.first + span.count = grind (arith, nat_tests) in
     let end : span.first + span.count ≤ slice_index_or sizes pv 0 =
-        subst (λ (p : ℕ). span.first + span.count ≤ slice_index_or sizes p 0) same fills.within in
+    subst (λ (p : ℕ). span.first + span.count ≤ slice_index_or sizes p 0) same fills.within in
     omega arith
 
 -- past the end of its disk a sector stays as it was opened
@@ -67,12 +67,12 @@ module _ (told : Record) (sizes choices : List ℕ) (disks : List (List (List �
       takes.each pv sector
       (⊎_elim (λ (lt : pv < length sizes). lt)
       (λ (ge : length sizes ≤ pv). absurd (let none : slice_index_or sizes pv 0 ≡ 0 = get_or_past sizes pv 0 ge in omega arith))
-          (cases_lt pv (length sizes))) inside)
+      (cases_lt pv (length sizes))) inside)
       (λ (past : slice_index_or sizes pv 0 ≤ sector).
       let standing = now_image told follows pv sector in
       let same : now_after told.opened told.steps pv sector ≡ image_of disks pv sector =
       now_past told.opened sizes told.steps pv sector within past ∙ opened pv sector past
-          ∙ sym (none_past disks pv sector (subst (λ (l : List ℕ). slice_index_or l pv 0 ≤ sector) (sym same_sizes) past)) in
+      ∙ sym (none_past disks pv sector (subst (λ (l : List ℕ). slice_index_or l pv 0 ≤ sector) (sym same_sizes) past)) in
       (standing.0, subst (MayLeave told.opened told.steps pv sector standing.0) same standing.1))
       (cases_lt sector (slice_index_or sizes pv 0))
 
@@ -84,7 +84,7 @@ moment_is : (row : DiskRow) (moment : ℕ) → moment ≤ length row.steps.items
     → told_after row moment ≡ at_moment moment (record { opened = image_of row.opened.items; steps = steps_of row })
 moment_is row moment le =
     ap (λ (l : List Step). record { opened = image_of row.opened.items; steps = l })
-        (sym (steps_at row.written.items row.steps.items moment le))
+    (sym (steps_at row.written.items row.steps.items moment le))
 
 -- the images of a row at a moment
 module _ (row : DiskRow) (good : IsGood row) (moment : ℕ) (le : moment ≤ length row.steps.items) (choices : List ℕ)
@@ -94,12 +94,12 @@ module _ (row : DiskRow) (good : IsGood row) (moment : ℕ) (le : moment ≤ len
   row_image =
       subst (λ (t : Record). IsImage t (image_of disks)) (moment_is row moment le)
       (is_image (told_after row moment) (sizes_of row) choices disks left takes
-          (record_at row.written.items row.steps.items moment good.follows)
-          (within_at (sizes_of row) row.written.items row.steps.items moment good.within)
+      (record_at row.written.items row.steps.items moment good.follows)
+      (within_at (sizes_of row) row.written.items row.steps.items moment good.within)
       (λ pv sector past. none_past row.opened.items pv sector past))
 
   pub row_chosen : IsChosen (at_moment moment (record { opened = image_of row.opened.items; steps = steps_of row })) (sizes_of row) choices
       disks
   row_chosen =
       subst (λ (t : Record). IsChosen t (sizes_of row) choices disks) (moment_is row moment le)
-          (is_chosen (told_after row moment) (sizes_of row) choices disks left takes)
+      (is_chosen (told_after row moment) (sizes_of row) choices disks left takes)

@@ -1,7 +1,7 @@
 -- Every image that a crash may leave is one that some choices choose.
-use Rattle.std.proofs.Common.{◌≡◌, ◌≤◌, ◌<◌, ℕ, zero, suc, ◌+◌, ◌-◌, ◌^◌, Bool, true, false, not, nat_lt, ◌==◌, cond, List, [], ◌∷◌, ◌++◌,
-    length, map, take, drop, filter, get_or, slice_index, slice_index_or, flat_map, All, Option, Some, None, ⊎_elim, refl, sym, ap, ◌∙◌,
-    arith, length-append}
+use Rattle.std.proofs.Common.{◌≡◌, ◌≤◌, ◌<◌, ℕ, zero, suc, ◌+◌, ◌-◌, ◌^◌, Bool, true, false, not, nat_lt, ◌==◌, cond, List, [], ◌∷◌, ◌++◌}
+use Rattle.std.proofs.Common.{length, map, take, drop, filter, get_or, slice_index, slice_index_or, flat_map, All, Option, Some, None}
+use Rattle.std.proofs.Common.{⊎_elim, refl, sym, ap, ◌∙◌, arith, length-append}
 use Rattle.std.specs.List.{range_with_len}
 use Rattle.std.proofs.lemmas.Bool.{cases_lt}
 use Rattle.std.proofs.lemmas.Bool.Decides.{nat_tests}
@@ -62,9 +62,11 @@ unfolding IsOneOf
 chosen_place all v one true lists wanted cs many few small so =
     let P : ℕ → Type 0 = λ c. c < 2 ^ 64 in
     let small_k : one.0 < 2 ^ 64 = omega (arith, one.1, few) in
-    let here : value_number all one.0 ≡ v = ap (λ (k : ℕ). (get_or all k (None, [])).1) (mod-eq_of_lt one.1) ∙ one.2 in
-    (one.0 ∷ cs, All-cons P one.0 cs small_k small,
-        ap (λ (x : List ℕ). x ∷ chosen_values lists cs) here ∙ ap (λ (l : List (List ℕ)). v ∷ l) so)
+    let here : value_number all one.0 ≡ v = ap (λ (k : ℕ). (get_or all k (None, [])).1) (mod-eq_of_lt one.1) ∙ one.2 in (
+      one.0 ∷ cs,
+      All-cons P one.0 cs small_k small,
+      ap (λ (x : List ℕ). x ∷ chosen_values lists cs) here ∙ ap (λ (l : List (List ℕ)). v ∷ l) so,
+    )
 chosen_place all v one false lists wanted cs lone few small so =
     let le : length all ≤ 1 = grind (arith, nat_tests) in
     let first : one.0 ≡ 0 = omega (arith, one.1, le) in
@@ -95,10 +97,13 @@ few_values : (opened : Image) (steps : List Step) (pv sector : ℕ) → length (
 few_values opened [] pv sector = omega arith
 few_values opened (Submitted tag (Writing span sectors) ∷ steps) pv sector =
     (elim (covers span pv sector) as (λ b. length
-        (cond b (values opened steps pv sector ++ (Some tag, value_at span sectors sector) ∷ []) (values opened steps pv sector))
-        ≤ suc (length steps) + 1) [
-      | true ↦ omega (arith, few_values opened steps pv sector,
-          length-append (values opened steps pv sector) ((Some tag, value_at span sectors sector) ∷ []))
+    (cond b (values opened steps pv sector ++ (Some tag, value_at span sectors sector) ∷ []) (values opened steps pv sector))
+    ≤ suc (length steps) + 1) [
+      | true ↦ omega (
+        arith,
+        few_values opened steps pv sector,
+        length-append (values opened steps pv sector) ((Some tag, value_at span sectors sector) ∷ []),
+      )
       | false ↦ omega (arith, few_values opened steps pv sector)
     ])
 few_values opened (Submitted tag (Reading span) ∷ steps) pv sector = omega (arith, few_values opened steps pv sector)
@@ -108,10 +113,13 @@ few_values opened (Completed tag (Writing span sectors) well fresh ∷ steps) pv
 few_values opened (Completed tag (Flushing disk) false fresh ∷ steps) pv sector = omega (arith, few_values opened steps pv sector)
 few_values opened (Completed tag (Flushing disk) true fresh ∷ steps) pv sector =
     (elim (disk == pv) as (λ b. length (cond b
-        (filter (λ (v : Value). not (is_dropped steps tag pv sector v.0)) (values opened steps pv sector)) (values opened steps pv sector))
-        ≤ suc (length steps) + 1) [
-      | true ↦ omega (arith, few_values opened steps pv sector,
-          length_filter (λ (v : Value). not (is_dropped steps tag pv sector v.0)) (values opened steps pv sector))
+    (filter (λ (v : Value). not (is_dropped steps tag pv sector v.0)) (values opened steps pv sector)) (values opened steps pv sector))
+    ≤ suc (length steps) + 1) [
+      | true ↦ omega (
+        arith,
+        few_values opened steps pv sector,
+        length_filter (λ (v : Value). not (is_dropped steps tag pv sector v.0)) (values opened steps pv sector),
+      )
       | false ↦ omega (arith, few_values opened steps pv sector)
     ])
 
@@ -131,11 +139,11 @@ split_same g (d ∷ ds) from lengths e i lt =
     let after : List (List ℕ) = flat_map (λ (x : List (List ℕ)). x) ds in
     let after' : List (List ℕ) = flat_map g (range_with_len (from + 1) (length ds)) in
     let front : d ≡ g from =
-        sym (take-append_seam d after) ∙ ap (take (length d)) e ∙ ap (λ (k : ℕ). take k (g from ++ after')) long
-            ∙ take-append_seam (g from) after' in
+    sym (take-append_seam d after) ∙ ap (take (length d)) e ∙ ap (λ (k : ℕ). take k (g from ++ after')) long
+    ∙ take-append_seam (g from) after' in
     let back : after ≡ after' =
-        sym (drop-append_seam d after) ∙ ap (drop (length d)) e ∙ ap (λ (k : ℕ). drop k (g from ++ after')) long
-            ∙ drop-append_seam (g from) after' in
+    sym (drop-append_seam d after) ∙ ap (drop (length d)) e ∙ ap (λ (k : ℕ). drop k (g from ++ after')) long
+    ∙ drop-append_seam (g from) after' in
     (elim i as (λ j. j < suc (length ds) → get_or (d ∷ ds) j [] ≡ g (from + j)) [
       | zero ↦ λ l. front ∙ ap g (sym first)
       | suc j ↦ λ l.
@@ -150,7 +158,7 @@ module _ (told : Record) (sizes : List ℕ) (image : Image) (is : IsImage told i
   one_value : (pv sector : ℕ) → IsOneOf (values told.opened told.steps pv sector) (image pv sector)
   one_value pv sector =
       one_of (values told.opened told.steps pv sector) (is pv sector).0 (image pv sector)
-          (of_may told.opened told.steps pv sector (is pv sector).0 (image pv sector) (is pv sector).1)
+      (of_may told.opened told.steps pv sector (is pv sector).0 (image pv sector) (is pv sector).1)
 
   picked_sectors : (pv from count : ℕ) → ArePicked
       (map (λ (sector : ℕ). values told.opened told.steps pv sector) (range_with_len from count))
@@ -167,7 +175,7 @@ module _ (told : Record) (sizes : List ℕ) (image : Image) (is : IsImage told i
   picked_disks from zero = tt
   picked_disks from (suc count) =
       picked_append (disk_values told from (slice_index sizes from))
-          (flat_map (λ (pv : ℕ). disk_values told pv (slice_index sizes pv)) (range_with_len (from + 1) count))
+      (flat_map (λ (pv : ℕ). disk_values told pv (slice_index sizes pv)) (range_with_len (from + 1) count))
       (disk_sectors image sizes from) (flat_map (disk_sectors image sizes) (range_with_len (from + 1) count))
       (picked_sectors from 0 (slice_index sizes from)) (picked_disks (from + 1) count)
 
@@ -188,9 +196,8 @@ module _ (told : Record) (sizes : List ℕ) (image : Image) (is : IsImage told i
   unfolding disk_sectors
   can_be_chosen =
       let p =
-          picks (row_values told sizes (length sizes)) (flat_map (disk_sectors image sizes) (range_with_len 0 (length sizes)))
-              (picked_disks 0 (length sizes)) in
-      (
+      picks (row_values told sizes (length sizes)) (flat_map (disk_sectors image sizes) (range_with_len 0 (length sizes)))
+      (picked_disks 0 (length sizes)) in (
         p.0,
         p.1,
         λ images is_chosen pv sector lt.
@@ -201,7 +208,7 @@ module _ (told : Record) (sizes : List ℕ) (image : Image) (is : IsImage told i
             let below : pv < length images =
             ⊎_elim (λ (yes : pv < length sizes). let r : pv < length images = omega (arith, many) in r)
             (λ (no : length sizes ≤ pv). absurd (let none : slice_index_or sizes pv 0 ≡ 0 = get_or_past sizes pv 0 no in omega arith))
-                (cases_lt pv (length sizes)) in
+            (cases_lt pv (length sizes)) in
             let same = split_same (disk_sectors image sizes) images 0 (same_lengths images is_chosen.sizes_same) all pv below in
             let zero_on : 0 + pv ≡ pv = omega arith in
             ap (λ (l : List (List ℕ)). get_or l sector []) (same ∙ ap (disk_sectors image sizes) zero_on)
@@ -214,5 +221,12 @@ pub each_chosen : (row : DiskRow) → IsGood row → (moment : ℕ)
     (at_moment moment (record { opened = image_of row.opened.items; steps = steps_of row }))
 each_chosen row good moment image is =
     can_be_chosen (at_moment moment (record { opened = image_of row.opened.items; steps = steps_of row })) (sizes_of row) image is
-    (omega (arith, length-drop (length (steps_of row) - moment) (steps_of row), length_onto row.written.items [] row.steps.items,
-        row.steps.ok.0, good.steps, good.queue.steps, good.queue.life))
+    (omega (
+      arith,
+      length-drop (length (steps_of row) - moment) (steps_of row),
+      length_onto row.written.items [] row.steps.items,
+      row.steps.ok.0,
+      good.steps,
+      good.queue.steps,
+      good.queue.life,
+    ))

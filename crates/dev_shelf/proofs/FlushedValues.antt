@@ -24,7 +24,7 @@ module _ (opened : Image) (written : List (List ℕ)) (earlier : List Step) (ste
   flush_sole went here follows sole =
       let e : step ≡ Ended tag (Flushes pv) true fresh = cc in
       subst (λ (s : RecordedStep). IsRecord (step_at written s ∷ earlier) → Stay s) (sym e)
-          (λ r. sole_stays opened earlier tag pv sector (replicate fresh true) r sole) follows
+      (λ r. sole_stays opened earlier tag pv sector (replicate fresh true) r sole) follows
 
   -- the values of another disk stay
   pub flush_other : (disk ≡ pv → ⊥) → Stay step

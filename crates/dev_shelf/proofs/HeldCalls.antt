@@ -40,7 +40,7 @@ submits_back plan old new op tag submits =
       ready = λ t h.
           subst (λ (l : List Step). Contains (ready_tags plan l (state_of new).in_flight) t) (sym steps)
           (subst (λ (l : List Operation). Contains (ready_tags plan (Submitted tag (work_of op) ∷ steps_of old) l) t)
-              (sym submits.in_flight)
+          (sym submits.in_flight)
           (ready_more plan (steps_of old) (state_of old).in_flight (record { tag = tag; work = work_of op } ∷ []) t h));
       told = submits.told;
       spare_ops = submits.spare_ops;
@@ -67,7 +67,7 @@ completes_back plan old new done completes =
           subst (λ (l : List Step). Contains (ready_tags plan l (state_of new).in_flight) t) (sym steps)
           (subst (λ (l : List Operation). Contains (ready_tags plan (step ∷ steps_of old) l) t) (sym completes.in_flight)
           (others_pass p q (ready_after done.tag (work_of done.op) done.well completes.told.0 (steps_of old) plan) done.tag
-              (state_of old).in_flight t h other));
+          (state_of old).in_flight t h other));
       told = completes.told;
       reads = completes.reads;
       spare_ops = completes.spare_ops;

@@ -1,6 +1,6 @@
 -- What is held, as steps are added: a submission holds nothing more, and neither does a completion.
-use Rattle.std.proofs.Common.{◌≡◌, ◌≢◌, ◌⊎◌, inl, inr, ◌<◌, ℕ, nat_le, nat_lt, Bool, true, false, not, ◌==◌, zero, suc, ◌&&◌, ◌||◌,
-    if◌then◌else◌, cond, List, [], ◌∷◌, filter, Contains, ⊎_elim, refl, sym, ap, subst, ◌∙◌, arith}
+use Rattle.std.proofs.Common.{◌≡◌, ◌≢◌, ◌⊎◌, inl, inr, ◌<◌, ℕ, nat_le, nat_lt, Bool, true, false, not, ◌==◌, zero, suc, ◌&&◌, ◌||◌}
+use Rattle.std.proofs.Common.{if◌then◌else◌, cond, List, [], ◌∷◌, filter, Contains, ⊎_elim, refl, sym, ap, subst, ◌∙◌, arith}
 use Rattle.std.specs.List.{list_any}
 use Rattle.std.proofs.lemmas.Bool.Decides.{eqb_tells}
 use Rattle.std.proofs.lemmas.List.Elements.{Contains-append_right}
@@ -30,7 +30,7 @@ any_weaker : {X : Type 0} (p q : X → Bool) → ((x : X) → p x ≡ true → q
 any_weaker p q h [] e = e
 any_weaker p q h (x ∷ xs) e =
     ⊎_elim (λ here. or_left (q x) (list_any q xs) (h x here)) (λ later. or_right (q x) (list_any q xs) (any_weaker p q h xs later))
-        (or_cases (p x) (list_any p xs) e)
+    (or_cases (p x) (list_any p xs) e)
 
 -- and so with one more in front
 any_more : (b : Bool) (q : ℕ → Bool) (tag : ℕ) (tags : List ℕ) → list_any q tags ≡ true → list_any q (if b then tag ∷ tags else tags) ≡ true
@@ -44,11 +44,11 @@ module _ (tag : ℕ) (work : Work) (well : Bool) (fresh : List Bool) (steps : Li
       let wrote : Work → Bool = λ w. writes w hold.until_pv hold.until in
       let before : ℕ → Bool = λ write. list_any (λ flush. nat_lt write flush) (done_well (flushes hold.until_pv) steps) in
       let after : ℕ → Bool =
-          λ write. list_any (λ flush. nat_lt write flush) (done_well (flushes hold.until_pv) (Completed tag work well fresh ∷ steps)) in
+      λ write. list_any (λ flush. nat_lt write flush) (done_well (flushes hold.until_pv) (Completed tag work well fresh ∷ steps)) in
       any_more (well && wrote work) after tag (done_well wrote steps)
       (any_weaker before after
       (λ write e. any_more (well && flushes hold.until_pv work) (λ flush. nat_lt write flush) tag (done_well (flushes hold.until_pv) steps)
-          e)
+      e)
       (done_well wrote steps) h)
 
   kept_fewer : (a b c : Bool) → (b ≡ true → c ≡ true) → (a && not c) ≡ true → (a && not b) ≡ true
@@ -124,5 +124,5 @@ others_pass p q h tag (o ∷ os) t was other =
     (rw kept (here_passes q o rest (h o passes))))
     later
     (contains_cons o.tag (tags_of (filter p os)) t
-        (subst (λ (b : Bool). Contains (tags_of (cond b (o ∷ filter p os) (filter p os))) t) passes was)))
+    (subst (λ (b : Bool). Contains (tags_of (cond b (o ∷ filter p os) (filter p os))) t) passes was)))
     (is_either (p o))

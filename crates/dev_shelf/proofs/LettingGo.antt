@@ -1,6 +1,6 @@
 -- How vain answers are counted, and the oldest operation in flight is let go.
-use Rattle.std.proofs.Common.{◌≡◌, ◌≢◌, ◌≤◌, ◌<◌, ℕ, ◌+◌, ◌^◌, nat_le, Bool, true, false, not, ◌&&◌, cond, List, [], ◌∷◌, length, map,
-    filter, get_or, All, Contains, ⊎_elim, refl, sym, ap, subst, ◌∙◌, arith}
+use Rattle.std.proofs.Common.{◌≡◌, ◌≢◌, ◌≤◌, ◌<◌, ℕ, ◌+◌, ◌^◌, nat_le, Bool, true, false, not, ◌&&◌, cond, List, [], ◌∷◌, length, map}
+use Rattle.std.proofs.Common.{filter, get_or, All, Contains, ⊎_elim, refl, sym, ap, subst, ◌∙◌, arith}
 use Rattle.std.specs.List.{list_any}
 use Rattle.std.proofs.lemmas.Bool.Decides.{leb_tells}
 use Rattle.std.proofs.lemmas.List.Elements.{All-head}
@@ -77,13 +77,13 @@ pub counts : (os : List Operation) (plan : PlanLeft) → os ≢ [] → plan.vain
 counts [] plan some lt = absurd (some refl)
 counts (o ∷ os) plan some lt =
     ⊎_elim (λ is. absurd (let le : plan.limit ≤ plan.vain + 1 = is.1 in omega arith)) (λ isnt. rw isnt.0 refl)
-        (leb_tells plan.limit (plan.vain + 1))
+    (leb_tells plan.limit (plan.vain + 1))
 
 pub lets_go : (os : List Operation) (plan : PlanLeft) → plan.limit ≤ plan.vain + 1 → after_vain os plan ≡ before_settling [] os plan
 lets_go [] plan le = refl
 lets_go (o ∷ os) plan le =
     ⊎_elim (λ is. rw is.0 refl) (λ isnt. absurd (let lt : plan.vain + 1 < plan.limit = isnt.1 in omega arith))
-        (leb_tells plan.limit (plan.vain + 1))
+    (leb_tells plan.limit (plan.vain + 1))
 
 -- where something is ready none is let go
 pub stays : (tags : List ℕ) (os : List Operation) (plan : PlanLeft) → tags ≢ [] → before_settling tags os plan ≡ plan
@@ -108,7 +108,7 @@ pub makes_more : (plan : PlanLeft) (state : State) → state.ready ≡ [] → Ma
 makes_more plan state none = record {
   ready =
       λ t h. absurd (let inside : Contains [] t = subst (λ (l : List ℕ). Contains l t) none h in let lt : inside.0
-          < 0 = inside.1 in omega arith);
+      < 0 = inside.1 in omega arith);
   same = refl;
 }
 

@@ -1,6 +1,6 @@
 -- What a row in memory reads off its record about holds is what the contracts say of the record.
-use Rattle.std.proofs.Common.{◌≡◌, ◌≢◌, ◌<◌, ◌↔◌, ℕ, nat_le, nat_lt, IsTrue, Bool, true, false, not, ◌==◌, ◌&&◌, ◌||◌, if◌then◌else◌, cond,
-    List, [], ◌∷◌, length, map, filter, replicate, ⊎_elim, refl, sym, ap, subst, arith, ◌∙◌}
+use Rattle.std.proofs.Common.{◌≡◌, ◌≢◌, ◌<◌, ◌↔◌, ℕ, nat_le, nat_lt, IsTrue, Bool, true, false, not, ◌==◌, ◌&&◌, ◌||◌, if◌then◌else◌, cond}
+use Rattle.std.proofs.Common.{List, [], ◌∷◌, length, map, filter, replicate, ⊎_elim, refl, sym, ap, subst, arith, ◌∙◌}
 use Rattle.std.specs.List.{list_any}
 use Rattle.std.proofs.Math.Bool.{or-false}
 use Rattle.std.proofs.Math.Path.{fun_ext}
@@ -46,7 +46,7 @@ flush_same written (Flushes disk) pv = refl
 -- a test of those that completed well, step by step
 module _ (written : List (List ℕ)) (kind : Work → Bool) (q : ℕ → Bool) (one : RecordedStep → Bool)
     (step : (r : RecordedStep) (earlier : List Step)
-        → list_any q (done_well kind (step_at written r ∷ earlier)) ≡ (one r || list_any q (done_well kind earlier))) where
+    → list_any q (done_well kind (step_at written r ∷ earlier)) ≡ (one r || list_any q (done_well kind earlier))) where
   done_onto : (earlier : List Step) (rs : List RecordedStep)
       → list_any q (done_well kind (steps_onto written earlier rs)) ≡ (list_any one rs || list_any q (done_well kind earlier))
   done_onto earlier [] = refl

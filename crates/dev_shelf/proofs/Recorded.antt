@@ -1,6 +1,6 @@
 -- The record of a row in memory, as steps and sectors are added.
-use Rattle.std.proofs.Common.{◌≡◌, ◌≤◌, ◌<◌, ℕ, ◌+◌, true, List, [], ◌∷◌, ◌++◌, length, take, drop, replicate, get_or, All, refl, sym, ap,
-    ◌∙◌, arith}
+use Rattle.std.proofs.Common.{◌≡◌, ◌≤◌, ◌<◌, ℕ, ◌+◌, true, List, [], ◌∷◌, ◌++◌, length, take, drop, replicate, get_or, All, refl, sym, ap}
+use Rattle.std.proofs.Common.{◌∙◌, arith}
 use Rattle.std.proofs.lemmas.Grind.{common_steps}
 use Rattle.std.proofs.lemmas.List.{take_more, take-append-le, drop-append-le}
 use Rattle.std.proofs.lemmas.List.Elements.{All-head, All-tail}
@@ -41,7 +41,7 @@ pub steps_kept : (written more : List (List ℕ)) (earlier : List Step) (es : Li
 steps_kept written more earlier [] h = refl
 steps_kept written more earlier (e ∷ es) h =
     ap (λ (s : Step). steps_onto (written ++ more) (s ∷ earlier) es)
-        (step_kept written more e (All-head (λ (x : RecordedStep). IsKept (length written) (recorded_work x)) e es h))
+    (step_kept written more e (All-head (λ (x : RecordedStep). IsKept (length written) (recorded_work x)) e es h))
     ∙ steps_kept written more (step_at written e ∷ earlier) es
     (All-tail (λ (x : RecordedStep). IsKept (length written) (recorded_work x)) e es h)
 

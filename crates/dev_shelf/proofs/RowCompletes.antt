@@ -1,6 +1,6 @@
 -- A row in memory, after one completion.
-use Rattle.std.proofs.Common.{◌≡◌, ◌<◌, ℕ, ◌+◌, vec_len, vec_capacity, Bool, true, false, List, [], ◌∷◌, ◌++◌, length, remove, replicate,
-    get_or, Some, refl, sym, ap, subst, ◌∙◌, arith}
+use Rattle.std.proofs.Common.{◌≡◌, ◌<◌, ℕ, ◌+◌, vec_len, vec_capacity, Bool, true, false, List, [], ◌∷◌, ◌++◌, length, remove, replicate}
+use Rattle.std.proofs.Common.{get_or, Some, refl, sym, ap, subst, ◌∙◌, arith}
 use Rattle.std.proofs.lemmas.List.{length-map, get_or-map}
 use Rattle.std.proofs.lemmas.List.Elements.{All-push}
 use Rattle.disk_model.specs.declared.ops.Op.{Op}
@@ -65,7 +65,7 @@ carried_out_on old at tag op done rest good taken same lies =
 module _ (old new : DiskRow) (at : ℕ) (op : RecordedOp) (done : Done) (fresh : ℕ) (good : IsGood old)
     (completes : CompletesAt (queue_state old.queue) at done (queue_state new.queue)) (which : op ≡ get_or old.in_flight.items at op)
     (in_flight : new.in_flight.items ≡ remove old.in_flight.items at)
-        (steps : new.steps.items ≡ old.steps.items ++ Ended done.tag op.work done.well fresh ∷ [])
+    (steps : new.steps.items ≡ old.steps.items ++ Ended done.tag op.work done.well fresh ∷ [])
     (written : new.written ≡ old.written) (opened : new.opened ≡ old.opened) where
   here : at < length old.in_flight.items
   here = omega (arith, completes.here, as_many old good)
@@ -94,13 +94,13 @@ module _ (old new : DiskRow) (at : ℕ) (op : RecordedOp) (done : Done) (fresh :
   work_found : work_of_tag (in_flight_after (steps_of old)) done.tag ≡ Some (work_of done.op)
   work_found =
       rw (← good.in_flight) (found_at (queue_state old.queue).in_flight at (record { tag = done.tag; work = work_of done.op })
-          completes.here completes.which (queue_lawful old.queue good.queue).order)
+      completes.here completes.which (queue_lawful old.queue good.queue).order)
 
   -- so the row's state has it
   pub completes_ended : ReadsImage (image_of old.current.items) done.op done.well → Completes (state_of old) done (state_of new)
   completes_ended reads =
       completes_telling (queue_state old.queue) (queue_state new.queue) done (told_by old) (told_by new) (replicate fresh true)
-          completes.completes
+      completes.completes
       (rw opened (ap (λ (l : List Step). record { opened = image_of old.opened.items; steps = l }) steps_ended))
       (reads_now (told_by old) (image_of old.current.items) done.tag done.op done.well good.now reads)
 
@@ -123,11 +123,14 @@ module _ (old new : DiskRow) (at : ℕ) (op : RecordedOp) (done : Done) (fresh :
     follows = rw steps_ended (work_found, good.follows);
     next = rw (steps_ended, completes.completes.next) good.next;
     within =
-        rw (opened, steps_ended) (within_of (sizes_of old) done.op
-            (subst (λ (l : List ℕ). Lies l done.op) good.sizes completes.completes.lies), good.within);
+        rw (opened, steps_ended) (
+          within_of (sizes_of old) done.op
+              (subst (λ (l : List ℕ). Lies l done.op) good.sizes completes.completes.lies),
+          good.within,
+        );
     kept =
         rw (steps, written) (All-push (λ (e : RecordedStep). IsKept (length old.written.items) (recorded_work e)) old.steps.items
-            (Ended done.tag op.work done.well fresh) good.kept kept_so);
+        (Ended done.tag op.work done.well fresh) good.kept kept_so);
     opened_sectors = rw opened good.opened_sectors;
     written_sectors = rw written good.written_sectors;
     now = λ pv s. now pv s

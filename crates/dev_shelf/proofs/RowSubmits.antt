@@ -1,6 +1,6 @@
 -- A row in memory, after one submission.
-use Rattle.std.proofs.Common.{◌≡◌, ◌≤◌, ℕ, ◌+◌, vec_len, vec_capacity, All, List, [], ◌∷◌, ◌++◌, length, map, refl, sym, subst, ap, ◌∙◌,
-    arith, length-append}
+use Rattle.std.proofs.Common.{◌≡◌, ◌≤◌, ℕ, ◌+◌, vec_len, vec_capacity, All, List, [], ◌∷◌, ◌++◌, length, map, refl, sym, subst, ap, ◌∙◌}
+use Rattle.std.proofs.Common.{arith, length-append}
 use Rattle.std.proofs.lemmas.List.{map-append}
 use Rattle.std.proofs.lemmas.List.Elements.{All-append, All-head, All-push, All-tail, All-weaker}
 use Rattle.sector_base.specs.Sectors.{IsSector}
@@ -75,7 +75,7 @@ module _ (old new : DiskRow) (op : Op) (tag : ℕ) (recorded : RecordedWork) (mo
   recorded_new : map (operation_at new.written.items) new.in_flight.items ≡ (queue_state new.queue).in_flight
   recorded_new =
       let one : work_at (old.written.items ++ more) recorded ≡ work_of op =
-          subst (λ (l : List (List ℕ)). work_at l recorded ≡ work_of op) written work in
+      subst (λ (l : List (List ℕ)). work_at l recorded ≡ work_of op) written work in
       let with_work : Work → Operation = λ w. record { tag = tag; work = w } in
       rw (in_flight, written)
       (map-append (operation_at (old.written.items ++ more)) old.in_flight.items (record { tag = tag; work = recorded } ∷ [])
@@ -92,7 +92,7 @@ module _ (old new : DiskRow) (op : Op) (tag : ℕ) (recorded : RecordedWork) (mo
   good_new queue now sectors len_written cap_written len_flying cap_flying len_steps cap_steps =
       let one_more : length (queue_state new.queue).in_flight ≡ length (queue_state old.queue).in_flight + 1 =
       ap (λ (l : List Operation). length l) submits.in_flight
-          ∙ length-append (queue_state old.queue).in_flight (record { tag = tag; work = work_of op } ∷ []) in
+      ∙ length-append (queue_state old.queue).in_flight (record { tag = tag; work = work_of op } ∷ []) in
       record {
         queue = queue;
         sizes = rw opened (submits.sizes ∙ good.sizes);
@@ -107,9 +107,9 @@ module _ (old new : DiskRow) (op : Op) (tag : ℕ) (recorded : RecordedWork) (mo
         within = rw (opened, steps_new) (within_of (sizes_of old) op (subst (λ (l : List ℕ). Lies l op) good.sizes lies), good.within);
         kept =
             rw steps (All-push (λ (e : RecordedStep). IsKept (length new.written.items) (recorded_work e)) old.steps.items
-                (Began tag recorded) (All-weaker (λ (e : RecordedStep). IsKept (length old.written.items) (recorded_work e))
-                (λ (e : RecordedStep). IsKept (length new.written.items) (recorded_work e))
-                (λ e h. kept_more _ _ (recorded_work e) longer h) old.steps.items good.kept) kept);
+            (Began tag recorded) (All-weaker (λ (e : RecordedStep). IsKept (length old.written.items) (recorded_work e))
+            (λ (e : RecordedStep). IsKept (length new.written.items) (recorded_work e))
+            (λ e h. kept_more _ _ (recorded_work e) longer h) old.steps.items good.kept) kept);
         opened_sectors = rw opened good.opened_sectors;
         written_sectors = rw written (All-append IsSector old.written.items more good.written_sectors sectors);
         now = rw (now, opened, steps_new) good.now;

@@ -1,6 +1,6 @@
 -- A sector that no write has touched has the opened value alone.
-use Rattle.std.proofs.Common.{◌≡◌, ◌≤◌, ℕ, ◌+◌, Bool, true, false, not, ◌==◌, ◌&&◌, ◌||◌, cond, List, [], ◌∷◌, filter, slice_index_or,
-    Option, None, refl, ap, subst, ◌∙◌, arith}
+use Rattle.std.proofs.Common.{◌≡◌, ◌≤◌, ℕ, ◌+◌, Bool, true, false, not, ◌==◌, ◌&&◌, ◌||◌, cond, List, [], ◌∷◌, filter, slice_index_or}
+use Rattle.std.proofs.Common.{Option, None, refl, ap, subst, ◌∙◌, arith}
 use Rattle.sector_base.specs.Spans.{covers}
 use Rattle.disk_model.specs.Brought.{writes}
 use Rattle.disk_model.specs.Steps.{Image, Reading, Writing, Flushing, Step, Submitted, Completed, Record}
@@ -36,8 +36,10 @@ not_overtaken (Completed tag (Flushing disk) well fresh ∷ steps) pv sector wri
 not_overtaken (Completed tag (Writing span sectors) false fresh ∷ steps) pv sector write h =
     not_overtaken steps pv sector write (or_right (covers span pv sector) (is_touched steps pv sector) h)
 not_overtaken (Completed tag (Writing span sectors) true fresh ∷ steps) pv sector write h =
-    rw (not_overtaken steps pv sector write (or_right (covers span pv sector) (is_touched steps pv sector) h),
-        or_left (covers span pv sector) (is_touched steps pv sector) h) refl
+    rw (
+      not_overtaken steps pv sector write (or_right (covers span pv sector) (is_touched steps pv sector) h),
+      or_left (covers span pv sector) (is_touched steps pv sector) h,
+    ) refl
 
 not_dropped : (steps : List Step) (flush pv sector : ℕ) (write : Option ℕ) → is_touched steps pv sector ≡ false
     → is_dropped steps flush pv sector write ≡ false
@@ -60,16 +62,16 @@ untouched_values opened (Submitted tag (Reading span) ∷ steps) pv sector h = u
 untouched_values opened (Submitted tag (Flushing disk) ∷ steps) pv sector h = untouched_values opened steps pv sector h
 untouched_values opened (Submitted tag (Writing span sectors) ∷ steps) pv sector h =
     rw (or_left (covers span pv sector) (is_touched steps pv sector) h)
-        (untouched_values opened steps pv sector (or_right (covers span pv sector) (is_touched steps pv sector) h))
+    (untouched_values opened steps pv sector (or_right (covers span pv sector) (is_touched steps pv sector) h))
 untouched_values opened (Completed tag (Reading span) well fresh ∷ steps) pv sector h = untouched_values opened steps pv sector h
 untouched_values opened (Completed tag (Writing span sectors) well fresh ∷ steps) pv sector h =
     untouched_values opened steps pv sector (or_right (covers span pv sector) (is_touched steps pv sector) h)
 untouched_values opened (Completed tag (Flushing disk) false fresh ∷ steps) pv sector h = untouched_values opened steps pv sector h
 untouched_values opened (Completed tag (Flushing disk) true fresh ∷ steps) pv sector h =
     let Kept : List Value → List Value =
-        λ vs. cond {A = List Value} (disk == pv) (filter (λ (v : Value). not (is_dropped steps tag pv sector v.0)) vs) vs in
+    λ vs. cond {A = List Value} (disk == pv) (filter (λ (v : Value). not (is_dropped steps tag pv sector v.0)) vs) vs in
     ap Kept (untouched_values opened steps pv sector h)
-        ∙ stays (disk == pv) (is_dropped steps tag pv sector None) (not_dropped steps tag pv sector None h)
+    ∙ stays (disk == pv) (is_dropped steps tag pv sector None) (not_dropped steps tag pv sector None h)
   where
     stays : (b d : Bool) → d ≡ false → cond {A = List Value} b (cond {A = List Value} (not d) (sole opened pv sector) [])
         (sole opened pv sector) ≡ sole opened pv sector

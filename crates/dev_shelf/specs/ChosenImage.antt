@@ -1,6 +1,6 @@
 -- One image that a crash may leave, named by a list of choices.
-use Rattle.std.specs.Prelude.{◌≡◌, ◌<◌, ℕ, ◌%◌, ◌^◌, All, nat_lt, if◌then◌else◌, List, [], ◌∷◌, length, map, drop, flat_map, slice_index,
-    slice_index_or, Option, None}
+use Rattle.std.specs.Prelude.{◌≡◌, ◌<◌, ℕ, ◌%◌, ◌^◌, All, nat_lt, if◌then◌else◌, List, [], ◌∷◌, length, map, drop, flat_map, slice_index}
+use Rattle.std.specs.Prelude.{slice_index_or, Option, None}
 use Rattle.std.specs.List.{range_with_len}
 use Rattle.disk_model.specs.Steps.{Image, Record}
 use Rattle.disk_model.specs.ValueList.{values}
@@ -16,7 +16,7 @@ abbrev pub chosen_values : List (List (Option ℕ × List ℕ)) → List ℕ →
 chosen_values [] choices = []
 chosen_values (all ∷ rest) choices =
     if nat_lt 1 (length all) then value_number all (slice_index choices 0) ∷ chosen_values rest (drop 1 choices) else value_number all 0
-        ∷ chosen_values rest choices
+    ∷ chosen_values rest choices
 
 -- the values of each of the first so many sectors of the disk, in order
 abbrev pub disk_values : Record → ℕ → ℕ → List (List (Option ℕ × List ℕ))
@@ -39,4 +39,4 @@ HasSectors sizes images image = (pv sector : ℕ) → sector < slice_index_or si
 abbrev pub CanBeChosen : Record → List ℕ → Image → Type 0
 CanBeChosen told sizes image =
     (choices : List ℕ) × All (λ c. c < 2 ^ 64) choices
-        × ((images : List (List (List ℕ))) → IsChosen told sizes choices images → HasSectors sizes images image)
+    × ((images : List (List (List ℕ))) → IsChosen told sizes choices images → HasSectors sizes images image)

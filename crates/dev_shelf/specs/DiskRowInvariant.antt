@@ -1,6 +1,6 @@
 -- What holds of every row of disks in memory, and that it makes the row's state lawful.
-use Rattle.std.specs.Prelude.{◌≡◌, ◌≤◌, ◌<◌, ℕ, ◌+◌, ◌*◌, ◌^◌, Bool, true, List, [], ◌∷◌, length, map, slice_index_or, vec_len,
-    vec_capacity, All, IsTrue, if◌then◌else◌, min}
+use Rattle.std.specs.Prelude.{◌≡◌, ◌≤◌, ◌<◌, ℕ, ◌+◌, ◌*◌, ◌^◌, Bool, true, List, [], ◌∷◌, length, map, slice_index_or, vec_len}
+use Rattle.std.specs.Prelude.{vec_capacity, All, IsTrue, if◌then◌else◌, min}
 use Rattle.sector_base.specs.Spans.{covers}
 use Rattle.sector_base.specs.declared.spans.Span.{Span}
 use Rattle.sector_base.specs.Sectors.{IsSector}
@@ -111,7 +111,7 @@ brings_step written all (Began tag (Writes span from)) kept earlier b = (
   λ pv sector inside.
       let within : sector - span.first < span.count = in_span span pv sector inside in
       subst IsSector (sym (get_or-take span.count (drop from written) (sector - span.first) [] within
-          ∙ get_or-drop from written (sector - span.first) []))
+      ∙ get_or-drop from written (sector - span.first) []))
       (all (from + (sector - span.first)) [] (omega (arith, kept))),
   b,
 )
@@ -124,7 +124,7 @@ brings_sectors written all earlier b [] kept = b
 brings_sectors written all earlier b (r ∷ rs) kept =
     let P : RecordedStep → Type 0 = λ r. IsKept (length written) (recorded_work r) in
     brings_sectors written all (step_at written r ∷ earlier) (brings_step written all r (All-head P r rs kept) earlier b) rs
-        (All-tail P r rs kept)
+    (All-tail P r rs kept)
 
 -- the state of a row is lawful
 pub lawful_of : (row : DiskRow) → IsGood row → IsLawful (state_of row)
@@ -132,7 +132,7 @@ lawful_of row good =
     lawful_telling (queue_state row.queue) (told_by row) (queue_lawful row.queue good.queue) good.follows good.next good.in_flight
     (sym good.steps ∙ omega (arith, length_onto row.written.items [] row.steps.items, row.steps.ok.0))
     (λ pv sector lt. opened_sector row.opened.items good.opened_sectors pv sector
-        (subst (λ (l : List ℕ). sector < slice_index_or l pv 0) good.sizes lt))
+    (subst (λ (l : List ℕ). sector < slice_index_or l pv 0) good.sizes lt))
     (brings_sectors row.written.items good.written_sectors [] tt row.steps.items good.kept)
 
 kept_prop : (size : ℕ) (work : RecordedWork) → IsProp (IsKept size work)

@@ -1,6 +1,6 @@
 -- How a plan orders the completions of a shelf in memory, holds some back, and fails them.
-use Rattle.std.specs.Prelude.{◌≡◌, ◌<◌, ℕ, ◌+◌, ◌%◌, nat_le, nat_lt, Bool, true, false, not, ◌==◌, ◌&&◌, if◌then◌else◌, List, [], ◌∷◌,
-    length, drop, filter, replicate, slice_index, AllPairs, Option, Some, None, is_none, unwrap_or, option_map}
+use Rattle.std.specs.Prelude.{◌≡◌, ◌<◌, ℕ, ◌+◌, ◌%◌, nat_le, nat_lt, Bool, true, false, not, ◌==◌, ◌&&◌, if◌then◌else◌, List, [], ◌∷◌}
+use Rattle.std.specs.Prelude.{length, drop, filter, replicate, slice_index, AllPairs, Option, Some, None, is_none, unwrap_or, option_map}
 use Rattle.std.specs.List.{list_any}
 use Rattle.disk_model.specs.declared.ops.Done.{Done}
 use Rattle.dev_shelf.specs.declared.plan.Fail.{Fail}
@@ -28,8 +28,15 @@ pub record PlanLeft : Type 0 where
 -- a whole plan, before the first call
 abbrev pub whole_plan : ShelfPlan → PlanLeft
 whole_plan plan =
-    record { picks = plan.picks.items; fails = plan.fails.items; holds = plan.holds.items; limit = plan.limit; vain = 0; let_go = 0;
-        forced = 0 }
+    record {
+      picks = plan.picks.items;
+      fails = plan.fails.items;
+      holds = plan.holds.items;
+      limit = plan.limit;
+      vain = 0;
+      let_go = 0;
+      forced = 0;
+    }
 
 -- the tags of the operations of this kind that completed well
 abbrev pub done_well : (Work → Bool) → List Step → List ℕ
@@ -48,7 +55,7 @@ flushes pv (Flushing disk) = disk == pv
 abbrev pub has_come : List Step → Hold → Bool
 has_come steps hold =
     list_any (λ write. list_any (λ flush. nat_lt write flush) (done_well (flushes hold.until_pv) steps))
-        (done_well (λ work. writes work hold.until_pv hold.until) steps)
+    (done_well (λ work. writes work hold.until_pv hold.until) steps)
 
 -- the hold keeps the operation back: a write of its sector, until what it waits for has come
 abbrev pub keeps_back : List Step → Operation → Hold → Bool

@@ -1,6 +1,6 @@
 -- What a read gives after steps that began where nothing was in flight.
-use Rattle.std.proofs.Common.{◌≡◌, ◌⊎◌, ℕ, ◌-◌, Bool, true, false, ◌&&◌, ◌||◌, IsTrue, cond, List, [], ◌∷◌, ◌++◌, map, inl, inr, ⊎_elim,
-    refl, sym, ap, subst, ◌∙◌}
+use Rattle.std.proofs.Common.{◌≡◌, ◌⊎◌, ℕ, ◌-◌, Bool, true, false, ◌&&◌, ◌||◌, IsTrue, cond, List, [], ◌∷◌, ◌++◌, map, inl, inr, ⊎_elim}
+use Rattle.std.proofs.Common.{refl, sym, ap, subst, ◌∙◌}
 use Rattle.std.specs.Prelude.{slice_index_or}
 use Rattle.std.proofs.lemmas.Bool.Decides.{eqb_tells}
 use Rattle.sector_base.specs.declared.spans.Span.{Span}
@@ -39,8 +39,8 @@ module _ (opened : Image) (older : List Step) (idle : in_flight_after older ≡ 
   in_flight_brings [] b f a = absurd (subst (λ (l : List Operation). IsIn l f) idle a)
   in_flight_brings (Submitted tag work ∷ since) b f a =
       ⊎_elim (λ was. in_flight_brings since b.1 f was)
-          (λ (e : record { tag = tag; work = work } ≡ f). subst (λ (w : Work). BringsAt w pv sector Q) (ap (λ (o : Operation). o.work) e)
-          b.0)
+      (λ (e : record { tag = tag; work = work } ≡ f). subst (λ (w : Work). BringsAt w pv sector Q) (ap (λ (o : Operation). o.work) e)
+      b.0)
       (in_append (in_flight_after (since ++ older)) _ f a)
   in_flight_brings (Completed tag work well fresh ∷ since) b f a =
       in_flight_brings since b f (in_filter (in_flight_after (since ++ older)) tag f a).0
@@ -67,7 +67,7 @@ module _ (opened : Image) (older : List Step) (idle : in_flight_after older ≡ 
   now_kept_or_brought (Submitted tag work ∷ since) is b = now_kept_or_brought since is.1 b.1
   now_kept_or_brought (Completed tag (Writing span sectors) well fresh ∷ since) is b =
       now_here since span sectors (covers span pv sector) (well || slice_index_or fresh (sector - span.first) false) refl
-          (completed_brings since tag (Writing span sectors) well fresh is b) (now_kept_or_brought since is.1 b)
+      (completed_brings since tag (Writing span sectors) well fresh is b) (now_kept_or_brought since is.1 b)
   now_kept_or_brought (Completed tag (Reading span) well fresh ∷ since) is b = now_kept_or_brought since is.1 b
   now_kept_or_brought (Completed tag (Flushing disk) well fresh ∷ since) is b = now_kept_or_brought since is.1 b
 
@@ -114,13 +114,13 @@ module _ (opened : Image) (older : List Step) (idle : in_flight_after older ≡ 
       ⊎_elim
       (λ here. inr (record { tag = tag; work = work }, in_newest (in_flight_after (since ++ older)) _, here))
       (λ before. ⊎_elim (λ q. inl q) (λ w. inr (w.0, in_older (in_flight_after (since ++ older)) _ w.0 w.1, w.2))
-          (now_brought_or_written since is.1 b.1 well before)) one
+      (now_brought_or_written since is.1 b.1 well before)) one
   now_brought_or_written (Completed tag work false fresh ∷ since) is b well one = absurd well
   now_brought_or_written (Completed tag work true fresh ∷ since) is b well one =
       ⊎_elim
       (λ (here : false ≡ true). cc)
       (λ before. written_on since tag work fresh is (completed_brings since tag work true fresh is b)
-          (now_brought_or_written since is.1 b well before)) one
+      (now_brought_or_written since is.1 b well before)) one
 
   -- once nothing is in flight, it gives a value with Q
   pub now_brought : (since : List Step) → IsRecord (since ++ older) → in_flight_after (since ++ older) ≡ [] → StepsBring since pv sector Q
@@ -180,7 +180,7 @@ earlier_or_last (p ∷ puts) put pv sector h =
     ⊎_elim
     (λ here. inl (first_of (covers p.0 pv sector) (writes_at (map write_work puts) pv sector) here))
     (λ later. ⊎_elim (λ a. inl (second_of (covers p.0 pv sector) (writes_at (map write_work puts) pv sector) a)) (λ b. inr b)
-        (earlier_or_last puts put pv sector later))
+    (earlier_or_last puts put pv sector later))
     (either (covers p.0 pv sector) (writes_at (map write_work (puts ++ put ∷ [])) pv sector) h)
 
 pub one_brings : (steps : List Step) (pv sector : ℕ) → IsTrue (writes_at (map write_work (writes_submitted steps)) pv sector)

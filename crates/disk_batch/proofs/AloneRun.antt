@@ -1,6 +1,6 @@
 -- A batch alone on a shelf, completion by completion.
-use Rattle.std.proofs.Common.{◌≡◌, cond, length-append, ◌≤◌, ◌<◌, ℕ, suc, ◌+◌, Bool, not, ◌==◌, List, [], ◌∷◌, ◌++◌, length, filter, All,
-    refl, sym, ap, subst, ◌∙◌, arith}
+use Rattle.std.proofs.Common.{◌≡◌, cond, length-append, ◌≤◌, ◌<◌, ℕ, suc, ◌+◌, Bool, not, ◌==◌, List, [], ◌∷◌, ◌++◌, length, filter, All}
+use Rattle.std.proofs.Common.{refl, sym, ap, subst, ◌∙◌, arith}
 use Rattle.std.proofs.lemmas.List.{length-map}
 use Rattle.disk_model.specs.declared.ops.Done.{Done}
 use Rattle.disk_model.specs.Steps.{Work, Flushing}
@@ -41,10 +41,10 @@ follows_on old new view Flushes (Going next) is some e f =
     let none : old.in_flight ≡ [] = no_tags old.in_flight (e ∙ is.0) in
     let all : new.in_flight ≡ f.0.os = f.0.submits.in_flight ∙ ap (λ (l : List Operation). l ++ f.0.os) none in
     let os : length f.0.os ≡ length view.flush =
-        sym (length-map f.0.os (λ (o : Operation). o.work)) ∙ ap (λ (l : List Work). length l) f.0.works_are
-            ∙ length-map view.flush Flushing in
+    sym (length-map f.0.os (λ (o : Operation). o.work)) ∙ ap (λ (l : List Work). length l) f.0.works_are
+    ∙ length-map view.flush Flushing in
     let ts : length (view_of next).tags ≡ length f.0.os =
-        sym (ap (λ (l : List ℕ). length l) f.0.tags_are) ∙ length-map f.0.os (λ (o : Operation). o.tag) in
+    sym (ap (λ (l : List ℕ). length l) f.0.tags_are) ∙ length-map f.0.os (λ (o : Operation). o.tag) in
     (ap (λ (l : List Operation). tags_of l) all ∙ f.0.tags_are, omega arith)
 follows_on old new view IsWell Well is some e f = ap (λ (s : State). s.in_flight) f ∙ no_tags old.in_flight (e ∙ is.0)
 follows_on old new view (IsLost pv) (Lost pv') is some e f = ap (λ (s : State). s.in_flight) f.0 ∙ no_tags old.in_flight (e ∙ is.0)
@@ -63,7 +63,7 @@ turns_on before mid new (Going b) next done on within completes goes =
     let after : View = after_done (view_of b) done in
     follows_on mid new after (turn_of after) next (is_turn after.tags after.flush after.flushing after.lost) within.1
     (ap (λ (l : List Operation). tags_of l) completes.in_flight ∙ tags_left before.in_flight done.tag
-        ∙ ap (λ (l : List ℕ). filter (λ (t : ℕ). not (t == done.tag)) l) on.0) goes
+    ∙ ap (λ (l : List ℕ). filter (λ (t : ℕ). not (t == done.tag)) l) on.0) goes
 turns_on before mid new Well next done on within completes goes = absurd goes
 turns_on before mid new (Lost pv) next done on within completes goes = absurd goes
 
@@ -73,7 +73,7 @@ follows_within : (old new : State) (view : View) (turn : Turn) (step : BatchStep
 follows_within old new view Waits (Going next) lie some spare f =
     subst (λ (s : State). IsWithin s (Going next)) (sym f.0)
     (subst (λ (v : View). All (λ (pv : ℕ). pv < length old.sizes) v.flush × (0 < length v.flush) × (to_come v ≤ old.spare_ops)) (sym f.1)
-        (lie, some, spare))
+    (lie, some, spare))
 follows_within old new view Flushes (Going next) lie some spare f =
     subst (λ (v : View). All (λ (pv : ℕ). pv < length new.sizes) v.flush × (0 < length v.flush) × (to_come v ≤ new.spare_ops)) (sym f.1)
     (subst (λ (l : List ℕ). All (λ (pv : ℕ). pv < length l) view.flush) (sym f.0.submits.sizes) lie, some, omega arith)
@@ -101,10 +101,10 @@ follows_fewer old new view Waits (Going next) is f =
     let b : to_come (view_of next) ≡ to_come view = ap to_come f.1 in omega arith
 follows_fewer old new view Flushes (Going next) is f =
     let os : length f.0.os ≡ length view.flush =
-        sym (length-map f.0.os (λ (o : Operation). o.work)) ∙ ap (λ (l : List Work). length l) f.0.works_are
-            ∙ length-map view.flush Flushing in
+    sym (length-map f.0.os (λ (o : Operation). o.work)) ∙ ap (λ (l : List Work). length l) f.0.works_are
+    ∙ length-map view.flush Flushing in
     let all : length new.in_flight ≡ length old.in_flight + length f.0.os =
-        ap (λ (l : List Operation). length l) f.0.submits.in_flight ∙ length-append old.in_flight f.0.os in
+    ap (λ (l : List Operation). length l) f.0.submits.in_flight ∙ length-append old.in_flight f.0.os in
     let b : to_come (view_of next) ≡ 0 = ap to_come f.1 in
     let d : to_come view ≡ length view.flush = ap (λ (w : Bool). cond w 0 (length view.flush)) is.1 in omega arith
 follows_fewer old new view IsWell Well is f =
@@ -136,10 +136,10 @@ starts_on old new put puts disks batching idle starts =
     let os = starts.0.os in
     let all : new.in_flight ≡ os = starts.0.submits.in_flight ∙ ap (λ (l : List Operation). l ++ os) idle in
     let many : length os ≡ suc (length puts) =
-        sym (length-map os (λ (o : Operation). o.work)) ∙ ap (λ (l : List Work). length l) starts.0.works_are
-            ∙ ap suc (length-map puts write_work) in
+    sym (length-map os (λ (o : Operation). o.work)) ∙ ap (λ (l : List Work). length l) starts.0.works_are
+    ∙ ap suc (length-map puts write_work) in
     let ts : length (view_of batching).tags ≡ length os =
-        sym (ap (λ (l : List ℕ). length l) starts.0.tags_are) ∙ length-map os (λ (o : Operation). o.tag) in
+    sym (ap (λ (l : List ℕ). length l) starts.0.tags_are) ∙ length-map os (λ (o : Operation). o.tag) in
     (ap (λ (l : List Operation). tags_of l) all ∙ starts.0.tags_are, omega arith)
 
 pub starts_within : (old new : State) (put : Span × List (List ℕ)) (puts : List (Span × List (List ℕ))) (disks : List ℕ)
@@ -149,12 +149,14 @@ pub starts_within : (old new : State) (put : Span × List (List ℕ)) (puts : Li
 starts_within old new put puts disks batching lie some spare starts =
     let os = starts.0.os in
     let many : length os ≡ suc (length puts) =
-        sym (length-map os (λ (o : Operation). o.work)) ∙ ap (λ (l : List Work). length l) starts.0.works_are
-            ∙ ap suc (length-map puts write_work) in
+    sym (length-map os (λ (o : Operation). o.work)) ∙ ap (λ (l : List Work). length l) starts.0.works_are
+    ∙ ap suc (length-map puts write_work) in
     subst (λ (v : View). All (λ (pv : ℕ). pv < length new.sizes) v.flush × (0 < length v.flush) × (to_come v ≤ new.spare_ops))
-        (sym starts.1)
-    (subst (λ (l : List ℕ). All (λ (pv : ℕ). pv < length l) disks) (sym starts.0.submits.sizes) lie, some,
-        omega (arith, starts.0.submits.spare_ops))
+    (sym starts.1) (
+      subst (λ (l : List ℕ). All (λ (pv : ℕ). pv < length l) disks) (sym starts.0.submits.sizes) lie,
+      some,
+      omega (arith, starts.0.submits.spare_ops),
+    )
 
 -- a batch with a write starts on an idle shelf
 module _ (old new : State) (disks : List ℕ) (batching : Batching) (idle : old.in_flight ≡ []) where
@@ -172,8 +174,10 @@ module _ (old new : State) (disks : List ℕ) (batching : Batching) (idle : old.
 -- after a completion it is within the shelf still
 pub completed_within : (before mid : State) (step : BatchStep) (done : Done) → IsWithin before step → Completes before done mid
     → IsWithin mid step
-completed_within before mid (Going next) done within completes =
-    (subst (λ (l : List ℕ). All (λ (pv : ℕ). pv < length l) (view_of next).flush) (sym completes.sizes) within.0, within.1,
-        omega (arith, completes.spare_ops, within.2))
+completed_within before mid (Going next) done within completes = (
+  subst (λ (l : List ℕ). All (λ (pv : ℕ). pv < length l) (view_of next).flush) (sym completes.sizes) within.0,
+  within.1,
+  omega (arith, completes.spare_ops, within.2),
+)
 completed_within before mid Well done within completes = tt
 completed_within before mid (Lost pv) done within completes = tt

@@ -1,6 +1,6 @@
 -- What holds at each moment while a shelf goes on.
-use Rattle.std.proofs.Common.{◌≡◌, ◌≤◌, ◌<◌, ℕ, ◌+◌, Bool, IsTrue, List, [], ◌∷◌, ◌++◌, length, map, Option, Some, None, IfSome, option_map,
-    refl, sym, ap, subst, ◌∙◌, ⊎_elim, arith, append_assoc, length-append}
+use Rattle.std.proofs.Common.{◌≡◌, ◌≤◌, ◌<◌, ℕ, ◌+◌, Bool, IsTrue, List, [], ◌∷◌, ◌++◌, length, map, Option, Some, None, IfSome, option_map}
+use Rattle.std.proofs.Common.{refl, sym, ap, subst, ◌∙◌, ⊎_elim, arith, append_assoc, length-append}
 use Rattle.std.proofs.lemmas.Bool.{cases_lt}
 use Rattle.sector_base.specs.declared.spans.Span.{Span}
 use Rattle.disk_model.specs.declared.ops.Done.{Done}
@@ -30,7 +30,7 @@ pub throughout_join : (told : Record) (from mid until : ℕ) (P : Record → Typ
     → Throughout from until told P
 throughout_join told from mid until P first second moment ge upto =
     ⊎_elim (λ (early : moment < mid). first moment ge (omega arith)) (λ (late : mid ≤ moment). second moment late upto)
-        (cases_lt moment mid)
+    (cases_lt moment mid)
 
 -- no step
 pub since_none : (P : Record → Type 0) (told : Record) → P told → HoldsSince P [] told
@@ -46,11 +46,11 @@ pub since_both : (P : Record → Type 0) (first more : List Step) (told : Record
 since_both P first more told a b =
     let mid : Record = steps_on first told in
     let joined : steps_on more mid ≡ steps_on (more ++ first) told =
-        ap (λ (l : List Step). record { opened = told.opened; steps = l }) (sym (append_assoc more first told.steps)) in
+    ap (λ (l : List Step). record { opened = told.opened; steps = l }) (sym (append_assoc more first told.steps)) in
     let early : Throughout (length told.steps) (length mid.steps) (steps_on more mid) P =
-        throughout_grown mid more (length told.steps) (length mid.steps) P (omega arith) a in
+    throughout_grown mid more (length told.steps) (length mid.steps) P (omega arith) a in
     subst (λ (t : Record). Throughout (length told.steps) (length t.steps) t P) joined
-        (throughout_join (steps_on more mid) (length told.steps) (length mid.steps) (length (steps_on more mid).steps) P early b)
+    (throughout_join (steps_on more mid) (length told.steps) (length mid.steps) (length (steps_on more mid).steps) P early b)
 
 pub since_weaker : (P Q : Record → Type 0) → ((t : Record) → P t → Q t) → (newer : List Step) (told : Record) → HoldsSince P newer told
     → HoldsSince Q newer told
@@ -99,8 +99,12 @@ along_both P old mid new a b = record {
 
 pub along_weaker : (P Q : Record → Type 0) (old new : State) → ((t : Record) → P t → Q t) → AllAlong P old new → AllAlong Q old new
 along_weaker P Q old new w h =
-    record { newer = h.newer; told = h.told; next = h.next;
-        throughout = told_weaker (HoldsSince P h.newer) (HoldsSince Q h.newer) old.told (since_weaker P Q w h.newer) h.throughout }
+    record {
+      newer = h.newer;
+      told = h.told;
+      next = h.next;
+      throughout = told_weaker (HoldsSince P h.newer) (HoldsSince Q h.newer) old.told (since_weaker P Q w h.newer) h.throughout;
+    }
 
 -- what holds all along, where something is known besides
 pub along_where : (A : Type 0) (P Q : Record → Type 0) (old new : State) → (A → (t : Record) → P t → Q t) → IfSome old.told (λ told. A)
@@ -111,7 +115,7 @@ along_where A P Q old new w known h = record {
   next = h.next;
   throughout =
       told_weaker (λ t. A × HoldsSince P h.newer t) (HoldsSince Q h.newer) old.told (λ t both. since_weaker P Q (w both.0) h.newer t both.1)
-          (told_both (λ t. A) (HoldsSince P h.newer) old.told known h.throughout);
+      (told_both (λ t. A) (HoldsSince P h.newer) old.told known h.throughout);
 }
 
 -- what is so where the shelf tells its record is so once it has gone on
@@ -160,7 +164,7 @@ module _ (mine : ℕ → ℕ → Bool) (Now : ℕ → ℕ → List ℕ → Type 
         (λ t now.
         subst (λ (u : Record). Throughout (length t.steps) (length u.steps) u (AllLeave mine Now)) (submitted_steps s.os t)
         (leaves_throughout mine Now s.os t (length t.steps)
-            (λ pv sector own. subst (λ (ws : List Work). BringAt ws pv sector (Now pv sector)) (sym s.works_are) (bring pv sector own)) now
+        (λ pv sector own. subst (λ (ws : List Work). BringAt ws pv sector (Now pv sector)) (sym s.works_are) (bring pv sector own)) now
         (throughout_now t (AllLeave mine Now) now))) h;
   }
 
@@ -177,7 +181,7 @@ module _ (mine : ℕ → ℕ → Bool) (Now : ℕ → ℕ → List ℕ → Type 
   along_starts old new (put ∷ puts) disks view starts allowed h =
       along_submits old new (map write_work (put ∷ puts)) view.tags starts.0
       (λ pv sector own. bring_at_weaker (put ∷ puts) pv sector (IsWrittenBy (put ∷ puts) pv sector) (Now pv sector)
-          (λ value by. allowed pv sector value own by) (bring_written (put ∷ puts) pv sector)) h
+      (λ value by. allowed pv sector value own by) (bring_written (put ∷ puts) pv sector)) h
 
   -- what a batch does at a completion: nothing, or its flushes
   along_follows : (old new : State) (view : View) (turn : Turn) (step : BatchStep) → Follows old view turn step new

@@ -25,9 +25,9 @@ module _ (mine target : ℕ → ℕ → Bool) (Now Goal : ℕ → ℕ → List �
       → Holds mine target Now Goal view old → Holds mine target Now Goal view new
   submits_beside old new works tags view s apart h =
       told_after (submitted_on s.os) (BatchHolds mine target Now Goal view) (BatchHolds mine target Now Goal view) old.told new.told
-          s.submits.told
+      s.submits.told
       (λ t is b. batch_beside mine target Now Goal view s.os t
-          (λ pv sector own. subst (λ (ws : List Work). writes_at ws pv sector ≡ false) (sym s.works_are) (apart pv sector own)) b) h
+      (λ pv sector own. subst (λ (ws : List Work). writes_at ws pv sector ≡ false) (sym s.works_are) (apart pv sector own)) b) h
 
   -- another batch starts elsewhere
   pub starts_beside : (old new : State) (put : Span × List (List ℕ)) (puts : List (Span × List (List ℕ))) (disks : List ℕ)

@@ -1,6 +1,6 @@
 -- What the calls of a batch and the completions of a shelf do to what a batch has made sure of.
-use Rattle.std.proofs.Common.{◌<◌, length, arith, ◌≡◌, ℕ, Bool, true, false, IsTrue, List, [], ◌∷◌, map, Option, Some, None, IfSome,
-    option_map, refl, sym, ap, subst, ◌∙◌}
+use Rattle.std.proofs.Common.{◌<◌, length, arith, ◌≡◌, ℕ, Bool, true, false, IsTrue, List, [], ◌∷◌, map, Option, Some, None, IfSome}
+use Rattle.std.proofs.Common.{option_map, refl, sym, ap, subst, ◌∙◌}
 use Rattle.sector_base.specs.declared.spans.Span.{Span}
 use Rattle.disk_model.specs.declared.ops.Op.{Op}
 use Rattle.disk_model.specs.declared.ops.Done.{Done}
@@ -34,13 +34,13 @@ module _ (mine target : ℕ → ℕ → Bool) (Now Goal : ℕ → ℕ → List �
       → IfSome old.told (λ told. AreStill mine told × AllLeave mine Now told) → Holds view new
   starts_hold old new put puts disks view starts targets h =
       told_after (submitted_on starts.0.os) (λ told. AreStill mine told × AllLeave mine Now told) (BatchHolds mine target Now Goal view)
-          old.told new.told starts.0.submits.told
+      old.told new.told starts.0.submits.told
       (λ t is quiet.
       subst (λ (v : View). BatchHolds mine target Now Goal v (submitted_on starts.0.os t)) (sym starts.1)
       (subst (λ (tags : List ℕ). BatchHolds mine target Now Goal (record { tags = tags; flush = disks; flushing = false; lost = None })
-          (submitted_on starts.0.os t)) starts.0.tags_are
+      (submitted_on starts.0.os t)) starts.0.tags_are
       (batch_started mine target Now Goal starts.0.os disks t
-          (subst (λ (ws : List Work). WriteTargets mine target Now Goal ws) (sym starts.0.works_are) targets) quiet.0 quiet.1))) h
+      (subst (λ (ws : List Work). WriteTargets mine target Now Goal ws) (sym starts.0.works_are) targets) quiet.0 quiet.1))) h
 
   -- an operation of its own completes
   pub own_completes : (before mid : State) (done : Done) (view : View) → IsLawful mid → Completes before done mid → Holds view before
@@ -48,11 +48,11 @@ module _ (mine target : ℕ → ℕ → Bool) (Now Goal : ℕ → ℕ → List �
   own_completes before mid done view lawful completes h =
       let step : Step = Completed done.tag (work_of done.op) done.well completes.told.0 in
       told_after (step_on step) (BatchHolds mine target Now Goal view) (BatchHolds mine target Now Goal (after_done view done)) before.told
-          mid.told completes.told.1
+      mid.told completes.told.1
       (λ t is b.
       let record' : IsRecord (step_on step t).steps =
-          told_at (λ told. IsRecord told.steps) mid.told (step_on step t) lawful.follows
-              (completes.told.1 ∙ ap (option_map (step_on step)) is) in
+      told_at (λ told. IsRecord told.steps) mid.told (step_on step t) lawful.follows
+      (completes.told.1 ∙ ap (option_map (step_on step)) is) in
       batch_done mine target Now Goal view t done.tag (disk_of done.op) (work_of done.op) done.well completes.told.0 record' b) h
 
   -- another operation completes
@@ -60,7 +60,7 @@ module _ (mine target : ℕ → ℕ → Bool) (Now Goal : ℕ → ℕ → List �
       → Holds view before → Holds view mid
   other_completes before mid done view foreign completes h =
       told_after (step_on (Completed done.tag (work_of done.op) done.well completes.told.0)) (BatchHolds mine target Now Goal view)
-          (BatchHolds mine target Now Goal view) before.told mid.told completes.told.1
+      (BatchHolds mine target Now Goal view) before.told mid.told completes.told.1
       (λ t is b. batch_elsewhere mine target Now Goal view t _ (record { foreign = foreign; apart = λ pv sector own. refl }) b) h
 
   -- another operation is submitted
@@ -69,7 +69,7 @@ module _ (mine target : ℕ → ℕ → Bool) (Now Goal : ℕ → ℕ → List �
       → Holds view new
   other_submits old new op tag view apart submits h =
       told_after (step_on (Submitted tag (work_of op))) (BatchHolds mine target Now Goal view) (BatchHolds mine target Now Goal view)
-          old.told new.told submits.told
+      old.told new.told submits.told
       (λ t is b. batch_elsewhere mine target Now Goal view t _ (record { foreign = tt; apart = apart }) b) h
 
   -- what a batch came to
@@ -77,7 +77,7 @@ module _ (mine target : ℕ → ℕ → Bool) (Now Goal : ℕ → ℕ → List �
   Came (Going next) state = Holds (view_of next) state
   Came Well state =
       IfSome state.told (λ told. AreStill mine told × AllLeave mine Now told
-          × ((pv sector : ℕ) → IsTrue (mine pv sector) → IsTrue (target pv sector) → OnlyLeaves told pv sector (Goal pv sector)))
+      × ((pv sector : ℕ) → IsTrue (mine pv sector) → IsTrue (target pv sector) → OnlyLeaves told pv sector (Goal pv sector)))
   Came (Lost pv) state = IfSome state.told (λ told. AreStill mine told × AllLeave mine Now told)
 
 -- which turn a view has
@@ -102,25 +102,25 @@ module _ (mine target : ℕ → ℕ → Bool) (Now Goal : ℕ → ℕ → List �
       → Follows old view turn step new → Holds mine target Now Goal view old → Came mine target Now Goal step new
   follows_came old new view Waits (Going next) is among f h =
       subst (λ (s : State). Holds mine target Now Goal (view_of next) s) (sym f.0)
-          (subst (λ (v : View). Holds mine target Now Goal v old) (sym f.1) h)
+      (subst (λ (v : View). Holds mine target Now Goal v old) (sym f.1) h)
   follows_came old new view Flushes (Going next) is among f h =
       told_after (submitted_on f.0.os) (BatchHolds mine target Now Goal view) (BatchHolds mine target Now Goal (view_of next)) old.told
-          new.told f.0.submits.told
+      new.told f.0.submits.told
       (λ t told b.
       subst (λ (v : View). BatchHolds mine target Now Goal v (submitted_on f.0.os t)) (sym f.1)
       (subst (λ (tags : List ℕ). BatchHolds mine target Now Goal (record view { tags = tags; flushing = true }) (submitted_on f.0.os t))
-          f.0.tags_are
+      f.0.tags_are
       (batch_flushes mine target Now Goal view f.0.os t is.0 is.1 is.2 f.0.works_are among b))) h
   follows_came old new view IsWell Well is among f h =
       subst (λ (s : State). Came mine target Now Goal Well s) (sym f)
       (told_weaker (BatchHolds mine target Now Goal view)
-          (λ told. AreStill mine told × AllLeave mine Now told
-          × ((pv sector : ℕ) → IsTrue (mine pv sector) → IsTrue (target pv sector) → OnlyLeaves told pv sector (Goal pv sector))) old.told
+      (λ told. AreStill mine told × AllLeave mine Now told
+      × ((pv sector : ℕ) → IsTrue (mine pv sector) → IsTrue (target pv sector) → OnlyLeaves told pv sector (Goal pv sector))) old.told
       (λ t b. (batch_still mine target Now Goal view t is.0 b, b.leaves, batch_brought mine target Now Goal view t is.0 is.1 is.2 b)) h)
   follows_came old new view (IsLost pv) (Lost pv') is among f h =
       subst (λ (s : State). Came mine target Now Goal (Lost pv') s) (sym f.0)
       (told_weaker (BatchHolds mine target Now Goal view) (λ told. AreStill mine told × AllLeave mine Now told) old.told
-          (λ t b. (batch_still mine target Now Goal view t is.0 b, b.leaves)) h)
+      (λ t b. (batch_still mine target Now Goal view t is.0 b, b.leaves)) h)
   follows_came old new view Waits Well is among f h = absurd f
   follows_came old new view Waits (Lost pv) is among f h = absurd f
   follows_came old new view Flushes Well is among f h = absurd f
@@ -138,4 +138,4 @@ module _ (mine target : ℕ → ℕ → Bool) (Now Goal : ℕ → ℕ → List �
   goes_came before mid new view done step lawful among completes goes h =
       let after = after_done view done in
       follows_came mid new after (turn_of after) step (is_turn after.tags after.flush after.flushing after.lost) among goes
-          (own_completes mine target Now Goal before mid done view lawful completes h)
+      (own_completes mine target Now Goal before mid done view lawful completes h)

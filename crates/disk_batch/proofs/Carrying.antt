@@ -1,8 +1,8 @@
 -- What a batch that is carried out alone has done to the record, step by step.
 use Rattle.disk_batch.specs.declared.batching.Batching.{Batching}
 use Rattle.std.proofs.lemmas.List.{append-nil}
-use Rattle.std.proofs.Common.{◌≡◌, ◌≤◌, ◌⊎◌, ℕ, Bool, true, false, ◌==◌, IsTrue, List, [], ◌∷◌, ◌++◌, length, map, filter, All, Option,
-    Some, None, option_map, inl, inr, ⊎_elim, refl, sym, ap, subst, ◌∙◌, arith, append_assoc, ◌<◌, not}
+use Rattle.std.proofs.Common.{◌≡◌, ◌≤◌, ◌⊎◌, ℕ, Bool, true, false, ◌==◌, IsTrue, List, [], ◌∷◌, ◌++◌, length, map, filter, All, Option}
+use Rattle.std.proofs.Common.{Some, None, option_map, inl, inr, ⊎_elim, refl, sym, ap, subst, ◌∙◌, arith, append_assoc, ◌<◌, not}
 use Rattle.std.specs.List.{list_any}
 use Rattle.sector_base.specs.declared.spans.Span.{Span}
 use Rattle.disk_model.specs.declared.ops.Done.{Done}
@@ -86,7 +86,7 @@ nothing_of_flushes (o ∷ os) (d ∷ disks) e =
     let work : o.work ≡ Flushing d = cc in
     let rest : OnlyFlushes os disks = cc in
     writes_nothing_append (submissions os) (Submitted o.tag o.work ∷ []) (nothing_of_flushes os disks rest)
-        (subst (λ (w : Work). WritesNothing (Submitted o.tag w ∷ [])) (sym work) tt)
+    (subst (λ (w : Work). WritesNothing (Submitted o.tag w ∷ [])) (sym work) tt)
 
 pub writes_of_nothing : (steps : List Step) → WritesNothing steps → writes_submitted steps ≡ []
 writes_of_nothing [] none = refl
@@ -132,8 +132,8 @@ not_flushed_before (Completed tag (Flushing disk) true fresh ∷ steps) from pv 
     ⊎_elim
     (λ (here : (disk ≡ pv) × (from ≤ tag)).
     let lt : tag < from =
-        in_flight_older from steps (record { tag = tag; work = Flushing disk }) new
-            (found_in (in_flight_after steps) tag (Flushing disk) is.0) in
+    in_flight_older from steps (record { tag = tag; work = Flushing disk }) new
+    (found_in (in_flight_after steps) tag (Flushing disk) is.0) in
     let le : from ≤ tag = here.1 in
     absurd (omega arith))
     (λ before. not_flushed_before steps from pv new is.1 before) h
@@ -210,7 +210,7 @@ module _ (puts : List (Span × List (List ℕ))) (disks : List ℕ) (old : Recor
       → Carries (record { tags = tags_of os; flush = disks; flushing = false; lost = None }) (submitted_on os old)
   carries_started os e idle =
       let bring : (pv sector : ℕ) → BringAt (works_of os) pv sector (Allowed pv sector) =
-          λ pv sector. subst (λ (ws : List Work). BringAt ws pv sector (Allowed pv sector)) (sym e) (bring_allowed pv sector) in
+      λ pv sector. subst (λ (ws : List Work). BringAt ws pv sector (Allowed pv sector)) (sym e) (bring_allowed pv sector) in
       record {
         since = submissions os;
         steps = submitted_steps os old;
@@ -220,10 +220,10 @@ module _ (puts : List (Span × List (List ℕ))) (disks : List ℕ) (old : Recor
         leaves = λ pv sector own. only_leaves_submitted os old pv sector (Allowed pv sector) (bring pv sector) (leaves_old pv sector own);
         so_far =
             leaves_throughout everywhere Allowed os old (length old.steps) (λ pv sector own. bring pv sector) leaves_old
-                (throughout_now old (AllLeave everywhere Allowed) leaves_old);
+            (throughout_now old (AllLeave everywhere Allowed) leaves_old);
         holds =
             batch_started of_disks written Allowed (IsWrittenBy puts) os disks old
-                (subst (λ (ws : List Work). WriteTargets of_disks written Allowed (IsWrittenBy puts) ws) (sym e) targets)
+            (subst (λ (ws : List Work). WriteTargets of_disks written Allowed (IsWrittenBy puts) ws) (sym e) targets)
             (λ pv sector own o a w. absurd (subst (λ (l : List Operation). IsIn l o) idle a)) (λ pv sector own. leaves_old pv sector refl);
         well = λ none. well_submissions os;
         flushes = λ none (f : false ≡ true). cc;
@@ -249,7 +249,7 @@ module _ (puts : List (Span × List (List ℕ))) (disks : List ℕ) (old : Recor
         leaves = leaves_done told tag work true fresh h.leaves;
         so_far =
             throughout_step step told (length old.steps) (AllLeave everywhere Allowed) (leaves_done told tag work true fresh h.leaves)
-                h.so_far;
+            h.so_far;
         holds = batch_done of_disks written Allowed (IsWrittenBy puts) view told tag disk work true fresh is h.holds;
         well = λ none. h.well none;
         flushes = λ none f.
@@ -277,7 +277,7 @@ module _ (puts : List (Span × List (List ℕ))) (disks : List ℕ) (old : Recor
         leaves = leaves_done told tag work false fresh h.leaves;
         so_far =
             throughout_step step told (length old.steps) (AllLeave everywhere Allowed) (leaves_done told tag work false fresh h.leaves)
-                h.so_far;
+            h.so_far;
         holds = batch_done of_disks written Allowed (IsWrittenBy puts) view told tag disk work false fresh is h.holds;
         well = λ (e : Some disk ≡ None). cc;
         flushes = λ (e : Some disk ≡ None) f. cc;
@@ -291,24 +291,24 @@ module _ (puts : List (Span × List (List ℕ))) (disks : List ℕ) (old : Recor
   carries_flushes view os told from none writing well only idle new_tags fresh h =
       let quiet = nothing_of_flushes os view.flush only in
       let bring : (pv sector : ℕ) → BringAt (works_of os) pv sector (Allowed pv sector) =
-          λ pv sector. (flushes_write_nothing os view.flush pv sector (Allowed pv sector) only).0 in
+      λ pv sector. (flushes_write_nothing os view.flush pv sector (Allowed pv sector) only).0 in
       record {
         since = submissions os ++ h.since;
         steps = steps_joined old told (submitted_on os told) h.since (submissions os) h.steps (submitted_steps os told);
         writes =
             writes_submitted-append (submissions os) h.since
-                ∙ ap (λ (l : List (Span × List (List ℕ))). writes_submitted h.since ++ l) (writes_of_nothing (submissions os) quiet)
-                ∙ append-nil (writes_submitted h.since) ∙ h.writes;
+            ∙ ap (λ (l : List (Span × List (List ℕ))). writes_submitted h.since ++ l) (writes_of_nothing (submissions os) quiet)
+            ∙ append-nil (writes_submitted h.since) ∙ h.writes;
         reads =
             spans_read-append (submissions os) h.since
-                ∙ ap (λ (l : List Span). spans_read h.since ++ l) (reads_of_flushes os view.flush only) ∙ append-nil (spans_read h.since)
-                ∙ h.reads;
+            ∙ ap (λ (l : List Span). spans_read h.since ++ l) (reads_of_flushes os view.flush only) ∙ append-nil (spans_read h.since)
+            ∙ h.reads;
         flush = h.flush;
         leaves = λ pv sector own. only_leaves_submitted os told pv sector (Allowed pv sector) (bring pv sector) (h.leaves pv sector own);
         so_far = leaves_throughout everywhere Allowed os told (length old.steps) (λ pv sector own. bring pv sector) h.leaves h.so_far;
         holds =
             batch_flushes of_disks written Allowed (IsWrittenBy puts) view os told none writing well only
-                (λ pv sector own aim. subst (λ (l : List ℕ). IsAmong l pv) (sym h.flush) (any_among disks pv own)) h.holds;
+            (λ pv sector own aim. subst (λ (l : List ℕ). IsAmong l pv) (sym h.flush) (any_among disks pv own)) h.holds;
         well = λ e. well_append (submissions os) h.since (well_submissions os) (h.well e);
         flushes = λ e f. record {
           newer = submissions os;
@@ -329,11 +329,11 @@ module _ (puts : List (Span × List (List ℕ))) (disks : List ℕ) (old : Recor
       ⊎ IsWrittenBy puts pv sector (now_after told.opened told.steps pv sector)
   now_of view told is idle h pv sector =
       subst (λ (t : Record). (now_after t.opened t.steps pv sector ≡ now_after old.opened old.steps pv sector)
-          ⊎ IsWrittenBy puts pv sector (now_after t.opened t.steps pv sector)) (sym h.steps)
+      ⊎ IsWrittenBy puts pv sector (now_after t.opened t.steps pv sector)) (sym h.steps)
       (now_kept_or_brought old.opened old.steps idle pv sector (IsWrittenBy puts pv sector) h.since
-          (subst (λ (t : Record). IsRecord t.steps) h.steps is)
+      (subst (λ (t : Record). IsRecord t.steps) h.steps is)
       (subst (λ (ws : List (Span × List (List ℕ))). StepsBring h.since pv sector (IsWrittenBy ws pv sector)) h.writes
-          (steps_bring_written h.since pv sector)))
+      (steps_bring_written h.since pv sector)))
 
   now_written : (view : View) (told : Record) → IsRecord told.steps → in_flight_after old.steps ≡ [] → in_flight_after told.steps ≡ []
       → view.lost ≡ None → Carries view told → (pv sector : ℕ) → IsTrue (written pv sector)
@@ -341,13 +341,13 @@ module _ (puts : List (Span × List (List ℕ))) (disks : List ℕ) (old : Recor
   now_written view told is idle over well h pv sector here =
       subst (λ (t : Record). IsWrittenBy puts pv sector (now_after t.opened t.steps pv sector)) (sym h.steps)
       (now_brought old.opened old.steps idle pv sector (IsWrittenBy puts pv sector) h.since
-          (subst (λ (t : Record). IsRecord t.steps) h.steps is)
+      (subst (λ (t : Record). IsRecord t.steps) h.steps is)
       (subst (λ (t : Record). in_flight_after t.steps ≡ []) h.steps over)
       (subst (λ (ws : List (Span × List (List ℕ))). StepsBring h.since pv sector (IsWrittenBy ws pv sector)) h.writes
-          (steps_bring_written h.since pv sector))
+      (steps_bring_written h.since pv sector))
       (h.well well)
       (one_brings h.since pv sector (subst (λ (ws : List (Span × List (List ℕ))). IsTrue (writes_at (map write_work ws) pv sector))
-          (sym h.writes) here)))
+      (sym h.writes) here)))
 
   -- and which disks were flushed
   flushed_last : (view : View) (told : Record) → IsRecord told.steps → IsTurn view IsWell → (h : Carries view told)
@@ -355,8 +355,8 @@ module _ (puts : List (Span × List (List ℕ))) (disks : List ℕ) (old : Recor
   flushed_last view told is turn h =
       let s = h.flushes turn.2 turn.1 in
       let is' : IsRecord (s.newer ++ (s.older ++ old.steps)) =
-          subst IsRecord (ap (λ (l : List Step). l ++ old.steps) s.parts ∙ append_assoc s.newer s.older old.steps)
-              (subst (λ (t : Record). IsRecord t.steps) h.steps is) in
+      subst IsRecord (ap (λ (l : List Step). l ++ old.steps) s.parts ∙ append_assoc s.newer s.older old.steps)
+      (subst (λ (t : Record). IsRecord t.steps) h.steps is) in
       record {
         newer = s.newer;
         older = s.older;
@@ -367,7 +367,7 @@ module _ (puts : List (Span × List (List ℕ))) (disks : List ℕ) (old : Recor
         flushed = all_of_each (λ pv. HasFlushed pv s.newer) disks (λ pv among.
             flushed_newer s.newer (s.older ++ old.steps) s.from pv s.new_tags (record_older s.newer (s.older ++ old.steps) is')
             (subst (HasFlushedSince s.from pv) (ap (λ (t : Record). t.steps) h.steps ∙ ap (λ (l : List Step). l ++ old.steps) s.parts
-                ∙ append_assoc s.newer s.older old.steps)
+            ∙ append_assoc s.newer s.older old.steps)
             (flushes_well view told s.from pv turn.0 turn.1 turn.2 (s.each pv among))));
       }
 
@@ -383,7 +383,7 @@ module _ (puts : List (Span × List (List ℕ))) (disks : List ℕ) (old : Recor
     written = λ ok. now_written view told is idle over turn.2 h;
     lasting =
         λ ok pv sector aim among. batch_brought of_disks written Allowed (IsWrittenBy puts) view told turn.0 turn.1 turn.2 h.holds pv sector
-            (among_any disks pv among) aim;
+        (among_any disks pv among) aim;
     flushes = λ ok. flushed_last view told is turn h;
   }
 
@@ -414,8 +414,8 @@ module _ (puts : List (Span × List (List ℕ))) (disks : List ℕ) (old : Recor
       (told, ap (λ (s : State). s.told) f.0 ∙ e, subst (λ (v : View). Carries v told) (sym f.1) h)
   follows_carries mid new view Flushes (Going next) told is lawful tags f e h =
       let idle : in_flight_after told.steps ≡ [] =
-          sym (told_at (λ t. mid.in_flight ≡ in_flight_after t.steps) mid.told told lawful.in_flight e)
-              ∙ no_tags mid.in_flight (tags ∙ is.0) in
+      sym (told_at (λ t. mid.in_flight ≡ in_flight_after t.steps) mid.told told lawful.in_flight e)
+      ∙ no_tags mid.in_flight (tags ∙ is.0) in
       let new_tags : IsNewTag mid.next_tag told.steps = told_at (λ t. IsNewTag mid.next_tag t.steps) mid.told told lawful.new_tags e in (
         submitted_on f.0.os told,
         f.0.submits.told ∙ ap (option_map (submitted_on f.0.os)) e,
@@ -458,7 +458,7 @@ module _ (puts : List (Span × List (List ℕ))) (disks : List ℕ) where
             starts.0.submits.told ∙ ap (option_map (submitted_on os)) e,
             subst (λ (v : View). Carries (p ∷ ps) disks t v (submitted_on os t)) (sym starts.1)
                 (subst (λ (tags : List ℕ). Carries (p ∷ ps) disks t (record { tags = tags; flush = disks; flushing = false; lost = None })
-                    (submitted_on os t)) starts.0.tags_are
+                (submitted_on os t)) starts.0.tags_are
                 (carries_started (p ∷ ps) disks t os starts.0.works_are (idle_record old t lawful idle e))),
           )
 
@@ -472,9 +472,9 @@ module _ (puts : List (Span × List (List ℕ))) (disks : List ℕ) where
       let is : IsRecord (step_on step u.0).steps = told_at (λ s. IsRecord s.steps) mid.told (step_on step u.0) lawful.follows told in
       let after : View = after_done (view_of b) done in
       follows_carries puts disks t mid new after (turn_of after) next (step_on step u.0)
-          (is_turn after.tags after.flush after.flushing after.lost) lawful
+      (is_turn after.tags after.flush after.flushing after.lost) lawful
       (ap (λ (l : List Operation). tags_of l) completes.in_flight ∙ tags_left before.in_flight done.tag
-          ∙ ap (λ (l : List ℕ). filter (λ (n : ℕ). not (n == done.tag)) l) on.0) goes told
+      ∙ ap (λ (l : List ℕ). filter (λ (n : ℕ). not (n == done.tag)) l) on.0) goes told
       (carries_done puts disks t (view_of b) u.0 done.tag (disk_of done.op) (work_of done.op) done.well completes.told.0 is u.2)
   turns_carries first before mid new Well next done lawful on completes goes h t e = absurd goes
   turns_carries first before mid new (Lost pv) next done lawful on completes goes h t e = absurd goes
@@ -485,9 +485,12 @@ module _ (puts : List (Span × List (List ℕ))) (disks : List ℕ) where
       → BetweenRecords (λ before after. WritesAll before puts disks true after) old.told new.told
   ends_well old new lawful lawful' idle idle' h t e =
       let u = h t e in
-      let is : IsRecord u.0.steps = told_at (λ s. IsRecord s.steps) new.told u.0 lawful'.follows u.1 in
-      (u.0, u.1, carried_well puts disks t u.2.0 u.0 is (idle_record old t lawful idle e) (idle_record new u.0 lawful' idle' u.1) u.2.1
-          u.2.2)
+      let is : IsRecord u.0.steps = told_at (λ s. IsRecord s.steps) new.told u.0 lawful'.follows u.1 in (
+        u.0,
+        u.1,
+        carried_well puts disks t u.2.0 u.0 is (idle_record old t lawful idle e) (idle_record new u.0 lawful' idle' u.1) u.2.1
+            u.2.2,
+      )
 
   pub ends_lost : (old new : State) (pv : ℕ) → IsLawful old → IsLawful new → old.in_flight ≡ []
       → CarriesTold puts disks (Lost pv) old.told new.told

@@ -1,6 +1,6 @@
 -- The disks of a set, as a list in order.
-use Rattle.std.proofs.Common.{◌≡◌, ◌<◌, ◌≤◌, ℕ, zero, suc, ◌+◌, Bool, true, false, IsTrue, cond, List, [], ◌∷◌, ◌++◌, length, All, inl,
-    ⊎_elim, refl, sym, ap, subst, ◌∙◌, arith}
+use Rattle.std.proofs.Common.{◌≡◌, ◌<◌, ◌≤◌, ℕ, zero, suc, ◌+◌, Bool, true, false, IsTrue, cond, List, [], ◌∷◌, ◌++◌, length, All, inl}
+use Rattle.std.proofs.Common.{⊎_elim, refl, sym, ap, subst, ◌∙◌, arith}
 use Rattle.std.specs.List.{filter, range_with_len}
 use Rattle.std.specs.FinSet.{FinSet, contains}
 use Rattle.std.specs.Ordering.{nat_cmp}
@@ -16,20 +16,20 @@ use Rattle.disk_batch.specs.Writes.{disks_in}
 more_kept : (p : ℕ → Bool) (n : ℕ) → filter p (range_with_len 0 (n + 1)) ≡ filter p (range_with_len 0 n) ++ cond (p n) (n ∷ []) []
 more_kept p n =
     ap (λ (l : List ℕ). filter p l) (sym (map-id (range_with_len 0 (n + 1))))
-        ∙ filter_of_map_range_with_len_more p (λ (k : ℕ). k) 0 n n (omega arith)
+    ∙ filter_of_map_range_with_len_more p (λ (k : ℕ). k) 0 n n (omega arith)
     ∙ ap (λ (l : List ℕ). filter p l ++ cond (p n) (n ∷ []) []) (map-id (range_with_len 0 n))
 
 pub kept_more : (p : ℕ → Bool) (n : ℕ) (old new : List ℕ) → p n ≡ true → old ≡ filter p (range_with_len 0 n) → new ≡ old ++ n ∷ []
     → new ≡ filter p (range_with_len 0 (n + 1))
 kept_more p n old new here h e =
     e ∙ ap (λ (l : List ℕ). l ++ n ∷ []) h ∙ sym
-        (more_kept p n ∙ ap (λ (b : Bool). filter p (range_with_len 0 n) ++ cond b (n ∷ []) []) here)
+    (more_kept p n ∙ ap (λ (b : Bool). filter p (range_with_len 0 n) ++ cond b (n ∷ []) []) here)
 
 pub kept_not : (p : ℕ → Bool) (n : ℕ) (old : List ℕ) → p n ≡ false → old ≡ filter p (range_with_len 0 n)
     → old ≡ filter p (range_with_len 0 (n + 1))
 kept_not p n old out h =
     h ∙ sym (more_kept p n ∙ ap (λ (b : Bool). filter p (range_with_len 0 n) ++ cond b (n ∷ []) []) out
-        ∙ append-nil (filter p (range_with_len 0 n)))
+    ∙ append-nil (filter p (range_with_len 0 n)))
 
 -- each of them has what each number with the test has
 last_has : (p : ℕ → Bool) (P : ℕ → Type 0) → ((k : ℕ) → IsTrue (p k) → P k) → (n : ℕ) (b : Bool) → p n ≡ b → All P (cond b (n ∷ []) [])
@@ -42,7 +42,7 @@ all_kept p P has (suc n) =
     let e : n + 1 ≡ suc n = omega arith in
     subst (λ (m : ℕ). All P (filter p (range_with_len 0 m))) e
     (subst (All P) (sym (more_kept p n)) (All-append P (filter p (range_with_len 0 n)) (cond (p n) (n ∷ []) []) (all_kept p P has n)
-        (last_has p P has n (p n) refl)))
+    (last_has p P has n (p n) refl)))
 
 -- a number with the test is among them
 kept_among : (p : ℕ → Bool) (n k : ℕ) → k < n → IsTrue (p k) → IsAmong (filter p (range_with_len 0 n)) k

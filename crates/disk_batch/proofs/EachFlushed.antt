@@ -1,6 +1,6 @@
 -- One disk is flushed after another.
-use Rattle.std.proofs.Common.{◌≡◌, ◌<◌, Option, ℕ, ◌+◌, Bool, true, false, IsTrue, List, [], ◌∷◌, ◌++◌, refl, inl, inr, ap, subst, ◌∙◌,
-    arith}
+use Rattle.std.proofs.Common.{◌≡◌, ◌<◌, Option, ℕ, ◌+◌, Bool, true, false, IsTrue, List, [], ◌∷◌, ◌++◌, refl, inl, inr, ap, subst, ◌∙◌}
+use Rattle.std.proofs.Common.{arith}
 use Rattle.std.proofs.lemmas.Bool.{cases_lt}
 use Rattle.disk_model.specs.CarriesOut.{CarriesOut, with_operation}
 use Rattle.disk_model.specs.Order.{HasFlushed, WritesNothing}
@@ -66,8 +66,14 @@ module _ (disk : ℕ) (well : Bool) (old mid new : Record) (all : FlushesAll dis
 pub none_flushed : (told : Option Record) → BetweenRecords (FlushesAll 0 true) told told
 none_flushed told =
     between_same (FlushesAll 0 true) told told refl
-    (λ old. record { since = []; steps = refl; nothing = tt; unread = refl; same = λ pv sector. refl;
-        flushed = λ is pv within. absurd (omega (arith, within)) })
+    (λ old. record {
+      since = [];
+      steps = refl;
+      nothing = tt;
+      unread = refl;
+      same = λ pv sector. refl;
+      flushed = λ is pv within. absurd (omega (arith, within));
+    })
 
 -- one disk more was flushed, well or not
 pub one_more_flushed : (told : Option Record) (mid : State) (disk : ℕ) (done : Done) (new : State)
@@ -75,7 +81,7 @@ pub one_more_flushed : (told : Option Record) (mid : State) (disk : ℕ) (done :
     → BetweenRecords (FlushesAll (disk + 1) done.well) told new.told
 one_more_flushed told mid disk done new before carried =
     between_both (FlushesAll disk true) (FlushesOne disk done.well) (FlushesAll (disk + 1) done.well) told mid.told new.told
-        (one_more disk done.well) before
+    (one_more disk done.well) before
     (told_by_operation mid (Flush disk) done new (FlushesOne disk done.well) carried (λ t fresh. one_flush t done.tag disk done.well fresh))
 
 stopped : (disks disk : ℕ) (old new : Record) → FlushesAll disk false old new → FlushesAll disks false old new

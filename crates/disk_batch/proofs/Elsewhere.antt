@@ -1,6 +1,6 @@
 -- A batch beside a shelf that goes on elsewhere.
-use Rattle.std.proofs.Common.{◌≡◌, ◌≤◌, ℕ, Bool, true, false, ◌||◌, IsTrue, List, [], ◌∷◌, All, Option, Some, None, IfSome, refl, sym, ap,
-    subst, ◌∙◌, arith}
+use Rattle.std.proofs.Common.{◌≡◌, ◌≤◌, ℕ, Bool, true, false, ◌||◌, IsTrue, List, [], ◌∷◌, All, Option, Some, None, IfSome, refl, sym, ap}
+use Rattle.std.proofs.Common.{subst, ◌∙◌, arith}
 use Rattle.std.proofs.lemmas.List.Elements.{All-append, All-cons, All-head, All-nil, All-tail}
 use Rattle.disk_model.specs.declared.ops.Op.{Op}
 use Rattle.disk_model.specs.declared.ops.Done.{Done}
@@ -49,7 +49,7 @@ module _ (mine : ℕ → ℕ → Bool) where
   leave_steps Now tags [] told else h = h
   leave_steps Now tags (step ∷ newer) told else h =
       leave_on Now tags step (steps_on newer told) (All-head (IsElsewhere mine tags) step newer else)
-          (leave_steps Now tags newer told (All-tail (IsElsewhere mine tags) step newer else) h)
+      (leave_steps Now tags newer told (All-tail (IsElsewhere mine tags) step newer else) h)
 
   leave_since : (Now : ℕ → ℕ → List ℕ → Type 0) (tags : List ℕ) (newer : List Step) (told : Record) → All (IsElsewhere mine tags) newer
       → AllLeave mine Now told → HoldsSince (AllLeave mine Now) newer told
@@ -59,7 +59,7 @@ module _ (mine : ℕ → ℕ → Bool) where
       let before : AllLeave mine Now (steps_on newer told) = leave_steps Now tags newer told rest h in
       since_both (AllLeave mine Now) newer (step ∷ []) told (leave_since Now tags newer told rest h)
       (since_step (AllLeave mine Now) step (steps_on newer told) before
-          (leave_on Now tags step (steps_on newer told) (All-head (IsElsewhere mine tags) step newer else) before))
+      (leave_on Now tags step (steps_on newer told) (All-head (IsElsewhere mine tags) step newer else) before))
 
   pub along_elsewhere : (Now : ℕ → ℕ → List ℕ → Type 0) (tags : List ℕ) (old new : State) → GoesElsewhere mine tags old new
       → IfSome old.told (AllLeave mine Now) → AllAlong (AllLeave mine Now) old new
@@ -69,7 +69,7 @@ module _ (mine : ℕ → ℕ → Bool) where
     next = else.next;
     throughout =
         told_weaker (AllLeave mine Now) (HoldsSince (AllLeave mine Now) else.newer) old.told
-            (λ t now. leave_since Now tags else.newer t else.elsewhere now) h;
+        (λ t now. leave_since Now tags else.newer t else.elsewhere now) h;
   }
 
   -- no write to them is in flight
@@ -78,7 +78,7 @@ module _ (mine : ℕ → ℕ → Bool) where
   still_steps tags [] told else h = h
   still_steps tags (step ∷ newer) told else h = λ pv sector own.
       theirs_on [] (steps_on newer told) pv sector step ((All-head (IsElsewhere mine tags) step newer else).apart pv sector own)
-          (still_steps tags newer told (All-tail (IsElsewhere mine tags) step newer else) h pv sector own)
+      (still_steps tags newer told (All-tail (IsElsewhere mine tags) step newer else) h pv sector own)
 
   -- what was flushed was so, and what is on its way goes on
   pub flushed_steps : (from pv : ℕ) (newer : List Step) (told : Record) → HasFlushedSince from pv told.steps
@@ -97,7 +97,7 @@ module _ (mine : ℕ → ℕ → Bool) where
   fault_more : (old new : State) (done : Done) → Completes old done new → (pv : ℕ) → old.faults pv ≤ new.faults pv
   fault_more old new done completes pv =
       (faults_elsewhere old.faults old new done None completes
-          (record { rise = λ q. omega arith; lost_rose = λ q no. absurd (let z : None ≡ Some q = no in cc) })).rise pv
+      (record { rise = λ q. omega arith; lost_rose = λ q no. absurd (let z : None ≡ Some q = no in cc) })).rise pv
 
   pub completes_elsewhere : (tags : List ℕ) (old new : State) (done : Done) → (IsAmong tags done.tag → ⊥) → Completes old done new
       → GoesElsewhere mine tags old new
@@ -142,11 +142,14 @@ module _ (mine : ℕ → ℕ → Bool) where
   all_elsewhere tags [] apart = All-nil (IsElsewhere mine tags)
   all_elsewhere tags (o ∷ os) apart =
       let is : IsElsewhere mine tags (Submitted o.tag o.work) =
-          record { foreign = tt; apart = λ pv sector own. or_left_false (writes o.work pv sector) (writes_at (works_of os) pv sector)
-              (apart pv sector own) } in
+      record {
+        foreign = tt;
+        apart = λ pv sector own. or_left_false (writes o.work pv sector) (writes_at (works_of os) pv sector)
+            (apart pv sector own);
+      } in
       All-append (IsElsewhere mine tags) (submissions os) (Submitted o.tag o.work ∷ [])
       (all_elsewhere tags os (λ pv sector own. or_right_false (writes o.work pv sector) (writes_at (works_of os) pv sector)
-          (apart pv sector own)))
+      (apart pv sector own)))
       (All-cons (IsElsewhere mine tags) (Submitted o.tag o.work) [] is (All-nil (IsElsewhere mine tags)))
 
   pub works_elsewhere : (tags : List ℕ) (old new : State) (works : List Work) (theirs : List ℕ) → SubmitsWorks old works theirs new
@@ -156,7 +159,7 @@ module _ (mine : ℕ → ℕ → Bool) where
     told = s.submits.told ∙ submitted_told s.os old.told;
     elsewhere =
         all_elsewhere tags s.os (λ pv sector own. subst (λ (ws : List Work). writes_at ws pv sector ≡ false) (sym s.works_are)
-            (apart pv sector own));
+        (apart pv sector own));
     next = s.submits.next;
     faults = λ pv. let same : new.faults pv ≡ old.faults pv = ap (λ (f : ℕ → ℕ). f pv) s.submits.faults in omega (arith, same);
   }

@@ -1,6 +1,6 @@
 -- How the counts of faults rise while a batch is on its way.
-use Rattle.std.proofs.Common.{List, [], ◌∷◌, ◌≡◌, ◌≤◌, ℕ, ◌+◌, Bool, true, false, not, ◌==◌, ◌&&◌, cond, Option, Some, None, sym, ap, subst,
-    ◌∙◌, arith, eq-eqb}
+use Rattle.std.proofs.Common.{List, [], ◌∷◌, ◌≡◌, ◌≤◌, ℕ, ◌+◌, Bool, true, false, not, ◌==◌, ◌&&◌, cond, Option, Some, None, sym, ap, subst}
+use Rattle.std.proofs.Common.{◌∙◌, arith, eq-eqb}
 use Rattle.sector_base.specs.declared.spans.Span.{Span}
 use Rattle.disk_model.specs.declared.ops.Done.{Done}
 use Rattle.disk_model.specs.Operations.{disk_of}
@@ -50,7 +50,7 @@ pub faults_elsewhere : (faults : ℕ → ℕ) (before mid : State) (done : Done)
     → FaultsSince faults lost before → FaultsSince faults lost mid
 faults_elsewhere faults before mid done lost completes h =
     let more : (pv : ℕ) → before.faults pv ≤ mid.faults pv =
-        λ pv. one_more (before.faults pv) (mid.faults pv) done.well (disk_of done.op == pv) (completes.faults pv) in
+    λ pv. one_more (before.faults pv) (mid.faults pv) done.well (disk_of done.op == pv) (completes.faults pv) in
     record {
       rise = λ pv. omega (arith, more pv, h.rise pv);
       lost_rose = λ pv is. omega (arith, more pv, h.lost_rose pv is);
@@ -71,15 +71,15 @@ follows_faults : (faults : ℕ → ℕ) (old new : State) (view : View) (turn : 
     → Follows old view turn step new → FaultsSince faults view.lost old → FaultsSince faults (lost_of step) new
 follows_faults faults old new view Waits (Going next) is f h =
     subst (λ (s : State). FaultsSince faults (view_of next).lost s) (sym f.0)
-        (subst (λ (l : Option ℕ). FaultsSince faults l old) (sym (ap (λ (v : View). v.lost) f.1)) h)
+    (subst (λ (l : Option ℕ). FaultsSince faults l old) (sym (ap (λ (v : View). v.lost) f.1)) h)
 follows_faults faults old new view Flushes (Going next) is f h =
     subst (λ (l : Option ℕ). FaultsSince faults l new) (sym (ap (λ (v : View). v.lost) f.1))
-        (faults_submitted faults old new _ _ view.lost f.0 h)
+    (faults_submitted faults old new _ _ view.lost f.0 h)
 follows_faults faults old new view IsWell Well is f h =
     subst (λ (s : State). FaultsSince faults None s) (sym f) (record { rise = h.rise; lost_rose = λ pv (e : None ≡ Some pv). cc })
 follows_faults faults old new view (IsLost pv) (Lost pv') is f h =
     subst (λ (s : State). FaultsSince faults (Some pv') s) (sym f.0)
-        (subst (λ (l : Option ℕ). FaultsSince faults l old) (is.1 ∙ ap (λ (n : ℕ). Some n) (sym f.1)) h)
+    (subst (λ (l : Option ℕ). FaultsSince faults l old) (is.1 ∙ ap (λ (n : ℕ). Some n) (sym f.1)) h)
 follows_faults faults old new view Waits Well is f h = absurd f
 follows_faults faults old new view Waits (Lost pv) is f h = absurd f
 follows_faults faults old new view Flushes Well is f h = absurd f
@@ -94,7 +94,7 @@ pub faults_go : (faults : ℕ → ℕ) (before mid new : State) (view : View) (d
 faults_go faults before mid new view done step completes goes h =
     let after = after_done view done in
     follows_faults faults mid new after (turn_of after) step (is_turn after.tags after.flush after.flushing after.lost) goes
-        (faults_done faults before mid done view completes h)
+    (faults_done faults before mid done view completes h)
 
 -- where nothing else is in flight
 none_lost : (lost : Option ℕ) (before mid : State) (disk : ℕ) (well : Bool)

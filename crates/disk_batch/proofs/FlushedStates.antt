@@ -1,6 +1,6 @@
 -- Which disks a batch has flushed, call by call.
-use Rattle.std.proofs.Common.{◌≡◌, ◌≤◌, ◌<◌, ℕ, true, false, List, [], ◌∷◌, length, get_or, All, Option, Some, None, IfSome, option_map,
-    sym, ap, subst, ◌∙◌, arith}
+use Rattle.std.proofs.Common.{◌≡◌, ◌≤◌, ◌<◌, ℕ, true, false, List, [], ◌∷◌, length, get_or, All, Option, Some, None, IfSome, option_map}
+use Rattle.std.proofs.Common.{sym, ap, subst, ◌∙◌, arith}
 use Rattle.sector_base.specs.declared.spans.Span.{Span}
 use Rattle.disk_model.specs.declared.ops.Done.{Done}
 use Rattle.disk_model.specs.Steps.{Step, Completed, Record, step_on}
@@ -40,7 +40,7 @@ module _ (from pv : ℕ) where
       let later : view.flushing ≡ false = ap (λ (v : View). v.flushing) starts.1 in
       subst (λ (o : Option Record). IfSome o (λ told. FlushesSince view told from pv)) (sym starts.0.submits.told)
       (told_map (submitted_on starts.0.os) (λ told. FlushesSince view told from pv) old.told
-          (λ t is. flushes_later view (submitted_on starts.0.os t) from pv later))
+      (λ t is. flushes_later view (submitted_on starts.0.os t) from pv later))
 
   -- an operation of its own completes
   flushing_done : (before mid : State) (done : Done) (view : View) → IsLawful mid → Completes before done mid → FlushingHolds view before
@@ -48,11 +48,11 @@ module _ (from pv : ℕ) where
   flushing_done before mid done view lawful completes h =
       let step : Step = Completed done.tag (work_of done.op) done.well completes.told.0 in
       told_after (step_on step) (λ told. FlushesSince view told from pv) (λ told. FlushesSince (after_done view done) told from pv)
-          before.told mid.told completes.told.1
+      before.told mid.told completes.told.1
       (λ t is f.
       let record' : IsRecord (step_on step t).steps =
-          told_at (λ told. IsRecord told.steps) mid.told (step_on step t) lawful.follows
-              (completes.told.1 ∙ ap (option_map (step_on step)) is) in
+      told_at (λ told. IsRecord told.steps) mid.told (step_on step t) lawful.follows
+      (completes.told.1 ∙ ap (option_map (step_on step)) is) in
       flushes_done view t from pv done.tag (disk_of done.op) (work_of done.op) done.well completes.told.0 record' f) h
 
   -- what it came to
@@ -68,9 +68,9 @@ module _ (from pv : ℕ) where
   flushing_follows old new view Flushes (Going next) is since among f h =
       let os : List Operation = f.0.os in
       let fresh : All (λ (o : Operation). from ≤ o.tag) os =
-          λ k d within. let new_tag : old.next_tag ≤ (get_or os k d).tag = f.0.submits.fresh k d within in omega (arith, since, new_tag) in
+      λ k d within. let new_tag : old.next_tag ≤ (get_or os k d).tag = f.0.submits.fresh k d within in omega (arith, since, new_tag) in
       told_after (submitted_on os) (λ told. FlushesSince view told from pv) (λ told. FlushesSince (view_of next) told from pv) old.told
-          new.told f.0.submits.told
+      new.told f.0.submits.told
       (λ t told b.
       subst (λ (v : View). FlushesSince v (submitted_on os t) from pv) (sym f.1)
       (subst (λ (tags : List ℕ). FlushesSince (record view { tags = tags; flushing = true }) (submitted_on os t) from pv) f.0.tags_are
@@ -78,7 +78,7 @@ module _ (from pv : ℕ) where
   flushing_follows old new view IsWell Well is since among f h =
       subst (λ (s : State). FlushingCame Well s) (sym f)
       (told_weaker (λ told. FlushesSince view told from pv) (λ told. HasFlushedSince from pv told.steps) old.told
-          (λ t b. flushes_well view t from pv is.0 is.1 is.2 b) h)
+      (λ t b. flushes_well view t from pv is.0 is.1 is.2 b) h)
   flushing_follows old new view (IsLost disk) (Lost disk') is since among f h = tt
   flushing_follows old new view Waits Well is since among f h = absurd f
   flushing_follows old new view Waits (Lost disk) is since among f h = absurd f
@@ -95,7 +95,7 @@ module _ (from pv : ℕ) where
   goes_flushing before mid new view done step lawful since among completes goes h =
       let after : View = after_done view done in
       flushing_follows mid new after (turn_of after) step (is_turn after.tags after.flush after.flushing after.lost) since among goes
-          (flushing_done before mid done view lawful completes h)
+      (flushing_done before mid done view lawful completes h)
 
 -- the batch flushes the same disks
 abbrev pub KeepsFlush : List ℕ → BatchStep → Type 0

@@ -45,9 +45,9 @@ flushes_done view told from pv tag disk work true fresh is h = record {
       ⊎_elim (λ a. inl (flushed_on from pv (Completed tag work true fresh) told.steps a))
       (λ b. ⊎_elim
       (λ same. let e : Flushing pv ≡ work = completes_its_own told.steps tag work (record { tag = b.flush; work = Flushing pv }) is.1 is.0
-          b.in_flight same.1 in
+      b.in_flight same.1 in
       inl (subst (λ (w : Work). HasFlushedSince from pv (Completed tag w true fresh ∷ told.steps)) e
-          (inl (refl, subst (λ (t : ℕ). from ≤ t) same.1 b.since))))
+      (inl (refl, subst (λ (t : ℕ). from ≤ t) same.1 b.since))))
       (λ other. inr (record {
         flush = b.flush;
         awaited = is_among-filter view.tags tag b.flush b.awaited other.1;
@@ -81,7 +81,7 @@ awaits_since (o ∷ os) (d ∷ disks) told from pv only among fresh =
       awaited = inl refl;
       in_flight = in_flight_submitted os told' (record { tag = o.tag; work = Flushing pv })
           (subst (λ (w : Work). IsIn (in_flight_after told'.steps) (record { tag = o.tag; work = w })) (sym here)
-              (in_flight_new o.tag o.work told));
+          (in_flight_new o.tag o.work told));
       since = All-head P o os fresh;
     })
     (λ later.

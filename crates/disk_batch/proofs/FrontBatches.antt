@@ -1,6 +1,6 @@
 -- Batches before others, and what they keep.
-use Rattle.std.proofs.Common.{◌≡◌, ◌≤◌, ◌<◌, ◌⊎◌, ℕ, zero, suc, ◌+◌, ◌-◌, false, ◌||◌, Bool, List, [], ◌∷◌, ◌++◌, length, map, take, inl,
-    inr, ⊎_elim, refl, ap, subst, ◌∙◌, arith, length-append}
+use Rattle.std.proofs.Common.{◌≡◌, ◌≤◌, ◌<◌, ◌⊎◌, ℕ, zero, suc, ◌+◌, ◌-◌, false, ◌||◌, Bool, List, [], ◌∷◌, ◌++◌, length, map, take, inl}
+use Rattle.std.proofs.Common.{inr, ⊎_elim, refl, ap, subst, ◌∙◌, arith, length-append}
 use Rattle.std.specs.Prelude.{All}
 use Rattle.std.proofs.Math.Seq.{take-append-add}
 use Rattle.std.proofs.lemmas.Bool.{cases_Bool, cases_lt}
@@ -27,7 +27,7 @@ module _ (first more : List (List Put)) (base image : Image) where
       ≡ with_batches (take n more) (with_batches first base)
   late n k e =
       ap (λ (m : ℕ). with_batches (take m (first ++ more)) base) e
-          ∙ ap (λ (l : List (List Put)). with_batches l base) (take-append-add first more n)
+      ∙ ap (λ (l : List (List Put)). with_batches l base) (take-append-add first more n)
       ∙ batches_append first (take n more) base
 
   pub first_or_more : HasFirstBatches (first ++ more) base image
@@ -44,7 +44,7 @@ module _ (first more : List (List Put)) (base image : Image) where
         among = omega (arith, le, h.among, length-append first more);
         either =
             either_of _ _ _ _ (late (h.count - length first) h.count (omega (arith, le)))
-                (late (suc (h.count - length first)) (suc h.count) (omega (arith, le))) h.either;
+            (late (suc (h.count - length first)) (suc h.count) (omega (arith, le))) h.either;
       }))
       (cases_lt h.count (length first))
 
@@ -54,13 +54,13 @@ pub but_last : (batches : List (List Put)) (last : List Put) (n : ℕ) (base ima
 but_last batches last n base image less h =
     let le : n ≤ length batches = omega (arith, less, length-append batches (last ∷ [])) in
     of_submitted n batches base image (subst (λ (l : List (List Put)). HasFirstBatches l base image)
-        (take-append-le n batches (last ∷ []) le) h)
+    (take-append-le n batches (last ∷ []) le) h)
 
 -- an image on the way of no batch is the base
 pub none_front : (base image : Image) → HasFirstBatches [] base image → IsSame image base
 none_front base image h pv sector =
     let whole : (n : ℕ) → with_batches (take n []) base pv sector ≡ base pv sector =
-        λ n. ap (λ (l : List (List Put)). with_batches l base pv sector) (take_all n [] (omega arith)) in
+    λ n. ap (λ (l : List (List Put)). with_batches l base pv sector) (take_all n [] (omega arith)) in
     ⊎_elim (λ e. e ∙ whole h.count) (λ e. e ∙ whole (suc h.count)) (h.either pv sector)
 
 -- one on the way of one batch has each sector as before it or as after it
@@ -88,7 +88,7 @@ keeps_sector (put ∷ puts) pv sector none =
     ⊎_elim
     (λ is. absurd (none (value_at put.0 put.1 sector) (inl (is, refl))))
     (λ out. ap (λ (b : Bool). b || writes_at (map write_work puts) pv sector) out
-        ∙ keeps_sector puts pv sector (λ value by. none value (inr by)))
+    ∙ keeps_sector puts pv sector (λ value by. none value (inr by)))
     (cases_Bool (covers put.0 pv sector))
 
 -- a sector that none of the batches writes is as in the base, once all are written and on the way

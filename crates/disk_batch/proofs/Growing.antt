@@ -1,6 +1,6 @@
 -- What a batch uses up of a shelf, and what holds as a record grows.
-use Rattle.std.proofs.Common.{◌≡◌, ◌≤◌, ◌<◌, ℕ, suc, ◌+◌, ◌-◌, drop, Bool, cond, List, [], ◌∷◌, ◌++◌, length, map, sum_by, refl, sym, ap,
-    subst, ◌∙◌, arith, length-append, ◌*◌}
+use Rattle.std.proofs.Common.{◌≡◌, ◌≤◌, ◌<◌, ℕ, suc, ◌+◌, ◌-◌, drop, Bool, cond, List, [], ◌∷◌, ◌++◌, length, map, sum_by, refl, sym, ap}
+use Rattle.std.proofs.Common.{subst, ◌∙◌, arith, length-append, ◌*◌}
 use Rattle.std.proofs.lemmas.List.{length-map}
 use Rattle.std.proofs.lemmas.List.Sums.{sum_by-append}
 use Rattle.sector_base.specs.declared.spans.Span.{Span}
@@ -35,9 +35,9 @@ pub throughout_grown : (told : Record) (newer : List Step) (from until : ℕ) (P
     → Throughout from until told P → Throughout from until (record { opened = told.opened; steps = newer ++ told.steps }) P
 throughout_grown told newer from until P le so_far moment ge upto =
     let e : length (newer ++ told.steps) - moment ≡ length newer + (length told.steps - moment) =
-        omega (arith, length-append newer told.steps) in
+    omega (arith, length-append newer told.steps) in
     let s : drop (length (newer ++ told.steps) - moment) (newer ++ told.steps) ≡ drop (length told.steps - moment) told.steps =
-        ap (λ (k : ℕ). drop k (newer ++ told.steps)) e ∙ drop_newer newer told.steps (length told.steps - moment) in
+    ap (λ (k : ℕ). drop k (newer ++ told.steps)) e ∙ drop_newer newer told.steps (length told.steps - moment) in
     subst (λ (l : List Step). P (record { opened = told.opened; steps = l })) (sym s) (so_far moment ge upto)
 
 -- flushes use up no sector
@@ -66,7 +66,7 @@ writes_sectors (o ∷ os) (p ∷ puts) e =
     let one : sum_by f (o ∷ []) ≡ sum_by span_count (p ∷ []) = let z : f o ≡ span_count p = ap sectors_of_work work in omega arith in
     let all : sum_by f ((o ∷ []) ++ os) ≡ sum_by f (o ∷ []) + sum_by f os = sum_by-append f (o ∷ []) os in
     let all' : sum_by span_count ((p ∷ []) ++ puts) ≡ sum_by span_count (p ∷ []) + sum_by span_count puts =
-        sum_by-append span_count (p ∷ []) puts in
+    sum_by-append span_count (p ∷ []) puts in
     omega (arith, all, all', one, writes_sectors os puts rest)
 
 -- the start
@@ -76,11 +76,11 @@ starts_works : (old new : State) (put : Span × List (List ℕ)) (puts : List (S
 starts_works old new put puts disks batching starts =
     let s = starts.0.submits in
     let many : length starts.0.os ≡ suc (length puts) =
-        sym (length-map starts.0.os (λ (o : Operation). o.work)) ∙ ap (λ (l : List Work). length l) starts.0.works_are
-            ∙ ap suc (length-map puts write_work) in
+    sym (length-map starts.0.os (λ (o : Operation). o.work)) ∙ ap (λ (l : List Work). length l) starts.0.works_are
+    ∙ ap suc (length-map puts write_work) in
     let come : to_come (view_of batching) ≡ length disks = ap to_come starts.1 in
     let inflight : length new.in_flight ≡ length old.in_flight + length starts.0.os =
-        ap (λ (l : List Operation). length l) s.in_flight ∙ length-append old.in_flight starts.0.os in
+    ap (λ (l : List Operation). length l) s.in_flight ∙ length-append old.in_flight starts.0.os in
     record {
       sizes = s.sizes;
       spare_ops = omega (arith, s.spare_ops);
@@ -101,14 +101,14 @@ follows_works : (mid new : State) (view : View) (turn : Turn) (step : BatchStep)
 follows_works mid new view Waits (Going next) is f =
     subst (λ (s : State). WorksOn mid (to_come view) 0 (to_come (view_of next)) s) (sym f.0)
     (let e : to_come (view_of next) ≡ to_come view = ap to_come
-        f.1 in record { sizes = refl; spare_ops = omega arith; spare_sectors = omega arith; steps = omega arith; later = omega arith })
+    f.1 in record { sizes = refl; spare_ops = omega arith; spare_sectors = omega arith; steps = omega arith; later = omega arith })
 follows_works mid new view Flushes (Going next) is f =
     let s = f.0.submits in
     let os : length f.0.os ≡ length view.flush =
-        sym (length-map f.0.os (λ (o : Operation). o.work)) ∙ ap (λ (l : List Work). length l) f.0.works_are
-            ∙ length-map view.flush Flushing in
+    sym (length-map f.0.os (λ (o : Operation). o.work)) ∙ ap (λ (l : List Work). length l) f.0.works_are
+    ∙ length-map view.flush Flushing in
     let inflight : length new.in_flight ≡ length mid.in_flight + length f.0.os =
-        ap (λ (l : List Operation). length l) s.in_flight ∙ length-append mid.in_flight f.0.os in
+    ap (λ (l : List Operation). length l) s.in_flight ∙ length-append mid.in_flight f.0.os in
     let b : to_come (view_of next) ≡ 0 = ap to_come f.1 in
     let d : to_come view ≡ length view.flush = ap (λ (w : Bool). cond w 0 (length view.flush)) is.1 in
     record {
@@ -120,10 +120,10 @@ follows_works mid new view Flushes (Going next) is f =
     }
 follows_works mid new view IsWell Well is f =
     subst (λ (s : State). WorksOn mid (to_come view) 0 0 s) (sym f)
-        (record { sizes = refl; spare_ops = omega arith; spare_sectors = omega arith; steps = omega arith; later = omega arith })
+    (record { sizes = refl; spare_ops = omega arith; spare_sectors = omega arith; steps = omega arith; later = omega arith })
 follows_works mid new view (IsLost pv) (Lost pv') is f =
     subst (λ (s : State). WorksOn mid (to_come view) 0 0 s) (sym f.0)
-        (record { sizes = refl; spare_ops = omega arith; spare_sectors = omega arith; steps = omega arith; later = omega arith })
+    (record { sizes = refl; spare_ops = omega arith; spare_sectors = omega arith; steps = omega arith; later = omega arith })
 follows_works mid new view Waits Well is f = absurd f
 follows_works mid new view Waits (Lost pv) is f = absurd f
 follows_works mid new view Flushes Well is f = absurd f

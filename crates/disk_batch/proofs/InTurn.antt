@@ -1,6 +1,6 @@
 -- Batches that are carried out by one call and then by another.
-use Rattle.std.proofs.Common.{◌≡◌, ◌≤◌, ◌<◌, ℕ, suc, ◌+◌, cond, Bool, true, false, List, [], ◌∷◌, ◌++◌, drop, length, take, flat_map,
-    Option, inl, ⊎_elim, refl, sym, ap, subst, ◌∙◌, arith, length-append}
+use Rattle.std.proofs.Common.{◌≡◌, ◌≤◌, ◌<◌, ℕ, suc, ◌+◌, cond, Bool, true, false, List, [], ◌∷◌, ◌++◌, drop, length, take, flat_map}
+use Rattle.std.proofs.Common.{Option, inl, ⊎_elim, refl, sym, ap, subst, ◌∙◌, arith, length-append}
 use Rattle.std.proofs.Math.Seq.{take-append-add, take-length}
 use Rattle.std.proofs.lemmas.List.{take-append-drop, take-append-le, take_all}
 use Rattle.std.proofs.lemmas.List.Concat.{flat_map-append}
@@ -12,8 +12,8 @@ use Rattle.disk_model.specs.Moments.{EveryImageSince}
 use Rattle.disk_model.specs.Durability.{IsBase}
 use Rattle.disk_model.specs.Since.{spans_read, writes_submitted}
 use Rattle.disk_model.proofs.EveryMoment.{since_join, since_now, since_weaken}
-use Rattle.disk_model.proofs.StepsSince.{between_both, between_same, between_weaker, steps_grow, steps_joined, spans_read-append,
-    writes_submitted-append}
+use Rattle.disk_model.proofs.StepsSince.{between_both, between_same, between_weaker, steps_grow, steps_joined, spans_read-append}
+use Rattle.disk_model.proofs.StepsSince.{writes_submitted-append}
 use Rattle.disk_batch.specs.InTurn.{HasFirstBatches, IsEither, Put, WritesInTurn, WritesInTurnTold, with_batches, with_writes, written_on}
 
 -- the same writes on images that have the same sectors
@@ -63,7 +63,7 @@ first_of_more first more base image h = record {
         (with_batches (take (suc h.count) (first ++ more)) base) image
     at_end le pv sector =
         let all : take (suc h.count) first ≡ take h.count first =
-            take_all (suc h.count) first (omega (arith, le)) ∙ sym (take_all h.count first le) in
+        take_all (suc h.count) first (omega (arith, le)) ∙ sym (take_all h.count first le) in
         let same : image pv sector ≡ with_batches (take h.count first) base pv sector =
         ⊎_elim (λ e. e) (λ e. e ∙ ap (λ (l : List (List Put)). with_batches l base pv sector) all) (h.either pv sector) in
         inl (same ∙ ap (λ (i : Image). i pv sector) (taken h.count h.among))
@@ -80,7 +80,7 @@ first_after_all first more base image h = record {
     taken : (n : ℕ) → with_batches (take n more) (with_batches first base) ≡ with_batches (take (length first + n) (first ++ more)) base
     taken n =
         sym (batches_append first (take n more) base)
-            ∙ ap (λ (l : List (List Put)). with_batches l base) (sym (take-append-add first more n))
+        ∙ ap (λ (l : List (List Put)). with_batches l base) (sym (take-append-add first more n))
 
     later : with_batches (take (length first + suc h.count) (first ++ more)) base
         ≡ with_batches (take (suc (length first + h.count)) (first ++ more)) base
@@ -111,15 +111,15 @@ module _ (old mid new : Record) (first more : List (List Put)) (well : Bool) (a 
       let early : EveryImageSince (length old.steps) mid (Along base) =
       since_weaken mid (length old.steps) (length old.steps) (HasFirstBatches (take a.submitted first) base) (Along base) (omega arith)
       (λ image h. first_of_more first (take b.submitted more) base image
-          (subst (λ (l : List (List Put)). HasFirstBatches l base image) all_first h)) (a.every_image base is)
+      (subst (λ (l : List (List Put)). HasFirstBatches l base image) all_first h)) (a.every_image base is)
       in
       let late : EveryImageSince (length mid.steps) new (Along base) =
       since_weaken new (length mid.steps) (length mid.steps) (HasFirstBatches (take b.submitted more) (with_batches first base))
-          (Along base) (omega arith) (first_after_all first (take b.submitted more) base)
+      (Along base) (omega arith) (first_after_all first (take b.submitted more) base)
       (b.every_image (with_batches first base) (a.lasting refl base is))
       in
       let late' : EveryImageSince (length mid.steps) (steps_on b.since mid) (Along base) =
-          subst (λ (t : Record). EveryImageSince (length mid.steps) t (Along base)) b.steps late in
+      subst (λ (t : Record). EveryImageSince (length mid.steps) t (Along base)) b.steps late in
       subst (λ (l : List (List Put)). EveryImageSince (length old.steps) new (HasFirstBatches l base)) (sym both_taken)
       (subst (λ (t : Record). EveryImageSince (length old.steps) t (Along base)) (sym b.steps)
       (since_join mid.opened mid.steps b.since (length old.steps) (Along base) (steps_grow old mid a.since a.steps) early late'))
@@ -146,7 +146,7 @@ module _ (old mid new : Record) (first more : List (List Put)) (well : Bool) (a 
     every_image = both_images;
     lasting = λ went base is.
         subst (λ (i : Image). IsBase new i) (sym (batches_append first more base))
-            (b.lasting went (with_batches first base) (a.lasting refl base is));
+        (b.lasting went (with_batches first base) (a.lasting refl base is));
     now = λ went pv sector.
         b.now went pv sector
         ∙ batches_same more (now_after mid.opened mid.steps) (with_batches first (now_after old.opened old.steps)) (a.now refl) pv sector
@@ -166,7 +166,7 @@ turns_failed old mid first more a = record {
   whole = λ went. absurd (let h : false ≡ true = went in cc);
   every_image = λ base is.
       subst (λ (l : List (List Put)). EveryImageSince (length old.steps) mid (HasFirstBatches l base))
-          (sym (take-append-le a.submitted first more a.among)) (a.every_image base is);
+      (sym (take-append-le a.submitted first more a.among)) (a.every_image base is);
   lasting = λ went. absurd (let h : false ≡ true = went in cc);
   now = λ went. absurd (let h : false ≡ true = went in cc);
 }
@@ -183,7 +183,7 @@ turns_none well told = record {
   whole = λ went. refl;
   every_image = λ base is.
       since_now told (HasFirstBatches [] base)
-          (λ image im. first_none [] base image (λ pv sector. (is pv sector).each (im pv sector).0 (image pv sector) (im pv sector).1));
+      (λ image im. first_none [] base image (λ pv sector. (is pv sector).each (im pv sector).0 (image pv sector) (im pv sector).1));
   lasting = λ went base is. is;
   now = λ went pv sector. refl;
 }
@@ -193,21 +193,21 @@ pub of_submitted : (n : ℕ) (batches : List (List Put)) (base image : Image) �
     → HasFirstBatches batches base image
 of_submitted n batches base image h =
     subst (λ (l : List (List Put)). HasFirstBatches l base image) (take-append-drop n batches)
-        (first_of_more (take n batches) (drop n batches) base image h)
+    (first_of_more (take n batches) (drop n batches) base image h)
 
 -- the same where the shelf tells its record
 pub turns_told_both : (s0 s1 s2 : Option Record) (first more : List (List Put)) (well : Bool) → WritesInTurnTold s0 first true s1
     → WritesInTurnTold s1 more well s2 → WritesInTurnTold s0 (first ++ more) well s2
 turns_told_both s0 s1 s2 first more well a b =
     between_both (λ old new. WritesInTurn old first true new) (λ old new. WritesInTurn old more well new)
-        (λ old new. WritesInTurn old (first ++ more) well new) s0 s1 s2
+    (λ old new. WritesInTurn old (first ++ more) well new) s0 s1 s2
     (λ old mid new p q. turns_both old mid new first more well p q) a b
 
 pub turns_told_failed : (s0 s1 : Option Record) (first more : List (List Put)) → WritesInTurnTold s0 first false s1
     → WritesInTurnTold s0 (first ++ more) false s1
 turns_told_failed s0 s1 first more a =
     between_weaker (λ old new. WritesInTurn old first false new) (λ old new. WritesInTurn old (first ++ more) false new) s0 s1
-        (λ old new p. turns_failed old new first more p) a
+    (λ old new p. turns_failed old new first more p) a
 
 pub turns_told_none : (s0 s1 : Option Record) (well : Bool) → s1 ≡ s0 → WritesInTurnTold s0 [] well s1
 turns_told_none s0 s1 well same = between_same (λ old new. WritesInTurn old [] well new) s0 s1 same (turns_none well)

@@ -1,6 +1,6 @@
 -- One batch, as the only one of those that are carried out in turn.
-use Rattle.std.proofs.Common.{◌≡◌, ◌⊎◌, ℕ, Bool, true, false, IsTrue, List, [], ◌∷◌, map, length, inl, inr, ⊎_elim, refl, sym, subst, ◌∙◌,
-    arith}
+use Rattle.std.proofs.Common.{◌≡◌, ◌⊎◌, ℕ, Bool, true, false, IsTrue, List, [], ◌∷◌, map, length, inl, inr, ⊎_elim, refl, sym, subst, ◌∙◌}
+use Rattle.std.proofs.Common.{arith}
 use Rattle.std.proofs.lemmas.Bool.{cases_Bool}
 use Rattle.std.proofs.lemmas.List.{append-nil}
 use Rattle.disk_model.specs.Steps.{Image, IsSame, Record, now_after}
@@ -32,7 +32,7 @@ module _ (old new : Record) (puts : List Put) (disks : List ℕ) (well : Bool) (
     among = omega arith;
     either =
         λ pv sector. either base is pv sector (image pv sector)
-            ((all.adds moment from upto pv sector).each (im pv sector).0 (image pv sector) (im pv sector).1);
+        ((all.adds moment from upto pv sector).each (im pv sector).0 (image pv sector) (im pv sector).1);
   }
 
   last : AddsOnly old puts new
@@ -41,12 +41,14 @@ module _ (old new : Record) (puts : List Put) (disks : List ℕ) (well : Bool) (
   lasting : (base : Image) → IsBase old base → IsTrue well → IsBase new (with_writes puts base)
   lasting base is went pv sector =
       ⊎_elim
-      (λ at. record { each = λ write value may. written_is puts base pv sector value apart
-          ((all.lasting went pv sector at (flushed pv sector at)).each write value may) })
+      (λ at. record {
+        each = λ write value may. written_is puts base pv sector value apart
+            ((all.lasting went pv sector at (flushed pv sector at)).each write value may);
+      })
       (λ none. record {
         each = λ write value may.
             ⊎_elim (λ e. e ∙ sym (written_kept puts base pv sector none)) (λ e. e)
-                (either base is pv sector value ((last pv sector).each write value may));
+            (either base is pv sector value ((last pv sector).each write value may));
       })
       (cases_Bool (writes_at (map write_work puts) pv sector))
 
@@ -54,7 +56,7 @@ module _ (old new : Record) (puts : List Put) (disks : List ℕ) (well : Bool) (
   now went pv sector =
       ⊎_elim
       (λ at. written_is puts (now_after old.opened old.steps) pv sector (now_after new.opened new.steps pv sector) apart
-          (all.written went pv sector at))
+      (all.written went pv sector at))
       (λ none.
       ⊎_elim
       (λ same. same ∙ sym (written_kept puts (now_after old.opened old.steps) pv sector none))

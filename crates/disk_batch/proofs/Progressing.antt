@@ -1,6 +1,6 @@
 -- How each step brings a batch on.
-use Rattle.std.proofs.Common.{◌≡◌, ℕ, Bool, true, false, not, ◌==◌, ◌||◌, IsTrue, List, [], ◌∷◌, filter, map, All, Some, None, inl, inr,
-    ⊎_elim, refl, sym, ap, subst, ◌∙◌}
+use Rattle.std.proofs.Common.{◌≡◌, ℕ, Bool, true, false, not, ◌==◌, ◌||◌, IsTrue, List, [], ◌∷◌, filter, map, All, Some, None, inl, inr}
+use Rattle.std.proofs.Common.{⊎_elim, refl, sym, ap, subst, ◌∙◌}
 use Rattle.std.proofs.lemmas.Bool.Decides.{eqb_tells}
 use Rattle.std.proofs.lemmas.List.Elements.{All-cons, All-nil}
 use Rattle.disk_model.specs.Steps.{Work, Reading, Writing, Flushing, Step, Submitted, Completed, Record, step_on}
@@ -8,15 +8,15 @@ use Rattle.disk_model.specs.Record.{Operation, in_flight_after, IsRecord, IsIn}
 use Rattle.disk_model.specs.Brought.{writes, brings}
 use Rattle.disk_model.specs.Durability.{OnlyLeaves, OnlyLeavesOrCompleted, OnlyLeavesOrOvertaken, OnlyLeavesOrDropped}
 use Rattle.disk_model.proofs.WritesInFlight.{alone_completed}
-use Rattle.disk_model.proofs.Durable.{only_leaves_on, or_completed_on, or_overtaken_on, or_dropped_on, new_write, write_completes,
-    flush_submitted, flush_completes}
+use Rattle.disk_model.proofs.Durable.{only_leaves_on, or_completed_on, or_overtaken_on, or_dropped_on, new_write, write_completes}
+use Rattle.disk_model.proofs.Durable.{flush_submitted, flush_completes}
 use Rattle.disk_batch.specs.Views.{View, done_on}
 use Rattle.disk_batch.specs.Progress.{AwaitsWrite, AwaitsFlush, Stage, Brings}
 use Rattle.disk_model.specs.Submitting.{submitted_on, works_of, writes_at, BringsAt, BringAt}
 use Rattle.disk_model.specs.State.{tags_of}
 use Rattle.disk_model.specs.InFlight.{IsAmong, OnlyTheirs, IsStill, IsForeign}
-use Rattle.disk_model.proofs.InFlight.{is_among-filter, completes_its_own, in_flight_on, in_flight_left, in_flight_submitted, in_flight_new,
-    theirs_on, theirs_done, theirs_submitted}
+use Rattle.disk_model.proofs.InFlight.{is_among-filter, completes_its_own, in_flight_on, in_flight_left, in_flight_submitted, in_flight_new}
+use Rattle.disk_model.proofs.InFlight.{theirs_on, theirs_done, theirs_submitted}
 use Rattle.disk_model.proofs.Submissions.{submitted_leaves}
 
 -- what a step that isn't the batch's own leaves, where it brings nothing to the sector
@@ -49,8 +49,10 @@ pub foreign_on : (view : View) (told : Record) (pv sector : ℕ) (Q : List ℕ �
     → IsForeign view.tags step
     → Brings view told pv sector Q → Brings view (step_on step told) pv sector Q
 foreign_on view told pv sector Q step q foreign h =
-    record { stage = λ e. stage_on view.flushing view.tags told pv sector Q step q foreign (h.stage e);
-        alone = theirs_on view.tags told pv sector step q h.alone }
+    record {
+      stage = λ e. stage_on view.flushing view.tags told pv sector Q step q foreign (h.stage e);
+      alone = theirs_on view.tags told pv sector step q h.alone;
+    }
 
 -- a completion of its own that went well
 stage_done : (flushing : Bool) (tags : List ℕ) (told : Record) (pv sector : ℕ) (Q : List ℕ → Type 0) (tag : ℕ) (work : Work)
@@ -80,7 +82,7 @@ stage_done true tags told pv sector Q tag work fresh is h =
     (λ a. inl (only_leaves_on told pv sector Q step refl a))
     (λ b. ⊎_elim
     (λ same. let e : Flushing pv ≡ work = completes_its_own told.steps tag work (record { tag = b.flush; work = Flushing pv }) is.1 is.0
-        b.in_flight same.1 in
+    b.in_flight same.1 in
     inl (subst (λ (w : Work). OnlyLeaves (step_on (Completed tag w true fresh) told) pv sector Q) e
     (flush_completes told pv sector tag fresh Q (subst (λ (t : ℕ). OnlyLeavesOrDropped told t pv sector Q) same.1 b.drops))))
     (λ other. inr (record {
@@ -95,8 +97,10 @@ pub own_done : (view : View) (told : Record) (pv sector : ℕ) (Q : List ℕ →
     (fresh : List Bool) → IsRecord (step_on (Completed tag work well fresh) told).steps
     → Brings view told pv sector Q → Brings (done_on tag disk well view) (step_on (Completed tag work well fresh) told) pv sector Q
 own_done view told pv sector Q tag disk work true fresh is h =
-    record { stage = λ e. stage_done view.flushing view.tags told pv sector Q tag work fresh is (h.stage e);
-        alone = theirs_done view.tags told pv sector tag work true fresh h.alone }
+    record {
+      stage = λ e. stage_done view.flushing view.tags told pv sector Q tag work fresh is (h.stage e);
+      alone = theirs_done view.tags told pv sector tag work true fresh h.alone;
+    }
 own_done view told pv sector Q tag disk work false fresh is h =
     record { stage = λ (e : Some disk ≡ None). cc; alone = theirs_done view.tags told pv sector tag work false fresh h.alone }
 
@@ -111,7 +115,7 @@ all_still : (fs : List Operation) (pv sector : ℕ) → ((o : Operation) → IsI
 all_still [] pv sector still = All-nil (λ (o : Operation). writes o.work pv sector ≡ false)
 all_still (f ∷ fs) pv sector still =
     All-cons (λ (o : Operation). writes o.work pv sector ≡ false) f fs (not_true (writes f.work pv sector) (still f (inl refl)))
-        (all_still fs pv sector (λ o a w. still o (inr a) w))
+    (all_still fs pv sector (λ o a w. still o (inr a) w))
 
 still_completed : (told : Record) (pv sector : ℕ) (Q : List ℕ → Type 0) → IsStill told pv sector → OnlyLeavesOrCompleted told pv sector Q
 still_completed told pv sector Q still =
@@ -131,7 +135,7 @@ completed_submitted : (os : List Operation) (told : Record) (pv sector : ℕ) (Q
 completed_submitted [] told pv sector Q b h = h
 completed_submitted (o ∷ os) told pv sector Q b h =
     completed_submitted os (step_on (Submitted o.tag o.work) told) pv sector Q b.1
-        (bring_step told pv sector o.tag o.work Q (writes o.work pv sector) refl b.0 h)
+    (bring_step told pv sector o.tag o.work Q (writes o.work pv sector) refl b.0 h)
 
 -- a write of the sector that was submitted is awaited
 awaits_here : (o : Operation) (os : List Operation) (told : Record) (pv sector : ℕ) (c : Bool) → writes o.work pv sector ≡ c
@@ -176,7 +180,7 @@ overtaken_flushes (o ∷ os) (d ∷ disks) told pv sector Q only h =
     let work : o.work ≡ Flushing d = cc in
     let rest : OnlyFlushes os disks = cc in
     overtaken_flushes os disks (step_on (Submitted o.tag o.work) told) pv sector Q rest
-        (or_overtaken_on told pv sector Q (Submitted o.tag o.work) (ap (λ (w : Work). writes w pv sector) work) h)
+    (or_overtaken_on told pv sector Q (Submitted o.tag o.work) (ap (λ (w : Work). writes w pv sector) work) h)
 
 -- and what a flush is to drop
 dropped_flushes : (os : List Operation) (disks : List ℕ) (told : Record) (flush pv sector : ℕ) (Q : List ℕ → Type 0) → OnlyFlushes os disks
@@ -187,7 +191,7 @@ dropped_flushes (o ∷ os) (d ∷ disks) told flush pv sector Q only h =
     let work : o.work ≡ Flushing d = cc in
     let rest : OnlyFlushes os disks = cc in
     dropped_flushes os disks (step_on (Submitted o.tag o.work) told) flush pv sector Q rest
-        (or_dropped_on told pv sector Q (Submitted o.tag o.work) (ap (λ (w : Work). writes w pv sector) work) flush h)
+    (or_dropped_on told pv sector Q (Submitted o.tag o.work) (ap (λ (w : Work). writes w pv sector) work) flush h)
 
 -- a flush that is submitted will settle each sector of its disk that is overtaken, whoever wrote it
 pub flush_new : (os : List Operation) (disks : List ℕ) (told : Record) (pv sector : ℕ) (Q : List ℕ → Type 0) → OnlyFlushes os disks
@@ -208,16 +212,16 @@ flush_new (o ∷ os) (d ∷ disks) told pv sector Q only among h =
       awaited = inl refl;
       in_flight = in_flight_submitted os told' (record { tag = o.tag; work = Flushing pv })
           (subst (λ (w : Work). IsIn (in_flight_after told'.steps) (record { tag = o.tag; work = w })) (sym here)
-              (in_flight_new o.tag o.work told));
+          (in_flight_new o.tag o.work told));
       drops =
           dropped_flushes os disks told' o.tag pv sector Q rest
-              (subst (λ (w : Work). OnlyLeavesOrDropped (step_on (Submitted o.tag w) told) o.tag pv sector Q) here
-              (flush_submitted told pv sector o.tag Q h));
+          (subst (λ (w : Work). OnlyLeavesOrDropped (step_on (Submitted o.tag w) told) o.tag pv sector Q) here
+          (flush_submitted told pv sector o.tag Q h));
     })
     (λ later.
     let a =
-        flush_new os disks told' pv sector Q rest later
-            (or_overtaken_on told pv sector Q (Submitted o.tag o.work) (ap (λ (w : Work). writes w pv sector) work) h) in
+    flush_new os disks told' pv sector Q rest later
+    (or_overtaken_on told pv sector Q (Submitted o.tag o.work) (ap (λ (w : Work). writes w pv sector) work) h) in
     record { flush = a.flush; awaited = inr a.awaited; in_flight = a.in_flight; drops = a.drops })
     among
 
@@ -238,7 +242,7 @@ pub flushes_started : (view : View) (os : List Operation) (told : Record) (pv se
 flushes_started view os told pv sector Q none writing well only among h = record {
   stage = λ e. inr (flush_new os view.flush told pv sector Q only among
       (settled_overtaken told pv sector Q view.tags none
-          (subst (λ (b : Bool). Stage b view.tags told pv sector Q) writing (h.stage well))));
+      (subst (λ (b : Bool). Stage b view.tags told pv sector Q) writing (h.stage well))));
   alone = theirs_submitted os [] told pv sector (subst (λ (l : List ℕ). OnlyTheirs l told pv sector) none h.alone);
 }
 
@@ -262,6 +266,7 @@ flushes_write_nothing (o ∷ os) [] pv sector P only = cc
 flushes_write_nothing (o ∷ os) (d ∷ disks) pv sector P only =
     let work : o.work ≡ Flushing d = cc in
     let rest : OnlyFlushes os disks = cc in
-    let r = flushes_write_nothing os disks pv sector P rest in
-    ((subst (λ (w : Work). BringsAt w pv sector P) (sym work) tt, r.0),
-        ap (λ (w : Work). writes w pv sector || writes_at (works_of os) pv sector) work ∙ r.1)
+    let r = flushes_write_nothing os disks pv sector P rest in (
+      (subst (λ (w : Work). BringsAt w pv sector P) (sym work) tt, r.0),
+      ap (λ (w : Work). writes w pv sector || writes_at (works_of os) pv sector) work ∙ r.1,
+    )

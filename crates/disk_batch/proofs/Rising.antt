@@ -1,6 +1,6 @@
 -- Tags that rise strictly.
-use Rattle.std.proofs.Common.{◌≡◌, ◌<◌, ◌+◌, ◌++◌, ◌==◌, ℕ, suc, List, [], ◌∷◌, not, AllPairs, All, drop, filter, get_or, slice_index_or,
-    length, refl, sym, ap, subst, ◌∙◌, arith, ⊎_elim}
+use Rattle.std.proofs.Common.{◌≡◌, ◌<◌, ◌+◌, ◌++◌, ◌==◌, ℕ, suc, List, [], ◌∷◌, not, AllPairs, All, drop, filter, get_or, slice_index_or}
+use Rattle.std.proofs.Common.{length, refl, sym, ap, subst, ◌∙◌, arith, ⊎_elim}
 use Rattle.std.proofs.lemmas.Bool.Decides.{eqb_tells}
 use Rattle.std.proofs.lemmas.List.{get_or-append-add, get_or-map, length-append, length-map}
 use Rattle.std.proofs.lemmas.List.Elements.{All-head, All-tail}
@@ -15,12 +15,12 @@ works_rise old new works tags lawful s =
     let some : ℕ → Operation = λ t. record { tag = t; work = Flushing 0 } in
     let before = length old.in_flight in
     let order : AllPairs (λ (o p : Operation). o.tag < p.tag) (old.in_flight ++ s.os) =
-        subst (λ (l : List Operation). AllPairs (λ (o p : Operation). o.tag < p.tag) l) s.submits.in_flight lawful.order in
+    subst (λ (l : List Operation). AllPairs (λ (o p : Operation). o.tag < p.tag) l) s.submits.in_flight lawful.order in
     let long : length (old.in_flight ++ s.os) ≡ before + length s.os = length-append old.in_flight s.os in
     let many : length (tags_of s.os) ≡ length s.os = length-map s.os (λ (o : Operation). o.tag) in
     let at : (i d : ℕ) → i < length s.os → get_or (tags_of s.os) i d ≡ (get_or (old.in_flight ++ s.os) (before + i) (some d)).tag =
     λ i d within. get_or-map (λ (o : Operation). o.tag) s.os i (some d) d within
-        ∙ sym (ap (λ (o : Operation). o.tag) (get_or-append-add old.in_flight s.os i (some d))) in
+    ∙ sym (ap (λ (o : Operation). o.tag) (get_or-append-add old.in_flight s.os i (some d))) in
     subst AreRising s.tags_are (λ i j d lt within.
     let inside : j < length s.os = omega (arith, many) in
     let less = order (before + i) (before + j) (some d) (omega arith) (omega (arith, long)) in
@@ -41,5 +41,5 @@ pub first_off : (tag : ℕ) (tags rest : List ℕ) → AreRising tags → 0 < le
 first_off tag [] rest rising some first is = absurd (omega arith)
 first_off tag (t ∷ tags) rest rising some first is =
     ⊎_elim (λ same. rw same.0 (is ∙ sym (above_all tag tags
-        (λ i d within. subst (λ n. n < get_or tags i d) first (rising 0 (suc i) d (omega arith) (omega arith))))))
+    (λ i d within. subst (λ n. n < get_or tags i d) first (rising 0 (suc i) d (omega arith) (omega arith))))))
     (λ other. absurd (other.1 first)) (eqb_tells t tag)

@@ -7,8 +7,8 @@ use Rattle.disk_model.specs.Durability.{OnlyLeaves, AllLeave}
 use Rattle.disk_model.proofs.Durable.{only_leaves_on}
 use Rattle.disk_batch.specs.Views.{View, done_on}
 use Rattle.disk_batch.specs.Rounds.{AreStill, BatchHolds, WriteTargets, IsElsewhere}
-use Rattle.disk_batch.proofs.Progressing.{OnlyFlushes, foreign_on, own_done, writes_started, flushes_started, batch_well,
-    only_leaves_submitted, flushes_write_nothing}
+use Rattle.disk_batch.proofs.Progressing.{OnlyFlushes, foreign_on, own_done, writes_started, flushes_started, batch_well}
+use Rattle.disk_batch.proofs.Progressing.{only_leaves_submitted, flushes_write_nothing}
 use Rattle.disk_model.specs.Submitting.{submitted_on, works_of, writes_at}
 use Rattle.disk_model.specs.State.{tags_of}
 use Rattle.disk_model.specs.InFlight.{IsAmong, IsStill, OnlyTheirs}
@@ -28,9 +28,9 @@ still_submitted : (os : List Operation) (told : Record) (pv sector : ℕ) → wr
 still_submitted [] told pv sector none h = h
 still_submitted (o ∷ os) told pv sector none h =
     still_submitted os (step_on (Submitted o.tag o.work) told) pv sector
-        (or_false_right (writes o.work pv sector) (writes_at (works_of os) pv sector) none)
+    (or_false_right (writes o.work pv sector) (writes_at (works_of os) pv sector) none)
     (theirs_on [] told pv sector (Submitted o.tag o.work) (or_false_left (writes o.work pv sector) (writes_at (works_of os) pv sector) none)
-        h)
+    h)
 
 module _ (mine target : ℕ → ℕ → Bool) (Now Goal : ℕ → ℕ → List ℕ → Type 0) where
   -- a batch starts
@@ -41,7 +41,7 @@ module _ (mine target : ℕ → ℕ → Bool) (Now Goal : ℕ → ℕ → List �
     leaves = λ pv sector own. only_leaves_submitted os told pv sector (Now pv sector) (puts.allowed pv sector own) (leaves pv sector own);
     targets =
         λ pv sector own aim. writes_started os flush told pv sector (Goal pv sector) (puts.targets pv sector own aim)
-            (puts.wanted pv sector own) (still pv sector own);
+        (puts.wanted pv sector own) (still pv sector own);
     others = λ pv sector own not. still_submitted os told pv sector (puts.others pv sector own not) (still pv sector own);
   }
 
@@ -52,7 +52,7 @@ module _ (mine target : ℕ → ℕ → Bool) (Now Goal : ℕ → ℕ → List �
     leaves = λ pv sector own. only_leaves_on told pv sector (Now pv sector) step (else.apart pv sector own) (h.leaves pv sector own);
     targets =
         λ pv sector own aim. foreign_on view told pv sector (Goal pv sector) step (else.apart pv sector own) else.foreign
-            (h.targets pv sector own aim);
+        (h.targets pv sector own aim);
     others = λ pv sector own not. theirs_on [] told pv sector step (else.apart pv sector own) (h.others pv sector own not);
   }
 
@@ -63,10 +63,13 @@ module _ (mine target : ℕ → ℕ → Bool) (Now Goal : ℕ → ℕ → List �
   batch_beside view [] told apart h = h
   batch_beside view (o ∷ os) told apart h =
       batch_beside view os (step_on (Submitted o.tag o.work) told)
-          (λ pv sector own. or_false_right (writes o.work pv sector) (writes_at (works_of os) pv sector) (apart pv sector own))
+      (λ pv sector own. or_false_right (writes o.work pv sector) (writes_at (works_of os) pv sector) (apart pv sector own))
       (batch_elsewhere view told (Submitted o.tag o.work)
-          (record { foreign = tt; apart = λ pv sector own. or_false_left (writes o.work pv sector) (writes_at (works_of os) pv sector)
-          (apart pv sector own) }) h)
+      (record {
+        foreign = tt;
+        apart = λ pv sector own. or_false_left (writes o.work pv sector) (writes_at (works_of os) pv sector)
+            (apart pv sector own);
+      }) h)
 
   -- a completion of its own
   pub batch_done : (view : View) (told : Record) (tag disk : ℕ) (work : Work) (well : Bool) (fresh : List Bool)
@@ -88,13 +91,13 @@ module _ (mine target : ℕ → ℕ → Bool) (Now Goal : ℕ → ℕ → List �
   batch_flushes view os told none writing well only among h = record {
     leaves =
         λ pv sector own. only_leaves_submitted os told pv sector (Now pv sector)
-            (flushes_write_nothing os view.flush pv sector (Now pv sector) only).0 (h.leaves pv sector own);
+        (flushes_write_nothing os view.flush pv sector (Now pv sector) only).0 (h.leaves pv sector own);
     targets =
         λ pv sector own aim. flushes_started view os told pv sector (Goal pv sector) none writing well only (among pv sector own aim)
-            (h.targets pv sector own aim);
+        (h.targets pv sector own aim);
     others =
         λ pv sector own not. still_submitted os told pv sector (flushes_write_nothing os view.flush pv sector (Now pv sector) only).1
-            (h.others pv sector own not);
+        (h.others pv sector own not);
   }
 
   -- it is through

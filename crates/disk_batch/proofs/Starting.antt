@@ -31,7 +31,7 @@ module _ (old new : State) (disks : List ℕ) (view : View) where
       → FaultsSince faults view.lost new
   start_faults faults [] starts h =
       subst (λ (l : Option ℕ). FaultsSince faults l new) (sym (ap (λ (v : View). v.lost) starts.1))
-          (faults_submitted faults old new (map Flushing disks) view.tags None starts.0 h)
+      (faults_submitted faults old new (map Flushing disks) view.tags None starts.0 h)
   start_faults faults (put ∷ puts) starts h =
       subst (λ (l : Option ℕ). FaultsSince faults l new) (sym (ap (λ (v : View). v.lost) starts.1))
-          (faults_submitted faults old new (map write_work (put ∷ puts)) view.tags None starts.0 h)
+      (faults_submitted faults old new (map write_work (put ∷ puts)) view.tags None starts.0 h)

@@ -1,6 +1,6 @@
 -- Operations that are submitted one after another.
-use Rattle.std.proofs.Common.{reverse, ◌==◌, IsTrue, inl, inr, ⊎_elim, ◌≡◌, ℕ, ◌+◌, List, [], ◌∷◌, ◌++◌, map, sum_by, Some, refl, sym, ap,
-    subst, ◌∙◌, arith, append_assoc}
+use Rattle.std.proofs.Common.{reverse, ◌==◌, IsTrue, inl, inr, ⊎_elim, ◌≡◌, ℕ, ◌+◌, List, [], ◌∷◌, ◌++◌, map, sum_by, Some, refl, sym, ap}
+use Rattle.std.proofs.Common.{subst, ◌∙◌, arith, append_assoc}
 use Rattle.std.specs.List.{list_any}
 use Rattle.std.proofs.lemmas.Bool.Decides.{eqb_tells}
 use Rattle.std.proofs.lemmas.List.{map-append, reverse-append}
@@ -28,7 +28,7 @@ pub among_any : (tags : List ℕ) (tag : ℕ) → IsAmong tags tag → IsTrue (l
 among_any [] tag h = absurd h
 among_any (t ∷ tags) tag h =
     ⊎_elim (λ same. rw same.0 refl) (λ other. rw other.0
-        (⊎_elim (λ (e : t ≡ tag). absurd (other.1 e)) (λ later. among_any tags tag later) h)) (eqb_tells t tag)
+    (⊎_elim (λ (e : t ≡ tag). absurd (other.1 e)) (λ later. among_any tags tag later) h)) (eqb_tells t tag)
 
 -- nothing was submitted yet
 pub works_none : (state : State) → SubmitsWorks state [] [] state

@@ -1,6 +1,6 @@
 -- Batches that are taken one after another off a list.
-use Rattle.std.proofs.Common.{◌≡◌, ℕ, ◌+◌, Bool, true, false, List, [], ◌∷◌, ◌++◌, map, reverse, sum_by, Option, refl, sym, ap, subst, ◌∙◌,
-    arith, append_assoc}
+use Rattle.std.proofs.Common.{◌≡◌, ℕ, ◌+◌, Bool, true, false, List, [], ◌∷◌, ◌++◌, map, reverse, sum_by, Option, refl, sym, ap, subst, ◌∙◌}
+use Rattle.std.proofs.Common.{arith, append_assoc}
 use Rattle.std.proofs.lemmas.List.{map-append, reverse-append}
 use Rattle.std.proofs.lemmas.List.Sums.{sum_by-append}
 use Rattle.disk_model.specs.Idle.{SpendsAtMost}
@@ -21,7 +21,7 @@ pub turn_told : (s0 s1 : Option Record) (sizes : List ℕ) (batch : Batch) (well
     → WritesInTurnTold s0 (writes_of batch ∷ []) well s1
 turn_told s0 s1 sizes batch well can told =
     between_weaker (λ old new. WritesAll old (writes_of batch) (disks_of batch) well new)
-        (λ old new. WritesInTurn old (writes_of batch ∷ []) well new) s0 s1
+    (λ old new. WritesInTurn old (writes_of batch ∷ []) well new) s0 s1
     (λ old new all. one_turn old new (writes_of batch) (disks_of batch) well all can.apart can.flushed) told
 
 -- some batches, and then this one
@@ -30,14 +30,14 @@ pub turn_after : (s0 s1 s2 : Option Record) (first : List Batch) (batch : Batch)
     → WritesInTurnTold s0 (map writes_of (first ++ batch ∷ [])) well s2
 turn_after s0 s1 s2 first batch well a b =
     subst (λ (l : List (List Put)). WritesInTurnTold s0 l well s2) (sym (map-append writes_of first (batch ∷ [])))
-        (turns_told_both s0 s1 s2 (map writes_of first) (writes_of batch ∷ []) well a b)
+    (turns_told_both s0 s1 s2 (map writes_of first) (writes_of batch ∷ []) well a b)
 
 -- the list was this batch and others behind it, seen from its end
 pub taken_off : (first rest list all : List Batch) (batch : Batch) → first ++ reverse list ≡ all → list ≡ rest ++ batch ∷ []
     → (first ++ batch ∷ []) ++ reverse rest ≡ all
 taken_off first rest list all batch e last =
     append_assoc first (batch ∷ []) (reverse rest)
-        ∙ ap (λ (l : List Batch). first ++ l) (sym (ap reverse last ∙ reverse-append rest (batch ∷ []))) ∙ e
+    ∙ ap (λ (l : List Batch). first ++ l) (sym (ap reverse last ∙ reverse-append rest (batch ∷ []))) ∙ e
 
 -- the batch failed, and those behind it were not begun
 pub turn_failed : (s0 s1 s2 : Option Record) (first rest list all : List Batch) (batch : Batch) → first ++ reverse list ≡ all
@@ -47,9 +47,9 @@ pub turn_failed : (s0 s1 s2 : Option Record) (first rest list all : List Batch) 
 turn_failed s0 s1 s2 first rest list all batch e last a b =
     subst (λ (l : List (List Put)). WritesInTurnTold s0 l false s2)
     (sym (map-append writes_of (first ++ batch ∷ []) (reverse rest))
-        ∙ ap (λ (l : List Batch). map writes_of l) (taken_off first rest list all batch e last))
+    ∙ ap (λ (l : List Batch). map writes_of l) (taken_off first rest list all batch e last))
     (turns_told_failed s0 s2 (map writes_of (first ++ batch ∷ [])) (map writes_of (reverse rest))
-        (turn_after s0 s1 s2 first batch false a b))
+    (turn_after s0 s1 s2 first batch false a b))
 
 -- what both use up
 pub spends_both : (s0 s1 s2 : State) (ops more_ops sectors more_sectors : ℕ) → SpendsAtMost s0 ops sectors s1

@@ -1,6 +1,6 @@
 -- Writes of which no two share a sector, and the batch of them.
-use Rattle.std.proofs.Common.{◌≡◌, ◌<◌, ◌⊎◌, ◌+◌, ◌==◌, ◌&&◌, nat_le, nat_lt, ℕ, suc, Bool, true, List, map, [], ◌∷◌, ◌++◌, length, get_or,
-    inl, inr, ⊎_elim, sym, ap, subst, ◌∙◌, arith}
+use Rattle.std.proofs.Common.{◌≡◌, ◌<◌, ◌⊎◌, ◌+◌, ◌==◌, ◌&&◌, nat_le, nat_lt, ℕ, suc, Bool, true, List, map, [], ◌∷◌, ◌++◌, length, get_or}
+use Rattle.std.proofs.Common.{inl, inr, ⊎_elim, sym, ap, subst, ◌∙◌, arith}
 use Rattle.std.specs.Prelude.{All, AllPairs, flat_map}
 use Rattle.std.proofs.lemmas.Bool.{and_parts, eqb-true, false_from_ne_true, or_cases, or_left, or_right, true≢false}
 use Rattle.std.proofs.lemmas.List.Elements.{All-append, All-head, All-nil, All-tail}
@@ -25,7 +25,7 @@ at_either (put ∷ first) more pv sector is =
     ⊎_elim
     (λ here. inl (or_left (covers put.0 pv sector) (is_written first pv sector) here))
     (λ later. ⊎_elim (λ x. inl (or_right (covers put.0 pv sector) (is_written first pv sector) x)) (λ y. inr y)
-        (at_either first more pv sector later))
+    (at_either first more pv sector later))
     (or_cases (covers put.0 pv sector) (is_written (first ++ more) pv sector) is)
 
 -- two runs that share no sector
@@ -70,14 +70,14 @@ module _ {A : Type 0} (puts_of : A → List Put) where
       (λ pv sector here there.
       let w = one_of xs x pv sector there in
       two x (get_or xs w.0 x) (All-head Good x xs good) (good (suc w.0) x (omega (arith, w.1)))
-          (pairs 0 (suc w.0) x (omega arith) (omega (arith, w.1))) pv sector here w.2)
+      (pairs 0 (suc w.0) x (omega arith) (omega (arith, w.1))) pv sector here w.2)
 
   -- what holds of the writes of each holds of all
   pub each_has : (P : Put → Type 0) (xs : List A) → All (λ (a : A). All P (puts_of a)) xs → All P (flat_map puts_of xs)
   each_has P [] h = All-nil P
   each_has P (x ∷ xs) h =
       All-append P (puts_of x) (flat_map puts_of xs) (All-head (λ (a : A). All P (puts_of a)) x xs h)
-          (each_has P xs (All-tail (λ (a : A). All P (puts_of a)) x xs h))
+      (each_has P xs (All-tail (λ (a : A). All P (puts_of a)) x xs h))
 
 -- a span covers sectors of its disk alone
 disk_of_covered : (span : Span) (pv sector : ℕ) → covers span pv sector ≡ true → span.pv ≡ pv
@@ -107,5 +107,5 @@ can_run sizes puts disks batch writes flushes some some_disk lie within apart on
   apart = subst ShareNoSector (sym writes) apart;
   flushed = λ pv sector is.
       subst (λ (l : List ℕ). IsAmong l pv) (sym flushes)
-          (disk_among disks puts on pv sector (sym (ap (λ (l : List Put). is_written l pv sector) writes) ∙ is));
+      (disk_among disks puts on pv sector (sym (ap (λ (l : List Put). is_written l pv sector) writes) ∙ is));
 }

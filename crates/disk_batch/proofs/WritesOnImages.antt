@@ -58,8 +58,10 @@ written_or_kept (put ∷ puts) image pv sector =
     (λ kept.
     ⊎_elim
     (λ own. inr (inl (own, kept.0 ∙ written_in put image pv sector own)))
-    (λ other. inl (kept.0 ∙ written_out put image pv sector other,
-        ap (λ (b : Bool). b || writes_at (map write_work puts) pv sector) other ∙ kept.1))
+    (λ other. inl (
+      kept.0 ∙ written_out put image pv sector other,
+      ap (λ (b : Bool). b || writes_at (map write_work puts) pv sector) other ∙ kept.1,
+    ))
     (cases_Bool (covers put.0 pv sector)))
     (λ by. inr (inr by))
     (written_or_kept puts (written_on put image) pv sector)

@@ -21,7 +21,7 @@ module _ (old : Record) (puts : List (Span × List (List ℕ))) (disks : List �
   allowed_throughout mine Now bring leaves moment from until pv sector own = record {
     each = λ write value may.
         ⊎_elim (λ was. (leaves pv sector own).each was.0 value was.1)
-            (λ here. written_has puts pv sector (Now pv sector) (bring pv sector own) value here)
+        (λ here. written_has puts pv sector (Now pv sector) (bring pv sector own) value here)
         ((h.adds moment from until pv sector).each write value may);
   }
 
@@ -34,7 +34,7 @@ module _ (old : Record) (puts : List (Span × List (List ℕ))) (disks : List �
   allowed_now pv sector Q bring leaves = record {
     each =
         λ write value may. ⊎_elim (λ was. leaves.each was.0 value was.1) (λ here. written_has puts pv sector Q bring value here)
-            ((adds_now pv sector).each write value may);
+        ((adds_now pv sector).each write value may);
   }
 
   -- a sector that no write covers keeps its values, and what a read gives
@@ -43,14 +43,14 @@ module _ (old : Record) (puts : List (Span × List (List ℕ))) (disks : List �
   kept_elsewhere pv sector Q none leaves = record {
     each =
         λ write value may. ⊎_elim (λ was. leaves.each was.0 value was.1) (λ here. absurd (not_written puts pv sector value none here))
-            ((adds_now pv sector).each write value may);
+        ((adds_now pv sector).each write value may);
   }
 
   pub now_elsewhere : (pv sector : ℕ) → writes_at (map write_work puts) pv sector ≡ false
       → now_after new.opened new.steps pv sector ≡ now_after old.opened old.steps pv sector
   now_elsewhere pv sector none =
       ⊎_elim (λ same. same) (λ here. absurd (not_written puts pv sector (now_after new.opened new.steps pv sector) none here))
-          (h.now pv sector)
+      (h.now pv sector)
 
   -- where all went well, a sector that was written holds what was brought to it
   pub now_has : IsTrue well → (pv sector : ℕ) (Q : List ℕ → Type 0) → IsTrue (writes_at (map write_work puts) pv sector)

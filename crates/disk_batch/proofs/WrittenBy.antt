@@ -56,5 +56,5 @@ pub not_written : (puts : List (Span × List (List ℕ))) (pv sector : ℕ) (val
 not_written [] pv sector value none h = h
 not_written (put ∷ puts) pv sector value none h =
     ⊎_elim (λ here. not_first (covers put.0 pv sector) (writes_at (map write_work puts) pv sector) none here.0)
-        (λ later. not_written puts pv sector value (not_later (covers put.0 pv sector) (writes_at (map write_work puts) pv sector) none)
-        later) h
+    (λ later. not_written puts pv sector value (not_later (covers put.0 pv sector) (writes_at (map write_work puts) pv sector) none)
+    later) h

@@ -17,7 +17,7 @@ IsOn (Lost pv) state = state.in_flight ≡ []
 abbrev pub IsWithin : State → BatchStep → Type 0
 IsWithin state (Going next) =
     All (λ (pv : ℕ). pv < length state.sizes) (view_of next).flush × (0 < length (view_of next).flush)
-        × (to_come (view_of next) ≤ state.spare_ops)
+    × (to_come (view_of next) ≤ state.spare_ops)
 IsWithin state Well = Unit {0}
 IsWithin state (Lost pv) = Unit {0}
 

@@ -31,7 +31,7 @@ Starts old [] disks view new =
     SubmitsWorks old (map Flushing disks) view.tags new × (view ≡ record { tags = view.tags; flush = disks; flushing = true; lost = None })
 Starts old (put ∷ puts) disks view new =
     SubmitsWorks old (map write_work (put ∷ puts)) view.tags new
-        × (view ≡ record { tags = view.tags; flush = disks; flushing = false; lost = None })
+    × (view ≡ record { tags = view.tags; flush = disks; flushing = false; lost = None })
 
 -- the view after a completion, before anything is submitted
 abbrev pub after_done : View → Done → View
@@ -42,7 +42,7 @@ abbrev pub Follows : State → View → Turn → BatchStep → State → Type 0
 Follows old view Waits (Going next) new = (new ≡ old) × (view_of next ≡ view)
 Follows old view Flushes (Going next) new =
     SubmitsWorks old (map Flushing view.flush) (view_of next).tags new
-        × (view_of next ≡ record view { tags = (view_of next).tags; flushing = true })
+    × (view_of next ≡ record view { tags = (view_of next).tags; flushing = true })
 Follows old view IsWell Well new = new ≡ old
 Follows old view (IsLost pv) (Lost pv') new = (new ≡ old) × (pv' ≡ pv)
 Follows old view turn step new = ⊥

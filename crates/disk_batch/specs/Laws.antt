@@ -23,7 +23,7 @@ Is value v = v ≡ value
 abbrev pub StartsBringing : Type 0
 StartsBringing =
     (os : List Operation) (flush : List ℕ) (told : Record) (pv sector : ℕ) (value : List ℕ) → IsTrue (writes_at (works_of os) pv sector)
-        → BringAt (works_of os) pv sector (Is value) → IsStill told pv sector
+    → BringAt (works_of os) pv sector (Is value) → IsStill told pv sector
     → Brings (record { tags = tags_of os; flush = flush; flushing = false; lost = None }) (submitted_on os told) pv sector (Is value)
 
 -- a step of somebody else that brings nothing to the sector leaves it so
@@ -36,7 +36,7 @@ StaysElsewhere =
 abbrev pub GoesOn : Type 0
 GoesOn =
     (view : View) (told : Record) (pv sector : ℕ) (value : List ℕ) (tag disk : ℕ) (work : Work) (well : Bool) (fresh : List Bool)
-        → IsRecord (step_on (Completed tag work well fresh) told).steps
+    → IsRecord (step_on (Completed tag work well fresh) told).steps
     → Brings view told pv sector (Is value) → Brings (done_on tag disk well view) (step_on (Completed tag work well fresh) told) pv sector
     (Is value)
 
@@ -44,7 +44,7 @@ GoesOn =
 abbrev pub BeginsFlushes : Type 0
 BeginsFlushes =
     (view : View) (os : List Operation) (told : Record) (pv sector : ℕ) (value : List ℕ) → view.tags ≡ [] → view.flushing ≡ false
-        → view.lost ≡ None → works_of os ≡ map Flushing view.flush → IsAmong view.flush pv
+    → view.lost ≡ None → works_of os ≡ map Flushing view.flush → IsAmong view.flush pv
     → Brings view told pv sector (Is value) → Brings (record view { tags = tags_of os; flushing = true }) (submitted_on os told) pv sector
     (Is value)
 
@@ -52,7 +52,7 @@ BeginsFlushes =
 abbrev pub EndsWell : Type 0
 EndsWell =
     (view : View) (told : Record) (pv sector : ℕ) (value : List ℕ) → view.tags ≡ [] → view.flushing ≡ true → view.lost ≡ None
-        → Brings view told pv sector (Is value) → OnlyLeaves told pv sector (Is value)
+    → Brings view told pv sector (Is value) → OnlyLeaves told pv sector (Is value)
 
 -- a completion that failed makes its disk the lost one, and one that went well changes nothing of that
 abbrev pub LosesOnFailure : Type 0
@@ -63,4 +63,4 @@ LosesOnFailure =
 abbrev pub LostHasRisen : Type 0
 LostHasRisen =
     (faults : ℕ → ℕ) (view : View) (old new : State) (done : Done) → Completes old done new → FaultsSince faults view.lost old
-        → FaultsSince faults (after_done view done).lost new
+    → FaultsSince faults (after_done view done).lost new

@@ -1,6 +1,6 @@
 -- The metadata areas: they begin on the disk, and are looked at one after another.
-use Rattle.std.proofs.Common.{◌≡◌, ◌<◌, ◌≤◌, ℕ, ◌+◌, ◌*◌, ◌/◌, ◌++◌, false, List, [], ◌∷◌, All, get_or, length, map, drop, take, sym, ap,
-    subst, ◌∙◌, arith, lit<, length-append}
+use Rattle.std.proofs.Common.{◌≡◌, ◌<◌, ◌≤◌, ℕ, ◌+◌, ◌*◌, ◌/◌, ◌++◌, false, List, [], ◌∷◌, All, get_or, length, map, drop, take, sym, ap}
+use Rattle.std.proofs.Common.{subst, ◌∙◌, arith, lit<, length-append}
 use Rattle.std.proofs.lemmas.Bool.Decides.{nat_tests}
 use Rattle.std.proofs.lemmas.List.{get_or-append-add, map-append, take-append-drop, take_more}
 use Rattle.std.proofs.lemmas.List.Elements.{All-push}
@@ -30,7 +30,7 @@ areas_within data_areas areas disk lie k d lt =
     let there : length data_areas + k < length (data_areas ++ areas) = omega (arith, length-append data_areas areas) in
     let inside = all (length data_areas + k) d there in
     begins_within disk (get_or areas k d) (ap (is_outside (disk * 512)) (sym (get_or-append-add data_areas areas k d)) ∙ inside)
-        (shaped k d lt)
+    (shaped k d lt)
 
 -- what stands in an area's header sector, by its contents
 pub area_found : (sector_at : ℕ → List ℕ) (found : AreaFound) (area : Extent) (sector : List ℕ) → found.area ≡ area
@@ -38,7 +38,7 @@ pub area_found : (sector_at : ℕ → List ℕ) (found : AreaFound) (area : Exte
     → sector ≡ sector_at (area.offset / 512) → IsAreaFound sector_at found
 area_found sector_at found area sector same header entry at =
     subst (λ (e : Extent). IsMdaFound (sector_at (e.offset / 512)) e found.header
-        × IsEntry (sector_at (e.offset / 512)) e.offset e.size found.entry) (sym same)
+    × IsEntry (sector_at (e.offset / 512)) e.offset e.size found.entry) (sym same)
     (subst (λ (s : List ℕ). IsMdaFound s area found.header × IsEntry s area.offset area.size found.entry) at (header, entry))
 
 abbrev area_of : AreaFound → Extent

@@ -24,7 +24,7 @@ one_area sector_at a b same is is' =
     let sector : List ℕ = sector_at (b.area.offset / 512) in
     let here : IsMdaFound sector b.area a.header × IsEntry sector b.area.offset b.area.size a.entry =
     subst (λ (e : Extent). IsMdaFound (sector_at (e.offset / 512)) e a.header
-        × IsEntry (sector_at (e.offset / 512)) e.offset e.size a.entry) same is
+    × IsEntry (sector_at (e.offset / 512)) e.offset e.size a.entry) same is
     in
     λ i. record {
       area = same i;
@@ -48,11 +48,11 @@ one_list sector_at [] (y ∷ ys) same is is' = absurd cc
 one_list sector_at (x ∷ xs) [] same is is' = absurd cc
 one_list sector_at (x ∷ xs) (y ∷ ys) same is is' =
     let head : x ≡ y =
-        one_area sector_at x y (same_head x.area y.area (areas_of xs) (areas_of ys) same) (All-head (IsAreaFound sector_at) x xs is)
-            (All-head (IsAreaFound sector_at) y ys is') in
+    one_area sector_at x y (same_head x.area y.area (areas_of xs) (areas_of ys) same) (All-head (IsAreaFound sector_at) x xs is)
+    (All-head (IsAreaFound sector_at) y ys is') in
     let tail : xs ≡ ys =
-        one_list sector_at xs ys (same_tail x.area y.area (areas_of xs) (areas_of ys) same) (All-tail (IsAreaFound sector_at) x xs is)
-            (All-tail (IsAreaFound sector_at) y ys is') in
+    one_list sector_at xs ys (same_tail x.area y.area (areas_of xs) (areas_of ys) same) (All-tail (IsAreaFound sector_at) x xs is)
+    (All-tail (IsAreaFound sector_at) y ys is') in
     λ i. head i ∷ tail i
 
 -- the areas of a disk are found in one way

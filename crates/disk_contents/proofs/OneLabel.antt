@@ -72,7 +72,7 @@ one_beginning sectors a b is is' =
 abbrev FirstRefuses : List (List ℕ) → LabelRefusal → Type 0
 FirstRefuses sectors refusal =
     (number : ℕ) × (number < 4) × BeginsLikeLabel (sector_at sectors number)
-        × ((k : ℕ) → k < number → ¬ BeginsLikeLabel (sector_at sectors k))
+    × ((k : ℕ) → k < number → ¬ BeginsLikeLabel (sector_at sectors k))
     × IsRefused (sector_at sectors number) number refusal
 
 first_refusals : (sectors : List (List ℕ)) (a b : LabelRefusal) → FirstRefuses sectors a → FirstRefuses sectors b → a ≡ b

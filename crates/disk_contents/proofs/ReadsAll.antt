@@ -20,7 +20,7 @@ reads_first pv disk old new all = record {
   areas = areas_found all.found;
   are =
       holds_weaker old.told pv (λ s. IsFound s disk all.found) (λ s. AreAreasOf s disk (areas_found all.found))
-          (λ s is. are_areas s disk all.found is) all.is;
+      (λ s is. are_areas s disk all.found is) all.is;
   read = label_span pv ∷ area_spans pv (areas_found all.found);
   rest = [];
   front = append-nil (label_span pv ∷ area_spans pv (areas_found all.found));

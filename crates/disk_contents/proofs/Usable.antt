@@ -1,6 +1,6 @@
 -- Where the metadata areas that were found lie, whatever stands in them.
-use Rattle.std.proofs.Common.{◌≡◌, ◌<◌, ◌≤◌, ℕ, ◌+◌, ◌*◌, ◌^◌, ◌++◌, false, List, All, get_or, length, map, sym, ap, subst, ◌∙◌, arith,
-    length-append}
+use Rattle.std.proofs.Common.{◌≡◌, ◌<◌, ◌≤◌, ℕ, ◌+◌, ◌*◌, ◌^◌, ◌++◌, false, List, All, get_or, length, map, sym, ap, subst, ◌∙◌, arith}
+use Rattle.std.proofs.Common.{length-append}
 use Rattle.std.proofs.lemmas.Bool.Decides.{nat_tests}
 use Rattle.std.proofs.lemmas.List.{get_or-append-add, get_or-map, length-map}
 use Rattle.mda_ring.specs.Areas.{IsArea}
@@ -54,4 +54,4 @@ all_usable pv disk data_areas areas all lie small order inside k d lt =
     sym (get_or-map (λ (found : AreaFound). found.area) all k d d.area lt) ∙ ap (λ (l : List Extent). get_or l k d.area) order
     in
     usable pv disk (get_or all k d) (get_or areas k d.area) small at
-        (can_hold data_areas areas disk lie k d.area (omega (arith, length-areas all areas order))) (inside k d lt)
+    (can_hold data_areas areas disk lie k d.area (omega (arith, length-areas all areas order))) (inside k d lt)

@@ -17,7 +17,7 @@ use Rattle.disk_contents.specs.declared.contents.PvFound.TheVariants.{NoLabel, N
 abbrev pub IsMdaFound : List ℕ → Extent → Result MdaHeader MdaRefusal → Type 0
 IsMdaFound sector area found =
     MatchResult found (λ header. IsHeader sector header × (header.start ≡ area.offset) × (header.size ≡ area.size))
-        (IsRefused sector area.offset area.size)
+    (IsRefused sector area.offset area.size)
 
 -- a metadata area, what stands in its first sector, and what that says of the committed text
 abbrev pub IsAreaFound : (ℕ → List ℕ) → AreaFound → Type 0

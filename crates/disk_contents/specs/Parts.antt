@@ -30,4 +30,4 @@ pub record ReadsUntil (pv : ℕ) (old : State) (spans : List Span) (new : State)
 abbrev pub ReadsAreasUntil : (pv disk : ℕ) → State → (List Extent → List Span) → State → ReadRefusal → Type 0
 ReadsAreasUntil pv disk old spans new refusal =
     (areas : List Extent) × HoldsOfDisk old.told pv (λ sector_at. AreAreasOf sector_at disk areas)
-        × ReadsUntil pv old (spans areas) new refusal
+    × ReadsUntil pv old (spans areas) new refusal

@@ -28,7 +28,7 @@ areas_found (Whole label header areas) = header.areas
 abbrev pub AreAreasOf : (ℕ → List ℕ) → ℕ → List Extent → Type 0
 AreAreasOf sector_at disk areas =
     (areas ≡ []) ⊎ ((label : ℕ) × (header : PvHeader) × IsFirstLabel (first_four sector_at) label
-        × Reads (sector_at label) (disk * 512) header × (areas ≡ header.areas))
+    × Reads (sector_at label) (disk * 512) header × (areas ≡ header.areas))
 
 -- all sectors were read that a report on this disk reads
 pub record ReadsAllOf (pv disk : ℕ) (old new : State) : Type 0 where

@@ -45,4 +45,4 @@ CanStand pv disk (NoLabel refusal) = Unit {0}
 CanStand pv disk (NoHeader label refusal) = label < 4
 CanStand pv disk (Whole label header areas) =
     (label < 4) × ((sector : List ℕ) × Reads sector (disk * 512) header) × (map (λ (found : AreaFound). found.area) areas ≡ header.areas)
-        × All (IsUsable pv disk) areas
+    × All (IsUsable pv disk) areas

@@ -22,7 +22,7 @@ module _ (Q : ℕ → ℕ → List ℕ → Type 0) (opened : Image) (older : Lis
   only_leaves (Completed tag work well fresh ∷ newer) b = λ pv sector. record {
     each = λ write value may.
         (only_leaves newer b pv sector).each write value
-            (quiet opened (Completed tag work well fresh) (newer ++ older) pv sector write value tt may);
+        (quiet opened (Completed tag work well fresh) (newer ++ older) pv sector write value tt may);
   }
 
   -- what all but the newest step bring
@@ -45,4 +45,4 @@ module _ (Q : ℕ → ℕ → List ℕ → Type 0) (opened : Image) (older : Lis
       (λ image. (pv sector : ℕ) → Q pv sector (image pv sector))
   every_moment newer b moment from upto image is pv sector =
       (at_drop newer b (length (newer ++ older) - moment) (omega (arith, length-append newer older)) pv sector).each (is pv sector).0
-          (image pv sector) (is pv sector).1
+      (image pv sector) (is pv sector).1

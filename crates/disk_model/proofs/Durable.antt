@@ -14,18 +14,24 @@ module _ (told : Record) (pv sector : ℕ) (Q : List ℕ → Type 0) (step : Ste
 
   pub or_completed_on : OnlyLeavesOrCompleted told pv sector Q → OnlyLeavesOrCompleted (step_on step told) pv sector Q
   or_completed_on h =
-      record { each = λ write value may. ⊎_elim (λ a. inl a) (λ b. inr (completed_on step told.steps write b))
-          (h.each write value (still told.opened step told.steps pv sector write value q may)) }
+      record {
+        each = λ write value may. ⊎_elim (λ a. inl a) (λ b. inr (completed_on step told.steps write b))
+            (h.each write value (still told.opened step told.steps pv sector write value q may));
+      }
 
   pub or_overtaken_on : OnlyLeavesOrOvertaken told pv sector Q → OnlyLeavesOrOvertaken (step_on step told) pv sector Q
   or_overtaken_on h =
-      record { each = λ write value may. ⊎_elim (λ a. inl a) (λ b. inr (overtaken_on step told.steps pv sector write b))
-          (h.each write value (still told.opened step told.steps pv sector write value q may)) }
+      record {
+        each = λ write value may. ⊎_elim (λ a. inl a) (λ b. inr (overtaken_on step told.steps pv sector write b))
+            (h.each write value (still told.opened step told.steps pv sector write value q may));
+      }
 
   pub or_dropped_on : (flush : ℕ) → OnlyLeavesOrDropped told flush pv sector Q → OnlyLeavesOrDropped (step_on step told) flush pv sector Q
   or_dropped_on flush h =
-      record { each = λ write value may. ⊎_elim (λ a. inl a) (λ b. inr (dropped_on step told.steps flush pv sector write b))
-          (h.each write value (still told.opened step told.steps pv sector write value q may)) }
+      record {
+        each = λ write value may. ⊎_elim (λ a. inl a) (λ b. inr (dropped_on step told.steps flush pv sector write b))
+            (h.each write value (still told.opened step told.steps pv sector write value q may));
+      }
 
 -- the submission of a write adds its values
 pub write_submitted : (told : Record) (pv sector tag : ℕ) (work : Work) (P Q : List ℕ → Type 0) → OnlyLeaves told pv sector P
@@ -33,8 +39,10 @@ pub write_submitted : (told : Record) (pv sector tag : ℕ) (work : Work) (P Q :
     → ((span : _) (sectors : _) → work ≡ Writing span sectors → IsTrue (covers span pv sector) → Q (value_at span sectors sector))
     → OnlyLeaves (step_on (Submitted tag work) told) pv sector Q
 write_submitted told pv sector tag (Writing span sectors) P Q h up new =
-    record { each = λ write value may. ⊎_elim (λ a. up value (h.each write value a)) (λ b. subst Q (sym b.2) (new span sectors refl b.0))
-        may }
+    record {
+      each = λ write value may. ⊎_elim (λ a. up value (h.each write value a)) (λ b. subst Q (sym b.2) (new span sectors refl b.0))
+          may;
+    }
 write_submitted told pv sector tag (Reading span) P Q h up new = record { each = λ write value may. up value (h.each write value may) }
 write_submitted told pv sector tag (Flushing disk) P Q h up new = record { each = λ write value may. up value (h.each write value may) }
 
@@ -45,7 +53,7 @@ pub new_write : (told : Record) (pv sector tag : ℕ) (span : Span) (sectors : L
 new_write told pv sector tag span sectors Q h new = record {
   each = λ write value may.
       ⊎_elim (λ old. ⊎_elim (λ a. inl a) (λ b. inr (completed_on (Submitted tag (Writing span sectors)) told.steps write b))
-          (h.each write value old)) (λ b. inl (subst Q (sym b.2) new)) may;
+      (h.each write value old)) (λ b. inl (subst Q (sym b.2) new)) may;
 }
 
 -- a write that completes well overtakes all that have completed

@@ -12,7 +12,7 @@ use Rattle.disk_model.proofs.Submissions.{submitted_leaves}
 pub moment_now : (told : Record) → at_moment (length told.steps) told ≡ told
 moment_now told =
     let e : length told.steps - length told.steps
-        ≡ 0 = omega arith in ap (λ (k : ℕ). record { opened = told.opened; steps = drop k told.steps }) e
+    ≡ 0 = omega arith in ap (λ (k : ℕ). record { opened = told.opened; steps = drop k told.steps }) e
 
 -- an earlier moment stays what it was
 pub moment_past : (step : Step) (told : Record) (moment : ℕ) → moment ≤ length told.steps
@@ -25,7 +25,7 @@ moment_past step told moment le =
 pub throughout_now : (told : Record) (P : Record → Type 0) → P told → Throughout (length told.steps) (length told.steps) told P
 throughout_now told P now moment from until =
     let e : moment ≡ length told.steps = omega arith in subst (λ (m : ℕ). P (at_moment m told)) (sym e)
-        (subst P (sym (moment_now told)) now)
+    (subst P (sym (moment_now told)) now)
 
 -- what held throughout a part of the record did so still
 pub throughout_past : (step : Step) (told : Record) (from until : ℕ) (P : Record → Type 0) → until ≤ length told.steps
@@ -57,6 +57,6 @@ leaves_throughout mine Now [] told from b now so_far = so_far
 leaves_throughout mine Now (o ∷ os) told from b now so_far =
     let step : Step = Submitted o.tag o.work in
     let next : AllLeave mine Now (step_on step told) =
-        λ pv sector own. submitted_leaves o told pv sector (Now pv sector) (b pv sector own).0 (now pv sector own) in
+    λ pv sector own. submitted_leaves o told pv sector (Now pv sector) (b pv sector own).0 (now pv sector own) in
     leaves_throughout mine Now os (step_on step told) from (λ pv sector own. (b pv sector own).1) next
-        (throughout_step step told from (AllLeave mine Now) next so_far)
+    (throughout_step step told from (AllLeave mine Now) next so_far)

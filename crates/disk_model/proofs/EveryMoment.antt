@@ -1,6 +1,6 @@
 -- What every image has at every moment.
-use Rattle.std.proofs.Common.{◌≡◌, ◌≤◌, ◌<◌, ℕ, suc, ◌+◌, ◌-◌, List, [], ◌∷◌, ◌++◌, length, drop, ⊎_elim, sym, ap, subst, ◌∙◌, arith,
-    length-append}
+use Rattle.std.proofs.Common.{◌≡◌, ◌≤◌, ◌<◌, ℕ, suc, ◌+◌, ◌-◌, List, [], ◌∷◌, ◌++◌, length, drop, ⊎_elim, sym, ap, subst, ◌∙◌, arith}
+use Rattle.std.proofs.Common.{length-append}
 use Rattle.std.proofs.lemmas.Bool.{cases_lt}
 use Rattle.disk_model.specs.Steps.{Image, Step, Record, step_on}
 use Rattle.disk_model.specs.CrashValues.{IsImage}
@@ -25,7 +25,7 @@ since_step step told from P le so_far here moment ge upto image is =
     (λ (old : moment ≤ length told.steps).
     let e : suc (length told.steps) - moment ≡ suc (length told.steps - moment) = omega arith in
     so_far moment ge old image (subst (λ (k : ℕ). IsImage (record { opened = told.opened; steps = drop k (step ∷ told.steps) }) image) e
-        is))
+    is))
     (cases_lt (length told.steps) moment)
 
 -- a step that submits no write brings no image
@@ -41,7 +41,7 @@ since_quiet step told from P q le so_far =
     (λ image is. so_far (length told.steps) le (omega arith) image
     (let e : length told.steps - length told.steps ≡ 0 = omega arith in
     subst (λ (k : ℕ). IsImage (record { opened = told.opened; steps = drop k told.steps }) image) (sym e)
-        (quiet_image step told q image is)))
+    (quiet_image step told q image is)))
 
 -- what came before the newer steps
 pub drop_newer : (newer older : List Step) (k : ℕ) → drop (length newer + k) (newer ++ older) ≡ drop k older
@@ -61,7 +61,7 @@ since_join opened older newer from P le first second moment ge upto image is =
     (λ (early : moment < length older).
     let e : length (newer ++ older) - moment ≡ length newer + (length older - moment) = omega arith in
     let s : drop (length (newer ++ older) - moment) (newer ++ older) ≡ drop (length older - moment) older =
-        ap (λ (n : ℕ). drop n (newer ++ older)) e ∙ drop_newer newer older (length older - moment) in
+    ap (λ (n : ℕ). drop n (newer ++ older)) e ∙ drop_newer newer older (length older - moment) in
     first moment ge (omega arith) image (subst (λ (l : List Step). IsImage (record { opened = opened; steps = l }) image) s is))
     (λ (late : length older ≤ moment). second moment late upto image is)
     (cases_lt moment (length older))
@@ -77,4 +77,4 @@ pub at_last : (told : Record) (from : ℕ) (P : Image → Type 0) → from ≤ l
 at_last told from P le so_far image is =
     let e : length told.steps - length told.steps ≡ 0 = omega arith in
     so_far (length told.steps) le (omega arith) image
-        (subst (λ (k : ℕ). IsImage (record { opened = told.opened; steps = drop k told.steps }) image) (sym e) is)
+    (subst (λ (k : ℕ). IsImage (record { opened = told.opened; steps = drop k told.steps }) image) (sym e) is)

@@ -1,6 +1,6 @@
 -- Operations in flight, and lists of tags.
-use Rattle.std.proofs.Common.{◌≡◌, ◌≢◌, ◌<◌, ◌⊎◌, ℕ, Bool, true, false, not, ◌==◌, List, [], ◌∷◌, ◌++◌, filter, Some, inl, inr, ⊎_elim,
-    refl, sym, ap, subst, ◌∙◌, arith, append_assoc, ◌≤◌, All, Contains, zero, suc}
+use Rattle.std.proofs.Common.{◌≡◌, ◌≢◌, ◌<◌, ◌⊎◌, ℕ, Bool, true, false, not, ◌==◌, List, [], ◌∷◌, ◌++◌, filter, Some, inl, inr, ⊎_elim}
+use Rattle.std.proofs.Common.{refl, sym, ap, subst, ◌∙◌, arith, append_assoc, ◌≤◌, All, Contains, zero, suc}
 use Rattle.std.proofs.lemmas.Bool.Decides.{eqb_tells}
 use Rattle.std.proofs.lemmas.List.Elements.{All-head, All-tail}
 use Rattle.disk_model.specs.Steps.{Work, Step, Submitted, Completed, Record, step_on}
@@ -60,10 +60,10 @@ in_filter [] tag f h = absurd h
 in_filter (g ∷ gs) tag f h =
     ⊎_elim
     (λ same. let h' : IsIn (filter (λ (x : Operation). not (x.tag == tag)) gs) f = rw same.0 at h in let r = in_filter gs tag f
-        h' in (inr r.0, r.1))
+    h' in (inr r.0, r.1))
     (λ other. let h' : IsIn (g ∷ filter (λ (x : Operation). not (x.tag == tag)) gs) f = rw other.0 at h in
     ⊎_elim (λ (e : g ≡ f). (inl e, λ (t : f.tag ≡ tag). other.1 (ap (λ (x : Operation). x.tag) e ∙ t)))
-        (λ later. let r = in_filter gs tag f later in (inr r.0, r.1)) h')
+    (λ later. let r = in_filter gs tag f later in (inr r.0, r.1)) h')
     (eqb_tells g.tag tag)
 
 -- what has another tag is left
@@ -73,7 +73,7 @@ in_left [] tag f h other = absurd h
 in_left (g ∷ gs) tag f h other =
     ⊎_elim
     (λ same. rw same.0 (⊎_elim (λ (e : g ≡ f). absurd (other (sym (ap (λ (x : Operation). x.tag) e) ∙ same.1)))
-        (λ later. in_left gs tag f later other) h))
+    (λ later. in_left gs tag f later other) h))
     (λ no. rw no.0 (⊎_elim (λ (e : g ≡ f). inl e) (λ later. inr (in_left gs tag f later other)) h))
     (eqb_tells g.tag tag)
 
@@ -82,8 +82,8 @@ pub in_flight_older : (tag : ℕ) (steps : List Step) (f : Operation) → IsNewT
 in_flight_older tag [] f new h = absurd h
 in_flight_older tag (Submitted t work ∷ steps) f new h =
     ⊎_elim (λ a. in_flight_older tag steps f new.1 a)
-        (λ (e : record { tag = t; work = work } ≡ f). let e' : t ≡ f.tag = ap (λ (x : Operation). x.tag) e in omega (arith, new.0))
-        (in_append (in_flight_after steps) _ f h)
+    (λ (e : record { tag = t; work = work } ≡ f). let e' : t ≡ f.tag = ap (λ (x : Operation). x.tag) e in omega (arith, new.0))
+    (in_append (in_flight_after steps) _ f h)
 in_flight_older tag (Completed t work well fresh ∷ steps) f new h =
     in_flight_older tag steps f new (in_filter (in_flight_after steps) t f h).0
 
@@ -95,11 +95,11 @@ unique_in_flight (Submitted t work ∷ steps) f g is a b e =
     let new : Operation = record { tag = t; work = work } in
     ⊎_elim
     (λ fa. ⊎_elim (λ ga. unique_in_flight steps f g is.1 fa ga e)
-        (λ (gn : new ≡ g). absurd (let lt = in_flight_older t steps f is.0 fa in let x : t
-        ≡ g.tag = ap (λ (o : Operation). o.tag) gn in omega arith)) (in_append (in_flight_after steps) new g b))
+    (λ (gn : new ≡ g). absurd (let lt = in_flight_older t steps f is.0 fa in let x : t
+    ≡ g.tag = ap (λ (o : Operation). o.tag) gn in omega arith)) (in_append (in_flight_after steps) new g b))
     (λ (fn : new ≡ f). ⊎_elim (λ ga. absurd (let lt = in_flight_older t steps g is.0 ga in let x : t
-        ≡ f.tag = ap (λ (o : Operation). o.tag) fn in omega arith)) (λ (gn : new ≡ g). sym fn ∙ gn)
-        (in_append (in_flight_after steps) new g b))
+    ≡ f.tag = ap (λ (o : Operation). o.tag) fn in omega arith)) (λ (gn : new ≡ g). sym fn ∙ gn)
+    (in_append (in_flight_after steps) new g b))
     (in_append (in_flight_after steps) new f a)
 unique_in_flight (Completed t work well fresh ∷ steps) f g is a b e =
     unique_in_flight steps f g is.1 (in_filter (in_flight_after steps) t f a).0 (in_filter (in_flight_after steps) t g b).0 e
@@ -109,7 +109,7 @@ pub completes_its_own : (steps : List Step) (tag : ℕ) (work : Work) (f : Opera
     → work_of_tag (in_flight_after steps) tag ≡ Some work → IsIn (in_flight_after steps) f → f.tag ≡ tag → f.work ≡ work
 completes_its_own steps tag work f is found a e =
     ap (λ (o : Operation). o.work) (unique_in_flight steps f (record { tag = tag; work = work }) is a
-        (found_in (in_flight_after steps) tag work found) e)
+    (found_in (in_flight_after steps) tag work found) e)
 
 -- it is in flight after a step that doesn't complete it
 pub in_flight_on : (tags : List ℕ) (step : Step) (told : Record) (f : Operation) → IsForeign tags step → IsAmong tags f.tag
@@ -140,7 +140,7 @@ pub theirs_on : (tags : List ℕ) (told : Record) (pv sector : ℕ) (step : Step
     → OnlyTheirs tags told pv sector → OnlyTheirs tags (step_on step told) pv sector
 theirs_on tags told pv sector (Submitted tag work) q h o a w =
     ⊎_elim (λ was. h o was w) (λ (e : record { tag = tag; work = work } ≡ o). absurd
-        (let v : work ≡ o.work = ap (λ (x : Operation). x.work) e in
+    (let v : work ≡ o.work = ap (λ (x : Operation). x.work) e in
     let c : true ≡ false = sym w ∙ sym (ap (λ (x : Work). writes x pv sector) v) ∙ q in cc)) (in_append (in_flight_after told.steps) _ o a)
 theirs_on tags told pv sector (Completed tag work well fresh) q h o a w = h o (in_filter (in_flight_after told.steps) tag o a).0 w
 
@@ -150,7 +150,7 @@ pub theirs_done : (tags : List ℕ) (told : Record) (pv sector tag : ℕ) (work 
     → OnlyTheirs (filter (λ (t : ℕ). not (t == tag)) tags) (step_on (Completed tag work well fresh) told) pv sector
 theirs_done tags told pv sector tag work well fresh h o a w =
     is_among-filter tags tag o.tag (h o (in_filter (in_flight_after told.steps) tag o a).0 w)
-        ((in_filter (in_flight_after told.steps) tag o a).1)
+    ((in_filter (in_flight_after told.steps) tag o a).1)
 
 -- after submissions of their own
 pub theirs_submitted : (os : List Operation) (tags : List ℕ) (told : Record) (pv sector : ℕ) → OnlyTheirs tags told pv sector
@@ -159,8 +159,8 @@ theirs_submitted [] tags told pv sector h = λ o a w. is_among-left tags [] o.ta
 theirs_submitted (o ∷ os) tags told pv sector h =
     let step : OnlyTheirs (tags ++ o.tag ∷ []) (step_on (Submitted o.tag o.work) told) pv sector =
     λ p a w. ⊎_elim (λ was. is_among-left tags (o.tag ∷ []) p.tag (h p was w))
-        (λ (e : record { tag = o.tag; work = o.work } ≡ p). is_among-right tags (o.tag ∷ []) p.tag (inl (ap (λ (x : Operation). x.tag) e)))
-        (in_append (in_flight_after told.steps) _ p a) in
+    (λ (e : record { tag = o.tag; work = o.work } ≡ p). is_among-right tags (o.tag ∷ []) p.tag (inl (ap (λ (x : Operation). x.tag) e)))
+    (in_append (in_flight_after told.steps) _ p a) in
     subst (λ (l : List ℕ). OnlyTheirs l (submitted_on (o ∷ os) told) pv sector) (append_assoc tags (o.tag ∷ []) (tags_of os))
     (theirs_submitted os (tags ++ o.tag ∷ []) (step_on (Submitted o.tag o.work) told) pv sector step)
 
@@ -170,14 +170,14 @@ among_below n [] t below a = absurd a
 among_below n (o ∷ os) t below a =
     let P : Operation → Type 0 = λ p. p.tag < n in
     ⊎_elim (λ (e : o.tag ≡ t). subst (λ (k : ℕ). k < n) e (All-head P o os below))
-        (λ later. among_below n os t (All-tail P o os below) later) a
+    (λ later. among_below n os t (All-tail P o os below) later) a
 
 among_fresh : (n : ℕ) (os : List Operation) (t : ℕ) → All (λ (o : Operation). n ≤ o.tag) os → IsAmong (tags_of os) t → n ≤ t
 among_fresh n [] t fresh a = absurd a
 among_fresh n (o ∷ os) t fresh a =
     let P : Operation → Type 0 = λ p. n ≤ p.tag in
     ⊎_elim (λ (e : o.tag ≡ t). subst (λ (k : ℕ). n ≤ k) e (All-head P o os fresh))
-        (λ later. among_fresh n os t (All-tail P o os fresh) later) a
+    (λ later. among_fresh n os t (All-tail P o os fresh) later) a
 
 pub tags_below : (old new : State) (os : List Operation) → SubmitsAll old os new → (t : ℕ) → IsAmong (tags_of os) t → t < new.next_tag
 tags_below old new os s t a = among_below new.next_tag os t s.below a
@@ -194,7 +194,7 @@ pub tags_left : (fs : List Operation) (tag : ℕ)
 tags_left [] tag = refl
 tags_left (f ∷ fs) tag =
     ⊎_elim (λ same. rw same.0 (tags_left fs tag)) (λ other. rw other.0 (ap (λ (l : List ℕ). f.tag ∷ l) (tags_left fs tag)))
-        (eqb_tells f.tag tag)
+    (eqb_tells f.tag tag)
 
 -- what these contain has one of their tags
 pub contains_among : (fs : List Operation) (f : Operation) → IsIn fs f → IsAmong (tags_of fs) f.tag

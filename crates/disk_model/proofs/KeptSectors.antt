@@ -22,7 +22,7 @@ all_weaker P Q pvs up all = λ i d lt. up _ (all i d lt)
 pub keeps_told_nothing : (s0 s1 : Option Record) → s1 ≡ s0 → KeepsSectorsTold s0 [] s1
 keeps_told_nothing s0 s1 same =
     between_same (λ old new. KeepsSectors old [] new) s0 s1 same
-        (λ old. record { since = []; steps = refl; nothing = tt; same = λ pv s. refl; flushes = All-nil (λ pv. HasFlushed pv []) })
+    (λ old. record { since = []; steps = refl; nothing = tt; same = λ pv s. refl; flushes = All-nil (λ pv. HasFlushed pv []) })
 
 keeps_both : (first more : List ℕ) (old mid new : Record) → KeepsSectors old first mid → KeepsSectors mid more new
     → KeepsSectors old (first ++ more) new
@@ -34,9 +34,9 @@ keeps_both first more old mid new a b = record {
   flushes =
       All-append (λ pv. HasFlushed pv (b.since ++ a.since)) first more
       (all_weaker (λ pv. HasFlushed pv a.since) (λ pv. HasFlushed pv (b.since ++ a.since)) first
-          (λ pv h. flushed_later pv b.since a.since h) a.flushes)
+      (λ pv h. flushed_later pv b.since a.since h) a.flushes)
       (all_weaker (λ pv. HasFlushed pv b.since) (λ pv. HasFlushed pv (b.since ++ a.since)) more (λ pv h. flushed_newer pv b.since a.since h)
-          b.flushes);
+      b.flushes);
 }
 
 -- a call that keeps the sectors, and then another
@@ -44,7 +44,7 @@ pub keeps_told_both : (first more : List ℕ) (s0 s1 s2 : Option Record) → Kee
     → KeepsSectorsTold s0 (first ++ more) s2
 keeps_told_both first more s0 s1 s2 a b =
     between_both (λ old new. KeepsSectors old first new) (λ old new. KeepsSectors old more new)
-        (λ old new. KeepsSectors old (first ++ more) new) s0 s1 s2 (keeps_both first more) a b
+    (λ old new. KeepsSectors old (first ++ more) new) s0 s1 s2 (keeps_both first more) a b
 
 abbrev flush_steps : ℕ → ℕ → Bool → List Bool → List Step
 flush_steps tag pv well fresh = Completed tag (Flushing pv) well fresh ∷ Submitted tag (Flushing pv) ∷ []
@@ -58,7 +58,7 @@ keeps_flush t tag pv true fresh = record {
   same = λ p s. refl;
   flushes =
       All-cons (λ p. HasFlushed p (flush_steps tag pv true fresh)) pv [] (inl refl)
-          (All-nil (λ p. HasFlushed p (flush_steps tag pv true fresh)));
+      (All-nil (λ p. HasFlushed p (flush_steps tag pv true fresh)));
 }
 keeps_flush t tag pv false fresh = record {
   since = flush_steps tag pv false fresh;
@@ -74,7 +74,7 @@ pub keeps_told_flush : (s0 s1 : State) (pv : ℕ) (done : Done) (well : Bool) �
 keeps_told_flush s0 s1 pv done well c is =
     told_by_operation s0 (Flush pv) done s1 (λ old new. KeepsSectors old (cond well (pv ∷ []) []) new) c
     (λ t fresh. subst (λ (b : Bool). KeepsSectors t (cond b (pv ∷ []) []) (with_operation done.tag (Flushing pv) done.well fresh t)) is
-        (keeps_flush t done.tag pv done.well fresh))
+    (keeps_flush t done.tag pv done.well fresh))
 
 module _ (old new : Record) (flushed : List ℕ) (k : KeepsSectors old flushed new) (base : Image) (is : IsBase old base) where
   abbrev Stays : ℕ → ℕ → List ℕ → Type 0
@@ -90,7 +90,7 @@ module _ (old new : Record) (flushed : List ℕ) (k : KeepsSectors old flushed n
   pub kept_base : IsBase new base
   kept_base =
       subst (λ (t : Record). IsBase t base) (sym k.steps)
-          (only_leaves Stays old.opened old.steps is k.since (writes_nothing_brings Stays k.since k.nothing))
+      (only_leaves Stays old.opened old.steps is k.since (writes_nothing_brings Stays k.since k.nothing))
 
 keeps_unflushed : (flushed : List ℕ) (old new : Record) → KeepsSectors old flushed new → KeepsSectors old [] new
 keeps_unflushed flushed old new k =

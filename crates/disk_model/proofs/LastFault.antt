@@ -1,6 +1,6 @@
 -- The faults of an operation that was carried out alone.
-use Rattle.std.proofs.Common.{◌≡◌, ◌≢◌, ℕ, ◌+◌, ◌==◌, ◌&&◌, Bool, true, false, not, cond, Option, Some, None, IfSome, option_map, refl, sym,
-    ap, subst, ◌∙◌, arith}
+use Rattle.std.proofs.Common.{◌≡◌, ◌≢◌, ℕ, ◌+◌, ◌==◌, ◌&&◌, Bool, true, false, not, cond, Option, Some, None, IfSome, option_map, refl, sym}
+use Rattle.std.proofs.Common.{ap, subst, ◌∙◌, arith}
 use Rattle.std.proofs.lemmas.Bool.Decides.{nat_tests}
 use Rattle.disk_model.specs.declared.ops.Op.{Op}
 use Rattle.disk_model.specs.declared.ops.Done.{Done}
@@ -29,7 +29,7 @@ module _ (old new : State) (op : Op) (done : Done) (c : CarriesOut old op done n
   ends_in_fault failed =
       let Failed : Option Record → Type 0 = λ o. IfSome o (λ t. EndsInFault (work_of op) t.steps) in
       (elim old.told as (λ (o : Option Record). new.told ≡ option_map (with_operation done.tag (work_of op) done.well c.told.0) o
-          → Failed new.told) [
+      → Failed new.told) [
         | None ↦ λ e. subst Failed (sym e) tt
         | Some t ↦ λ e.
             let here : EndsInFault (work_of op) (with_operation done.tag (work_of op) done.well c.told.0 t).steps =
@@ -43,10 +43,10 @@ module _ (old new : State) (op : Op) (done : Done) (c : CarriesOut old op done n
     disk = refl;
     one =
         faults false failed (disk_of op) ∙ ap (λ (b : Bool). cond b (old.faults (disk_of op) + 1) (old.faults (disk_of op)))
-            (eqb_same (disk_of op));
+        (eqb_same (disk_of op));
     others =
         λ other apart. faults false failed other
-            ∙ ap (λ (b : Bool). cond b (old.faults other + 1) (old.faults other)) (eqb_differs (disk_of op) other apart);
+        ∙ ap (λ (b : Bool). cond b (old.faults other + 1) (old.faults other)) (eqb_differs (disk_of op) other apart);
     last = ends_in_fault failed;
   }
 

@@ -1,6 +1,6 @@
 -- What a read gives is a value that a crash may leave, so there is always an image.
-use Rattle.std.proofs.Common.{◌≡◌, ◌<◌, ℕ, ◌-◌, Bool, true, false, not, ◌&&◌, ◌||◌, cond, slice_index_or, IsTrue, List, [], ◌∷◌, Option,
-    Some, None, inl, inr, ⊎_elim, refl, sym, ap, subst, ◌∙◌, arith}
+use Rattle.std.proofs.Common.{◌≡◌, ◌<◌, ℕ, ◌-◌, Bool, true, false, not, ◌&&◌, ◌||◌, cond, slice_index_or, IsTrue, List, [], ◌∷◌, Option}
+use Rattle.std.proofs.Common.{Some, None, inl, inr, ⊎_elim, refl, sym, ap, subst, ◌∙◌, arith}
 use Rattle.sector_base.specs.declared.spans.Span.{Span}
 use Rattle.sector_base.specs.Spans.{covers}
 use Rattle.disk_model.specs.Steps.{Image, Work, Reading, Writing, Flushing, Step, Submitted, Completed, Record, value_at, now_after}
@@ -17,7 +17,7 @@ completed_old tag [] write is new h = absurd h
 completed_old tag (Submitted t work ∷ steps) write is new h = completed_old tag steps write is.1 new.1 h
 completed_old tag (Completed t work well fresh ∷ steps) write is new h =
     ⊎_elim (λ (e : t ≡ write). let lt : t < tag = in_flight_older tag steps (record { tag = t; work = work }) new
-        (found_in (in_flight_after steps) t work is.0) in omega arith)
+    (found_in (in_flight_after steps) t work is.0) in omega arith)
     (λ b. completed_old tag steps write is.1 new b) h
 
 -- what is in flight hasn't completed
@@ -27,7 +27,7 @@ not_completed [] f is h c = h
 not_completed (Submitted tag work ∷ steps) f is h c =
     ⊎_elim (λ a. not_completed steps f is.1 a c)
     (λ (e : record { tag = tag; work = work } ≡ f). let e' : tag ≡ f.tag = ap (λ (x : Operation). x.tag) e in let lt : f.tag
-        < tag = completed_old tag steps f.tag is.1 is.0 c in absurd (omega arith)) (in_append (in_flight_after steps) _ f h)
+    < tag = completed_old tag steps f.tag is.1 is.0 c in absurd (omega arith)) (in_append (in_flight_after steps) _ f h)
 not_completed (Completed tag work well fresh ∷ steps) f is h c =
     let r = in_filter (in_flight_after steps) tag f h in
     ⊎_elim (λ (e : tag ≡ f.tag). r.1 (sym e)) (λ b. not_completed steps f is.1 r.0 b) c
@@ -45,7 +45,7 @@ overtaken_completed (Completed tag (Writing span sectors) false fresh ∷ steps)
     completed_on (Completed tag (Writing span sectors) false fresh) steps write (overtaken_completed steps pv sector write h)
 overtaken_completed (Completed tag (Writing span sectors) true fresh ∷ steps) pv sector write h =
     completed_on (Completed tag (Writing span sectors) true fresh) steps write
-        (⊎_elim (λ a. overtaken_completed steps pv sector write a) (λ b. b.1) h)
+    (⊎_elim (λ a. overtaken_completed steps pv sector write a) (λ b. b.1) h)
 
 -- what a flush will drop has been overtaken
 pub dropped_overtaken : (steps : List Step) (flush pv sector : ℕ) (write : Option ℕ) → IsDropped steps flush pv sector write
@@ -98,18 +98,18 @@ in_flight_may opened (Submitted t (Writing span' sectors') ∷ steps) tag span s
     (in_append (in_flight_after steps) _ _ h)
 in_flight_may opened (Submitted t (Reading span') ∷ steps) tag span sectors pv sector is inside h =
     ⊎_elim (λ a. in_flight_may opened steps tag span sectors pv sector is.1 inside a)
-        (λ (e : record { tag = t; work = Reading span' } ≡ record { tag = tag; work = Writing span sectors }). absurd
-        (let w : Reading span' ≡ Writing span sectors = ap (λ (x : Operation). x.work) e in cc)) (in_append (in_flight_after steps) _ _ h)
+    (λ (e : record { tag = t; work = Reading span' } ≡ record { tag = tag; work = Writing span sectors }). absurd
+    (let w : Reading span' ≡ Writing span sectors = ap (λ (x : Operation). x.work) e in cc)) (in_append (in_flight_after steps) _ _ h)
 in_flight_may opened (Submitted t (Flushing disk) ∷ steps) tag span sectors pv sector is inside h =
     ⊎_elim (λ a. in_flight_may opened steps tag span sectors pv sector is.1 inside a)
-        (λ (e : record { tag = t; work = Flushing disk } ≡ record { tag = tag; work = Writing span sectors }). absurd
-        (let w : Flushing disk ≡ Writing span sectors = ap (λ (x : Operation). x.work) e in cc)) (in_append (in_flight_after steps) _ _ h)
+    (λ (e : record { tag = t; work = Flushing disk } ≡ record { tag = tag; work = Writing span sectors }). absurd
+    (let w : Flushing disk ≡ Writing span sectors = ap (λ (x : Operation). x.work) e in cc)) (in_append (in_flight_after steps) _ _ h)
 in_flight_may opened (Completed t work well fresh ∷ steps) tag span sectors pv sector is inside h =
     let r = in_filter (in_flight_after steps) t _ h in
     may_stay opened steps t work well fresh pv sector (Some tag) (value_at span sectors sector)
-        (in_flight_may opened steps tag span sectors pv sector is.1 inside r.0)
+    (in_flight_may opened steps tag span sectors pv sector is.1 inside r.0)
     (λ over. not_completed steps (record { tag = tag; work = Writing span sectors }) is.1 r.0
-        (overtaken_completed steps pv sector (Some tag) over))
+    (overtaken_completed steps pv sector (Some tag) over))
 
 -- a value with a write that has completed and isn't overtaken
 pub record Stands (opened : Image) (steps : List Step) (pv sector : ℕ) (value : List ℕ) : Type 0 where
@@ -155,7 +155,7 @@ left_stands : (opened : Image) (tag : ℕ) (span : Span) (sectors : List (List �
     → Stands opened (Completed tag (Writing span sectors) well fresh ∷ steps) pv sector value
 left_stands opened tag span sectors true fresh steps pv sector value h not =
     stands_on opened tag (Writing span sectors) true fresh steps pv sector value h
-        (λ write over. ⊎_elim (λ a. a) (λ b. absurd (not b.0 refl)) over)
+    (λ write over. ⊎_elim (λ a. a) (λ b. absurd (not b.0 refl)) over)
 left_stands opened tag span sectors false fresh steps pv sector value h not =
     stands_on opened tag (Writing span sectors) false fresh steps pv sector value h (λ write over. over)
 
@@ -181,15 +181,19 @@ pub now_stands : (opened : Image) (steps : List Step) (pv sector : ℕ) → IsRe
 now_stands opened [] pv sector is = record { write = None; may = (refl, refl); completed = tt; last = λ over. over }
 now_stands opened (Submitted tag work ∷ steps) pv sector is =
     let old = now_stands opened steps pv sector is.1 in
-    record { write = old.write; may = submitted_may opened tag work steps pv sector old.write _ old.may;
-        completed = completed_on (Submitted tag work) steps old.write old.completed; last = old.last }
+    record {
+      write = old.write;
+      may = submitted_may opened tag work steps pv sector old.write _ old.may;
+      completed = completed_on (Submitted tag work) steps old.write old.completed;
+      last = old.last;
+    }
 now_stands opened (Completed tag (Reading span) well fresh ∷ steps) pv sector is =
     stands_on opened tag (Reading span) well fresh steps pv sector _ (now_stands opened steps pv sector is.1) (λ write over. over)
 now_stands opened (Completed tag (Flushing disk) well fresh ∷ steps) pv sector is =
     stands_on opened tag (Flushing disk) well fresh steps pv sector _ (now_stands opened steps pv sector is.1) (λ write over. over)
 now_stands opened (Completed tag (Writing span sectors) well fresh ∷ steps) pv sector is =
     writes_now opened tag span sectors well fresh steps pv sector (covers span pv sector) (slice_index_or fresh (sector - span.first) false)
-        refl is.1
+    refl is.1
     (found_in (in_flight_after steps) tag _ is.0) (now_stands opened steps pv sector is.1)
 
 -- so the contents of now are an image

@@ -42,7 +42,7 @@ acknowledged t tag tag' span sectors fresh fresh' idle sector inside =
     let work = Writing span sectors in
     let t1 = step_on (Submitted tag work) t in
     let done : OnlyLeavesOrCompleted t1 span.pv sector Q =
-        new_write t span.pv sector tag span sectors Q (idle_completed t span.pv sector Q idle) refl in
+    new_write t span.pv sector tag span sectors Q (idle_completed t span.pv sector Q idle) refl in
     let overtaken : OnlyLeavesOrOvertaken (step_on (Completed tag work true fresh) t1) span.pv sector Q =
-        write_completes t1 span.pv sector tag work fresh Q inside done in
+    write_completes t1 span.pv sector tag work fresh Q inside done in
     flush_completes _ span.pv sector tag' fresh' Q (flush_submitted _ span.pv sector tag' Q overtaken)

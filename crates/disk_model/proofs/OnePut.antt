@@ -1,6 +1,6 @@
 -- One sector is written and its disk flushed, where nothing else is in flight.
-use Rattle.std.proofs.Common.{◌≡◌, ◌⊎◌, inl, inr, ⊎_elim, length, ℕ, ◌-◌, ◌==◌, ◌&&◌, Bool, true, false, cond, not, IsTrue, List, [], ◌∷◌,
-    slice_index_or, Some, refl, sym, ap, subst, ◌∙◌, arith}
+use Rattle.std.proofs.Common.{◌≡◌, ◌⊎◌, inl, inr, ⊎_elim, length, ℕ, ◌-◌, ◌==◌, ◌&&◌, Bool, true, false, cond, not, IsTrue, List, [], ◌∷◌}
+use Rattle.std.proofs.Common.{slice_index_or, Some, refl, sym, ap, subst, ◌∙◌, arith}
 use Rattle.std.proofs.lemmas.Bool.Decides.{nat_tests, eqb_tells}
 use Rattle.sector_base.specs.declared.spans.Span.{Span}
 use Rattle.sector_base.specs.Spans.{covers}
@@ -84,7 +84,7 @@ module _ (t : Record) (pv sector : ℕ) (contents : List (List ℕ)) (one : cont
   put_well tag tag' fresh fresh' false idle = record {
     since =
         Completed tag' (Flushing pv) false fresh' ∷ Submitted tag' (Flushing pv) ∷ Completed tag (Writing place contents) true fresh
-            ∷ Submitted tag (Writing place contents) ∷ [];
+        ∷ Submitted tag (Writing place contents) ∷ [];
     steps = refl;
     writes = submits_it;
     brings = (brings_it, tt);
@@ -94,7 +94,7 @@ module _ (t : Record) (pv sector : ℕ) (contents : List (List ℕ)) (one : cont
   put_well tag tag' fresh fresh' true idle = record {
     since =
         Completed tag' (Flushing pv) true fresh' ∷ Submitted tag' (Flushing pv) ∷ Completed tag (Writing place contents) true fresh
-            ∷ Submitted tag (Writing place contents) ∷ [];
+        ∷ Submitted tag (Writing place contents) ∷ [];
     steps = refl;
     writes = submits_it;
     brings = (brings_it, tt);
@@ -104,7 +104,7 @@ module _ (t : Record) (pv sector : ℕ) (contents : List (List ℕ)) (one : cont
     durable = λ yes. record {
       each = λ write v may.
           (acknowledged t tag tag' place contents fresh fresh' idle sector (covers_it pv sector)).each write v may
-              ∙ value_there sector refl;
+          ∙ value_there sector refl;
     };
   }
 
@@ -118,7 +118,7 @@ at_put : (p s pv sector : ℕ) (value old v : List ℕ) → ((p ≡ pv) → (s �
 at_put p s pv sector value old v there elsewhere =
     ⊎_elim
     (λ at. ⊎_elim (λ here. rw (at.0, here.0) (there at.1 here.1)) (λ away. rw (at.0, away.0) (elsewhere (λ both. away.1 both.1)))
-        (eqb_tells s sector))
+    (eqb_tells s sector))
     (λ away. rw away.0 (elsewhere (λ both. away.1 both.0)))
     (eqb_tells p pv)
 
@@ -162,11 +162,11 @@ module _ (old new : Record) (pv sector : ℕ) (value : List ℕ) (well : Bool) (
     each = λ write v may.
         at_put p s pv sector value (base p s) v
         (λ on here. (b.durable went).each write v
-            (subst (λ (n : ℕ). MayLeave new.opened new.steps pv n write v) here
-            (subst (λ (n : ℕ). MayLeave new.opened new.steps n s write v) on may)))
+        (subst (λ (n : ℕ). MayLeave new.opened new.steps pv n write v) here
+        (subst (λ (n : ℕ). MayLeave new.opened new.steps n s write v) on may)))
         (λ away. ⊎_elim (λ a. a) (λ h. absurd (away (h.0, h.1)))
         ((subst (λ (t : Record). EachOnlyLeaves (IsOldOrPut base put) t) (sym b.steps)
-            (only_leaves (IsOldOrPut base put) old.opened old.steps start b.since brings_put) p s).each write v may));
+        (only_leaves (IsOldOrPut base put) old.opened old.steps start b.since brings_put) p s).each write v may));
   }
 
 -- the one sector was put
@@ -204,9 +204,12 @@ module _ (pv sector : ℕ) (contents : List (List ℕ)) (one : length contents �
 
   pub puts_failed_write : done1.well ≡ false → PutsAllTold s0.told (the_put ∷ []) false s1.told
   puts_failed_write well1 old e =
-      let f = written false well1 old e in
-      (_, f.1, puts_one old _ pv sector (slice_index_or contents 0 []) false
-          (write_failed old pv sector contents (one_element contents one) done1.tag f.0))
+      let f = written false well1 old e in (
+        _,
+        f.1,
+        puts_one old _ pv sector (slice_index_or contents 0 []) false
+            (write_failed old pv sector contents (one_element contents one) done1.tag f.0),
+      )
 
   pub puts_flushed : (s2 : State) (done2 : Done) → CarriesOut s1 (Flush pv) done2 s2 → IsLawful s0 → s0.in_flight ≡ [] → done1.well ≡ true
       → PutsAllTold s0.told (the_put ∷ []) done2.well s2.told
@@ -217,13 +220,13 @@ module _ (pv sector : ℕ) (contents : List (List ℕ)) (one : length contents �
         f2.1,
         puts_one old _ pv sector (slice_index_or contents 0 []) done2.well
             (put_well old pv sector contents (one_element contents one) done1.tag done2.tag f.0 f2.0 done2.well
-                (idle_told s0 old lawful idle e)),
+            (idle_told s0 old lawful idle e)),
       )
 
   pub put_fault_of_write : done1.well ≡ false → IsPutFault s0 s1 the_put pv
   put_fault_of_write failed =
       inl (subst (λ (l : List (List ℕ)). IsLastFault s0 s1 pv (Writing (one_sector pv sector) l)) (one_element contents one)
-          (last_fault s0 s1 (Write (one_sector pv sector) contents) done1 c1 failed))
+      (last_fault s0 s1 (Write (one_sector pv sector) contents) done1 c1 failed))
 
   pub put_fault_of_flush : (s2 : State) → done1.well ≡ true → IsLastFault s1 s2 pv (Flushing pv) → IsPutFault s0 s2 the_put pv
   put_fault_of_flush s2 well f =

@@ -20,7 +20,7 @@ module _ (told : Record) (tag : ℕ) (span : Span) (sectors : List (List ℕ)) (
   Choice : (pv sector : ℕ) → Type 0
   Choice pv sector =
       (old : List ℕ) × ((write : Option ℕ) × MayLeave told.opened told.steps pv sector write old)
-          × ((image pv sector ≡ old) ⊎ (IsTrue (covers span pv sector) × (image pv sector ≡ value_at span sectors sector)))
+      × ((image pv sector ≡ old) ⊎ (IsTrue (covers span pv sector) × (image pv sector ≡ value_at span sectors sector)))
 
   -- there is one
   choice : IsRecord told.steps → (pv sector : ℕ) → Choice pv sector

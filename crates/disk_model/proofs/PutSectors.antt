@@ -1,6 +1,6 @@
 -- Sectors that are put by one call and then by another.
-use Rattle.std.proofs.Common.{◌≡◌, ℕ, ◌+◌, ◌==◌, ◌&&◌, cond, Bool, true, false, List, [], ◌∷◌, ◌++◌, length, map, take, Option, refl, sym,
-    ap, subst, ◌∙◌, arith, length-append}
+use Rattle.std.proofs.Common.{◌≡◌, ℕ, ◌+◌, ◌==◌, ◌&&◌, cond, Bool, true, false, List, [], ◌∷◌, ◌++◌, length, map, take, Option, refl, sym}
+use Rattle.std.proofs.Common.{ap, subst, ◌∙◌, arith, length-append}
 use Rattle.std.proofs.Math.Seq.{take-append-add, take-length}
 use Rattle.std.proofs.lemmas.List.{map-append, take-append-le}
 use Rattle.disk_model.specs.Steps.{Image, IsSame, Record, now_after, steps_on}
@@ -42,7 +42,7 @@ pub first_after_all : (first more : List Put) (base image : Image) → HasFirst 
 first_after_all first more base image h =
     let puts : with_puts (take h.count more) (with_puts first base) ≡ with_puts (take (length first + h.count) (first ++ more)) base =
     sym (patched_append first (take h.count more) base)
-        ∙ ap (λ (l : List Put). with_puts l base) (sym (take-append-add first more h.count)) in
+    ∙ ap (λ (l : List Put). with_puts l base) (sym (take-append-add first more h.count)) in
     record {
       count = length first + h.count;
       among = omega (arith, h.among, length-append first more);
@@ -62,25 +62,25 @@ module _ (old mid new : Record) (first more : List Put) (well : Bool) (a : PutsA
   both_images base is =
       let early : EveryImageSince (length old.steps) mid (HasFirst (first ++ more) base) =
       since_weaken mid (length old.steps) (length old.steps) (HasFirst first base) (HasFirst (first ++ more) base) (omega arith)
-          (first_of_more first more base) (a.every_image base is) in
+      (first_of_more first more base) (a.every_image base is) in
       let late : EveryImageSince (length mid.steps) new (HasFirst (first ++ more) base) =
       since_weaken new (length mid.steps) (length mid.steps) (HasFirst more (with_puts first base)) (HasFirst (first ++ more) base)
-          (omega arith) (first_after_all first more base)
+      (omega arith) (first_after_all first more base)
       (b.every_image (with_puts first base) (a.lasting refl base is)) in
       let late' = subst (λ (t : Record). EveryImageSince (length mid.steps) t (HasFirst (first ++ more) base)) later late in
       subst (λ (t : Record). EveryImageSince (length old.steps) t (HasFirst (first ++ more) base)) (sym later)
       (since_join mid.opened mid.steps b.since (length old.steps) (HasFirst (first ++ more) base) (steps_grow old mid a.since a.steps) early
-          late')
+      late')
 
   -- all of the first were submitted, and then so many of the others
   both_writes : writes_submitted (b.since ++ a.since) ≡ map write_of_put (take (length first + b.submitted) (first ++ more))
   both_writes =
       let all : take a.submitted first ≡ first = ap (λ (n : ℕ). take n first) (a.whole refl) ∙ take-length first in
       let puts =
-          ap (λ (l : List Put). map write_of_put l) (take-append-add first more b.submitted)
-              ∙ map-append write_of_put first (take b.submitted more) in
+      ap (λ (l : List Put). map write_of_put l) (take-append-add first more b.submitted)
+      ∙ map-append write_of_put first (take b.submitted more) in
       writes_submitted-append b.since a.since ∙ ap (λ (l : List Write). l ++ writes_submitted b.since)
-          (a.writes ∙ ap (λ (l : List Put). map write_of_put l) all)
+      (a.writes ∙ ap (λ (l : List Put). map write_of_put l) all)
       ∙ ap (λ (l : List Write). map write_of_put first ++ l) b.writes ∙ sym puts
 
   pub puts_both : PutsAll old (first ++ more) well new
@@ -94,7 +94,7 @@ module _ (old mid new : Record) (first more : List Put) (well : Bool) (a : PutsA
     every_image = both_images;
     lasting = λ went base is.
         subst (λ (i : Image). IsBase new i) (sym (patched_append first more base))
-            (b.lasting went (with_puts first base) (a.lasting refl base is));
+        (b.lasting went (with_puts first base) (a.lasting refl base is));
     now = λ went pv sector.
         b.now went pv sector
         ∙ patched_same more (now_after mid.opened mid.steps) (with_puts first (now_after old.opened old.steps)) (a.now refl) pv sector
@@ -112,7 +112,7 @@ puts_failed old mid first more a = record {
   whole = λ went. absurd (let h : false ≡ true = went in cc);
   every_image = λ base is.
       since_weaken mid (length old.steps) (length old.steps) (HasFirst first base) (HasFirst (first ++ more) base) (omega arith)
-          (first_of_more first more base) (a.every_image base is);
+      (first_of_more first more base) (a.every_image base is);
   lasting = λ went. absurd (let h : false ≡ true = went in cc);
   now = λ went. absurd (let h : false ≡ true = went in cc);
 }
@@ -128,7 +128,7 @@ puts_none well told = record {
   whole = λ went. refl;
   every_image =
       λ base is. since_now told (HasFirst [] base)
-          (λ image im. first_none [] base image (λ pv sector. (is pv sector).each (im pv sector).0 (image pv sector) (im pv sector).1));
+      (λ image im. first_none [] base image (λ pv sector. (is pv sector).each (im pv sector).0 (image pv sector) (im pv sector).1));
   lasting = λ went base is. is;
   now = λ went pv sector. refl;
 }
@@ -138,14 +138,14 @@ pub puts_told_both : (s0 s1 s2 : Option Record) (first more : List Put) (well : 
     → PutsAllTold s1 more well s2 → PutsAllTold s0 (first ++ more) well s2
 puts_told_both s0 s1 s2 first more well a b =
     between_both (λ old new. PutsAll old first true new) (λ old new. PutsAll old more well new)
-        (λ old new. PutsAll old (first ++ more) well new) s0 s1 s2
+    (λ old new. PutsAll old (first ++ more) well new) s0 s1 s2
     (λ old mid new p q. puts_both old mid new first more well p q) a b
 
 pub puts_told_failed : (s0 s1 : Option Record) (first more : List Put) → PutsAllTold s0 first false s1
     → PutsAllTold s0 (first ++ more) false s1
 puts_told_failed s0 s1 first more a =
     between_weaker (λ old new. PutsAll old first false new) (λ old new. PutsAll old (first ++ more) false new) s0 s1
-        (λ old new p. puts_failed old new first more p) a
+    (λ old new p. puts_failed old new first more p) a
 
 -- nothing was put
 pub puts_told_none : (s0 s1 : Option Record) (well : Bool) → s1 ≡ s0 → PutsAllTold s0 [] well s1

@@ -51,7 +51,7 @@ reads_both first more old mid new a b = record {
   reads = reads_alone_append b.since a.since b.reads a.reads;
   spans_are =
       spans_read-append b.since a.since ∙ ap (λ (l : List Span). l ++ spans_read b.since) a.spans_are
-          ∙ ap (λ (l : List Span). first ++ l) b.spans_are;
+      ∙ ap (λ (l : List Span). first ++ l) b.spans_are;
 }
 
 -- a call that reads alone, and then another
@@ -59,7 +59,7 @@ pub reads_told_both : (first more : List Span) (s0 s1 s2 : Option Record) → Re
     → ReadsTold s0 (first ++ more) s2
 reads_told_both first more s0 s1 s2 a b =
     between_both (λ old new. OnlyReads old first new) (λ old new. OnlyReads old more new) (λ old new. OnlyReads old (first ++ more) new) s0
-        s1 s2 (reads_both first more) a b
+    s1 s2 (reads_both first more) a b
 
 -- nothing was told
 pub reads_told_nothing : (s0 s1 : Option Record) → s1 ≡ s0 → ReadsTold s0 [] s1

@@ -20,7 +20,7 @@ module _ (state : State) (t : Record) (lawful : IsLawful state) (e : state.told 
   opened : (pv sector : ℕ) → sector < slice_index_or state.sizes pv 0 → IsSector (t.opened pv sector)
   opened =
       told_at (λ told. (pv sector : ℕ) → sector < slice_index_or state.sizes pv 0 → IsSector (told.opened pv sector)) state.told t
-          lawful.opened e
+      lawful.opened e
 
   written : BringOnly (λ pv sector value. IsSector value) t.steps
   written = told_at (λ told. BringOnly (λ pv sector value. IsSector value) told.steps) state.told t lawful.written e
@@ -33,10 +33,10 @@ module _ (state : State) (t : Record) (lawful : IsLawful state) (e : state.told 
   leaves_sectors =
       subst (λ (l : List Step). EachOnlyLeaves IsSectorWithin (record { opened = t.opened; steps = l })) (append-nil t.steps)
       (only_leaves IsSectorWithin t.opened [] start t.steps
-          (bring_only_weaker (λ pv sector value. IsSector value) IsSectorWithin t.steps (λ pv sector value is lt. is) written))
+      (bring_only_weaker (λ pv sector value. IsSector value) IsSectorWithin t.steps (λ pv sector value is lt. is) written))
 
   -- and what a read gives
   pub now_sector : (pv sector : ℕ) → sector < slice_index_or state.sizes pv 0 → IsSector (now_after t.opened t.steps pv sector)
   now_sector pv sector =
       now_has t pv sector (IsSectorWithin pv sector) (told_at (λ told. IsRecord told.steps) state.told t lawful.follows e)
-          (leaves_sectors pv sector)
+      (leaves_sectors pv sector)

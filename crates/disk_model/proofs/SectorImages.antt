@@ -15,9 +15,11 @@ module _ (told : Record) (is : IsRecord told.steps) (pv sector : ℕ) (write : O
     (may : MayLeave told.opened told.steps pv sector write value) where
   here_or_now : (pv' sector' : ℕ) (a b : Bool) → (pv' == pv) ≡ a → (sector' == sector) ≡ b
       → (w : Option ℕ) × MayLeave told.opened told.steps pv' sector' w (cond (a && b) value (now_after told.opened told.steps pv' sector'))
-  here_or_now pv' sector' true true e f =
-      (write, subst (λ (s : ℕ). MayLeave told.opened told.steps pv' s write value) (sym (equal sector' sector f))
-          (subst (λ (p : ℕ). MayLeave told.opened told.steps p sector write value) (sym (equal pv' pv e)) may))
+  here_or_now pv' sector' true true e f = (
+    write,
+    subst (λ (s : ℕ). MayLeave told.opened told.steps pv' s write value) (sym (equal sector' sector f))
+        (subst (λ (p : ℕ). MayLeave told.opened told.steps p sector write value) (sym (equal pv' pv e)) may),
+  )
     where
       equal : (x y : ℕ) → (x == y) ≡ true → x ≡ y
       equal x y h = grind (arith, nat_tests)
@@ -33,7 +35,7 @@ module _ (told : Record) (is : IsRecord told.steps) (pv sector : ℕ) (write : O
   unfolding with_value
   value_there =
       ap (λ (b : Bool). cond (b && (sector == sector)) value (now_after told.opened told.steps pv sector)) (eq-eqb pv pv refl)
-          ∙ ap (λ (b : Bool). cond b value (now_after told.opened told.steps pv sector)) (eq-eqb sector sector refl)
+      ∙ ap (λ (b : Bool). cond b value (now_after told.opened told.steps pv sector)) (eq-eqb sector sector refl)
 
 -- what every image has in a sector, each of its possible values has
 pub leaves_by_images : (told : Record) (pv sector : ℕ) (Q : List ℕ → Type 0) → IsRecord told.steps
@@ -41,5 +43,5 @@ pub leaves_by_images : (told : Record) (pv sector : ℕ) (Q : List ℕ → Type 
 leaves_by_images told pv sector Q is every = record {
   each =
       λ write value may. subst Q (value_there told is pv sector write value may)
-          (every (with_value (now_after told.opened told.steps) pv sector value) (value_in_image told is pv sector write value may));
+      (every (with_value (now_after told.opened told.steps) pv sector value) (value_in_image told is pv sector write value may));
 }

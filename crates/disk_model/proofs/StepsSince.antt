@@ -10,7 +10,7 @@ pub steps_joined : (old mid new : Record) (first more : List Step) → mid ≡ s
     → new ≡ steps_on (more ++ first) old
 steps_joined old mid new first more a b =
     b ∙ ap (λ (t : Record). steps_on more t) a
-        ∙ ap (λ (s : List Step). record { opened = old.opened; steps = s }) (sym (append_assoc more first old.steps))
+    ∙ ap (λ (s : List Step). record { opened = old.opened; steps = s }) (sym (append_assoc more first old.steps))
 
 -- a record grows
 pub steps_grow : (old new : Record) (since : List Step) → new ≡ steps_on since old → length old.steps ≤ length new.steps
@@ -22,7 +22,7 @@ pub writes_submitted-append : (newer older : List Step)
 writes_submitted-append [] older = sym (append-nil (writes_submitted older))
 writes_submitted-append (Submitted tag (Writing span sectors) ∷ newer) older =
     ap (λ (l : List (Span × List (List ℕ))). l ++ (span, sectors) ∷ []) (writes_submitted-append newer older)
-        ∙ append_assoc (writes_submitted older) (writes_submitted newer) ((span, sectors) ∷ [])
+    ∙ append_assoc (writes_submitted older) (writes_submitted newer) ((span, sectors) ∷ [])
 writes_submitted-append (Submitted tag (Reading span) ∷ newer) older = writes_submitted-append newer older
 writes_submitted-append (Submitted tag (Flushing disk) ∷ newer) older = writes_submitted-append newer older
 writes_submitted-append (Completed tag work well fresh ∷ newer) older = writes_submitted-append newer older

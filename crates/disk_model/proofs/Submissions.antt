@@ -1,6 +1,6 @@
 -- Operations that are submitted one after another.
-use Rattle.std.proofs.Common.{◌≡◌, ◌≤◌, ◌<◌, ℕ, List, [], ◌∷◌, ◌++◌, All, Option, Some, None, option_map, refl, sym, ap, subst, ◌∙◌, arith,
-    append_assoc, length-append}
+use Rattle.std.proofs.Common.{◌≡◌, ◌≤◌, ◌<◌, ℕ, List, [], ◌∷◌, ◌++◌, All, Option, Some, None, option_map, refl, sym, ap, subst, ◌∙◌, arith}
+use Rattle.std.proofs.Common.{append_assoc, length-append}
 use Rattle.std.proofs.lemmas.List.{append-nil}
 use Rattle.std.proofs.lemmas.List.Sums.{sum_by-append}
 use Rattle.std.proofs.lemmas.List.Elements.{All-append, All-cons, All-nil}
@@ -59,7 +59,7 @@ submits_more old mid new os op tag s one =
       fresh = All-append P os (o ∷ []) s.fresh (All-cons P o [] (omega (arith, one.fresh, s.next)) (All-nil P));
       below =
           All-append Q os (o ∷ []) (below_later os mid.next_tag new.next_tag (omega (arith, one.fresh, one.next)) s.below)
-              (All-cons Q o [] one.next (All-nil Q));
+          (All-cons Q o [] one.next (All-nil Q));
       next = omega (arith, one.fresh, one.next, s.next);
       in_flight = one.in_flight ∙ ap (λ (l : List Operation). l ++ o ∷ []) s.in_flight ∙ append_assoc old.in_flight os (o ∷ []);
       ready = λ t r. one.ready t (s.ready t r);

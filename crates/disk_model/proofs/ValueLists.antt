@@ -1,6 +1,6 @@
 -- The list of values has exactly those that a crash may leave.
-use Rattle.std.proofs.Common.{arith, ◌<◌, ◌≤◌, zero, suc, length, get_or, ◌≡◌, ◌⊎◌, ℕ, Bool, true, false, not, ◌==◌, ◌&&◌, ◌||◌, cond,
-    IsTrue, List, [], ◌∷◌, ◌++◌, filter, Option, Some, None, inl, inr, ⊎_elim, refl, sym, ap, ◌∙◌}
+use Rattle.std.proofs.Common.{arith, ◌<◌, ◌≤◌, zero, suc, length, get_or, ◌≡◌, ◌⊎◌, ℕ, Bool, true, false, not, ◌==◌, ◌&&◌, ◌||◌, cond}
+use Rattle.std.proofs.Common.{IsTrue, List, [], ◌∷◌, ◌++◌, filter, Option, Some, None, inl, inr, ⊎_elim, refl, sym, ap, ◌∙◌}
 use Rattle.std.proofs.lemmas.Bool.Decides.{eqb_tells}
 use Rattle.sector_base.specs.Spans.{covers}
 use Rattle.disk_model.specs.Steps.{Image, Reading, Writing, Flushing, Step, Submitted, Completed, value_at}
@@ -46,7 +46,7 @@ overtaken_of (Completed tag (Flushing disk) well fresh ∷ steps) pv sector writ
 overtaken_of (Completed tag (Writing span sectors) false fresh ∷ steps) pv sector write h = overtaken_of steps pv sector write h
 overtaken_of (Completed tag (Writing span sectors) true fresh ∷ steps) pv sector write h =
     ⊎_elim (λ a. inl (overtaken_of steps pv sector write a)) (λ b. let p = and_cases _ _ b in inr (p.0, completed_of steps write p.1))
-        (or_cases _ _ h)
+    (or_cases _ _ h)
 
 -- what the test says is dropped is
 dropped_of : (steps : List Step) (flush pv sector : ℕ) (write : Option ℕ) → is_dropped steps flush pv sector write ≡ true
@@ -55,7 +55,7 @@ dropped_of [] flush pv sector write h = cc
 dropped_of (Completed tag work well fresh ∷ steps) flush pv sector write h = dropped_of steps flush pv sector write h
 dropped_of (Submitted tag work ∷ steps) flush pv sector write h =
     ⊎_elim (λ a. inl (dropped_of steps flush pv sector write a))
-        (λ b. let p = and_cases _ _ b in inr (eq_of tag flush p.0, overtaken_of steps pv sector write p.1)) (or_cases _ _ h)
+    (λ b. let p = and_cases _ _ b in inr (eq_of tag flush p.0, overtaken_of steps pv sector write p.1)) (or_cases _ _ h)
 
 -- the first is true
 or_left : (a b : Bool) → a ≡ true → (a || b) ≡ true
@@ -94,7 +94,7 @@ to_overtaken (Completed tag (Flushing disk) well fresh ∷ steps) pv sector writ
 to_overtaken (Completed tag (Writing span sectors) false fresh ∷ steps) pv sector write h = to_overtaken steps pv sector write h
 to_overtaken (Completed tag (Writing span sectors) true fresh ∷ steps) pv sector write h =
     ⊎_elim (λ a. or_left _ _ (to_overtaken steps pv sector write a))
-        (λ b. or_right (is_overtaken steps pv sector write) _ (and_both _ _ b.0 (to_completed steps write b.1))) h
+    (λ b. or_right (is_overtaken steps pv sector write) _ (and_both _ _ b.0 (to_completed steps write b.1))) h
 
 -- the test finds what is dropped
 to_dropped : (steps : List Step) (flush pv sector : ℕ) (write : Option ℕ) → IsDropped steps flush pv sector write
@@ -103,8 +103,8 @@ to_dropped [] flush pv sector write h = absurd h
 to_dropped (Completed tag work well fresh ∷ steps) flush pv sector write h = to_dropped steps flush pv sector write h
 to_dropped (Submitted tag work ∷ steps) flush pv sector write h =
     ⊎_elim (λ a. or_left _ _ (to_dropped steps flush pv sector write a))
-        (λ b. or_right (is_dropped steps flush pv sector write) _
-        (and_both _ _ (eq_to tag flush b.0) (to_overtaken steps pv sector write b.1))) h
+    (λ b. or_right (is_dropped steps flush pv sector write) _
+    (and_both _ _ (eq_to tag flush b.0) (to_overtaken steps pv sector write b.1))) h
 
 -- where a value stands in a list that grew or was filtered
 last_values : (vs : List (Option ℕ × List ℕ)) (v : Option ℕ × List ℕ) (write : Option ℕ) (value : List ℕ)
@@ -119,7 +119,7 @@ values_last : (vs : List (Option ℕ × List ℕ)) (v : Option ℕ × List ℕ) 
 values_last [] v write value h = ⊎_elim (λ a. absurd a) (λ b. inl b) h
 values_last (u ∷ vs) v write value h =
     ⊎_elim (λ a. ⊎_elim (λ b. inl b) (λ c. inr (values_last vs v write value (inl c))) a) (λ d. inr (values_last vs v write value (inr d)))
-        h
+    h
 
 -- a filter by the writes
 module _ (p : Option ℕ → Bool) where
@@ -162,9 +162,9 @@ may_of opened [] pv sector write value h = ⊎_elim (λ a. a) (λ b. absurd b) h
 may_of opened (Submitted tag (Writing span sectors) ∷ steps) pv sector write value h =
     let vs = values opened steps pv sector in
     (elim (covers span pv sector) as (λ b. covers span pv sector ≡ b
-        → InValues (cond b (vs ++ (Some tag, value_at span sectors sector) ∷ []) vs) write value
-        → MayLeave opened steps pv sector write value
-        ⊎ (IsTrue (covers span pv sector) × (write ≡ Some tag) × (value ≡ value_at span sectors sector))) [
+    → InValues (cond b (vs ++ (Some tag, value_at span sectors sector) ∷ []) vs) write value
+    → MayLeave opened steps pv sector write value
+    ⊎ (IsTrue (covers span pv sector) × (write ≡ Some tag) × (value ≡ value_at span sectors sector))) [
       | true ↦ λ e k. ⊎_elim (λ a. inl (may_of opened steps pv sector write value a)) (λ b. inr (e, b.0, b.1))
           (last_values vs _ write value k)
       | false ↦ λ e k. inl (may_of opened steps pv sector write value k)
@@ -180,7 +180,7 @@ may_of opened (Completed tag (Flushing disk) true fresh ∷ steps) pv sector wri
     let p : Option ℕ → Bool = λ w. not (is_dropped steps tag pv sector w) in
     ⊎_elim
     (λ same. let h' : InValues (filter (λ (v : Option ℕ × List ℕ). not (is_dropped steps tag pv sector v.0)) vs) write value = rw same.0 at
-        h in
+    h in
     let r = kept_in p vs write value h' in
     (may_of opened steps pv sector write value r.0, λ e drop. not_true _ r.1 (to_dropped steps tag pv sector write drop)))
     (λ other. let h' : InValues vs write value = rw other.0 at h in (may_of opened steps pv sector write value h', λ e drop. other.1 e))
@@ -193,7 +193,7 @@ of_may opened [] pv sector write value h = inl h
 of_may opened (Submitted tag (Writing span sectors) ∷ steps) pv sector write value h =
     let vs = values opened steps pv sector in
     (elim (covers span pv sector) as (λ b. covers span pv sector ≡ b
-        → InValues (cond b (vs ++ (Some tag, value_at span sectors sector) ∷ []) vs) write value) [
+    → InValues (cond b (vs ++ (Some tag, value_at span sectors sector) ∷ []) vs) write value) [
       | true ↦ λ e. values_last vs _ write value (⊎_elim (λ a. inl (of_may opened steps pv sector write value a)) (λ b. inr (b.1, b.2)) h)
       | false ↦ λ e. ⊎_elim (λ a. of_may opened steps pv sector write value a) (λ b. absurd (let x : true ≡ false = sym b.0 ∙ e in cc)) h
     ]) refl
@@ -247,7 +247,7 @@ pub sole_stays : (opened : Image) (steps : List Step) (tag pv sector : ℕ) (fre
 sole_stays opened steps tag pv sector fresh is sole =
     let vs = values opened steps pv sector in
     let some : 0 < length (values opened (Completed tag (Flushing pv) true fresh ∷ steps) pv sector) =
-        some_value opened (Completed tag (Flushing pv) true fresh ∷ steps) pv sector is in
+    some_value opened (Completed tag (Flushing pv) true fresh ∷ steps) pv sector is in
     ⊎_elim
     (λ same. let some' : 0 < length (filter (λ (v : Option ℕ × List ℕ). not (is_dropped steps tag pv sector v.0)) vs) = rw same.0 at some in
     rw same.0 (sole_filter (λ (v : Option ℕ × List ℕ). not (is_dropped steps tag pv sector v.0)) vs sole some'))

@@ -1,6 +1,6 @@
 -- Writes of a sector that are in flight, and those that have completed.
-use Rattle.std.proofs.Common.{◌≡◌, ◌≤◌, ◌<◌, ◌⊎◌, ℕ, Bool, true, false, not, ◌==◌, IsTrue, List, [], ◌∷◌, ◌++◌, filter, Option, Some, None,
-    inl, inr, ⊎_elim, sym, ap, subst, ◌∙◌, arith, All, AllPairs, Contains, get_or}
+use Rattle.std.proofs.Common.{◌≡◌, ◌≤◌, ◌<◌, ◌⊎◌, ℕ, Bool, true, false, not, ◌==◌, IsTrue, List, [], ◌∷◌, ◌++◌, filter, Option, Some, None}
+use Rattle.std.proofs.Common.{inl, inr, ⊎_elim, sym, ap, subst, ◌∙◌, arith, All, AllPairs, Contains, get_or}
 use Rattle.std.proofs.lemmas.List.{get_or_default}
 use Rattle.std.proofs.lemmas.List.Elements.{All-head, All-tail}
 use Rattle.std.proofs.lemmas.Bool.{cases_lt}
@@ -25,7 +25,7 @@ in_flight_on (f ∷ fs) tag pv sector write h =
     ⊎_elim
     (λ same. ⊎_elim (λ here. inl (here.0 ∙ ap Some same.1)) (λ later. rw same.0 (in_flight_on fs tag pv sector write later)) h)
     (λ other. rw other.0 (⊎_elim (λ here. inr (inl here))
-        (λ later. ⊎_elim (λ a. inl a) (λ b. inr (inr b)) (in_flight_on fs tag pv sector write later)) h))
+    (λ later. ⊎_elim (λ a. inl a) (λ b. inr (inr b)) (in_flight_on fs tag pv sector write later)) h))
     (eqb_tells f.tag tag)
 
 -- a write that has completed or is in flight still is so after a completion
@@ -36,7 +36,7 @@ in_flight_completed : (steps : List Step) (tag : ℕ) (work : Work) (well : Bool
 in_flight_completed steps tag work well fresh pv sector None h = inl tt
 in_flight_completed steps tag work well fresh pv sector (Some write) h =
     ⊎_elim (λ a. inl (inr a)) (λ b. ⊎_elim (λ (e : Some write ≡ Some tag). inl (inl (cc))) (λ c. inr c)
-        (in_flight_on (in_flight_after steps) tag pv sector (Some write) b)) h
+    (in_flight_on (in_flight_after steps) tag pv sector (Some write) b)) h
 
 -- a new operation leaves the writes in flight
 in_flight_older : (fs : List Operation) (f : Operation) (pv sector : ℕ) (write : Option ℕ) → IsInFlight fs pv sector write
@@ -57,7 +57,7 @@ in_flight_submitted : (steps : List Step) (tag : ℕ) (work : Work) (pv sector :
     ⊎ IsInFlight (in_flight_after steps ++ record { tag = tag; work = work } ∷ []) pv sector write
 in_flight_submitted steps tag work pv sector write h =
     ⊎_elim (λ a. inl (completed_on (Submitted tag work) steps write a))
-        (λ b. inr (in_flight_older (in_flight_after steps) _ pv sector write b)) h
+    (λ b. inr (in_flight_older (in_flight_after steps) _ pv sector write b)) h
 
 -- the write of each value has completed, or is in flight
 pub completed_or_in_flight : (opened : Image) (steps : List Step) (pv sector : ℕ) (write : Option ℕ) (value : List ℕ)
@@ -67,7 +67,7 @@ completed_or_in_flight opened [] pv sector write value may = inl (rw may.0 tt)
 completed_or_in_flight opened (Submitted tag (Writing span sectors) ∷ steps) pv sector write value may =
     ⊎_elim
     (λ old. in_flight_submitted steps tag (Writing span sectors) pv sector write
-        (completed_or_in_flight opened steps pv sector write value old))
+    (completed_or_in_flight opened steps pv sector write value old))
     (λ new. inr (in_flight_newest (in_flight_after steps) _ pv sector write new.1 new.0)) may
 completed_or_in_flight opened (Submitted tag (Reading span) ∷ steps) pv sector write value may =
     in_flight_submitted steps tag (Reading span) pv sector write (completed_or_in_flight opened steps pv sector write value may)
@@ -76,7 +76,7 @@ completed_or_in_flight opened (Submitted tag (Flushing disk) ∷ steps) pv secto
 completed_or_in_flight opened (Completed tag work well fresh ∷ steps) pv sector write value may =
     in_flight_completed steps tag work well fresh pv sector write
     (completed_or_in_flight opened steps pv sector write value
-        (quiet opened (Completed tag work well fresh) steps pv sector write value tt may))
+    (quiet opened (Completed tag work well fresh) steps pv sector write value tt may))
 
 -- where nothing is in flight, every write has completed
 pub idle_completed : (told : Record) (pv sector : ℕ) (Q : List ℕ → Type 0) → in_flight_after told.steps ≡ []
@@ -84,7 +84,7 @@ pub idle_completed : (told : Record) (pv sector : ℕ) (Q : List ℕ → Type 0)
 idle_completed told pv sector Q idle = record {
   each = λ write value may.
       ⊎_elim (λ a. inr a) (λ b. absurd (let P : List Operation → Type 0 = λ fs. IsInFlight fs pv sector write in subst P idle b))
-          (completed_or_in_flight told.opened told.steps pv sector write value may);
+      (completed_or_in_flight told.opened told.steps pv sector write value may);
 }
 
 -- where no operation in flight writes the sector, no write of it is in flight
@@ -101,8 +101,8 @@ pub alone_completed : (told : Record) (fs : List Operation) (pv sector : ℕ) (Q
 alone_completed told fs pv sector Q e h = record {
   each = λ write value may.
       ⊎_elim (λ a. inr a) (λ b. absurd (none_in_flight fs pv sector write h
-          (subst (λ (l : List Operation). IsInFlight l pv sector write) (sym e) b)))
-          (completed_or_in_flight told.opened told.steps pv sector write value may);
+      (subst (λ (l : List Operation). IsInFlight l pv sector write) (sym e) b)))
+      (completed_or_in_flight told.opened told.steps pv sector write value may);
 }
 
 -- two operations in flight with one tag are one

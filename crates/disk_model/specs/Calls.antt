@@ -1,6 +1,6 @@
 -- What the calls of a shelf do to its state.
-use Rattle.std.specs.Prelude.{◌≡◌, ◌≢◌, ◌≤◌, ◌<◌, ℕ, ◌+◌, Bool, not, ◌==◌, ◌&&◌, if◌then◌else◌, List, [], ◌∷◌, ◌++◌, length, filter,
-    Contains, IfSome, option_map}
+use Rattle.std.specs.Prelude.{◌≡◌, ◌≢◌, ◌≤◌, ◌<◌, ℕ, ◌+◌, Bool, not, ◌==◌, ◌&&◌, if◌then◌else◌, List, [], ◌∷◌, ◌++◌, length, filter}
+use Rattle.std.specs.Prelude.{Contains, IfSome, option_map}
 use Rattle.disk_model.specs.declared.ops.Op.{Op}
 use Rattle.disk_model.specs.declared.ops.Done.{Done}
 use Rattle.disk_model.specs.Steps.{Submitted, Completed, step_on}

@@ -30,7 +30,7 @@ abbrev pub MayLeave : Image → List Step → ℕ → ℕ → Option ℕ → Lis
 MayLeave opened [] pv sector write value = (write ≡ None) × (value ≡ opened pv sector)
 MayLeave opened (Submitted tag (Writing span sectors) ∷ steps) pv sector write value =
     MayLeave opened steps pv sector write value
-        ⊎ (IsTrue (covers span pv sector) × (write ≡ Some tag) × (value ≡ value_at span sectors sector))
+    ⊎ (IsTrue (covers span pv sector) × (write ≡ Some tag) × (value ≡ value_at span sectors sector))
 MayLeave opened (Completed tag (Flushing disk) true fresh ∷ steps) pv sector write value =
     MayLeave opened steps pv sector write value × (disk ≡ pv → IsDropped steps tag pv sector write → ⊥)
 MayLeave opened (_ ∷ steps) pv sector write value = MayLeave opened steps pv sector write value

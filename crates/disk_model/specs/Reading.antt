@@ -12,7 +12,7 @@ abbrev pub IsAlone : List Step → ℕ → ℕ → ℕ → Type 0
 IsAlone [] read pv sector = Unit {0}
 IsAlone (Submitted tag work ∷ steps) read pv sector =
     (tag ≡ read → All (λ o. writes o.work pv sector ≡ false) (in_flight_after steps))
-        × ((tag ≢ read) → (writes work pv sector ≡ false) × IsAlone steps read pv sector)
+    × ((tag ≢ read) → (writes work pv sector ≡ false) × IsAlone steps read pv sector)
 IsAlone (Completed tag work well fresh ∷ steps) read pv sector = IsAlone steps read pv sector
 
 -- the buffer of a read that completed well holds what stands in its sectors, wherever the read was alone

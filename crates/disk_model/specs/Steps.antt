@@ -57,5 +57,5 @@ abbrev pub now_after : Image → List Step → Image
 now_after opened [] pv sector = opened pv sector
 now_after opened (Completed tag (Writing span sectors) well fresh ∷ steps) pv sector =
     if covers span pv sector && (well || slice_index_or fresh (sector - span.first) false) then value_at span sectors sector else now_after
-        opened steps pv sector
+    opened steps pv sector
 now_after opened (_ ∷ steps) pv sector = now_after opened steps pv sector

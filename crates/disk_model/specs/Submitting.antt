@@ -1,6 +1,6 @@
 -- Operations that are submitted one after another.
-use Rattle.std.specs.Prelude.{◌≡◌, ◌≤◌, ◌<◌, ℕ, ◌+◌, Bool, false, ◌||◌, IsTrue, List, [], ◌∷◌, ◌++◌, length, map, sum_by, All, Contains,
-    option_map}
+use Rattle.std.specs.Prelude.{◌≡◌, ◌≤◌, ◌<◌, ℕ, ◌+◌, Bool, false, ◌||◌, IsTrue, List, [], ◌∷◌, ◌++◌, length, map, sum_by, All, Contains}
+use Rattle.std.specs.Prelude.{option_map}
 use Rattle.sector_base.specs.Spans.{covers}
 use Rattle.disk_model.specs.Steps.{Work, Reading, Writing, Flushing, Submitted, Record, step_on, value_at, sectors_of_work}
 use Rattle.disk_model.specs.Record.{Operation}

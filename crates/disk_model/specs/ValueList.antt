@@ -30,8 +30,8 @@ abbrev pub values : Image → List Step → ℕ → ℕ → List (Option ℕ × 
 values opened [] pv sector = (None, opened pv sector) ∷ []
 values opened (Submitted tag (Writing span sectors) ∷ steps) pv sector =
     if covers span pv sector then values opened steps pv sector ++ (Some tag, value_at span sectors sector)
-        ∷ [] else values opened steps pv sector
+    ∷ [] else values opened steps pv sector
 values opened (Completed tag (Flushing disk) true fresh ∷ steps) pv sector =
     if disk == pv then filter (λ v. not (is_dropped steps tag pv sector v.0)) (values opened steps pv sector) else values opened steps pv
-        sector
+    sector
 values opened (_ ∷ steps) pv sector = values opened steps pv sector

@@ -24,7 +24,7 @@ pub free_here : (group : Group) (all : List (List ExtentRun)) (pv : ℕ) → Are
     → runs_at all pv ≡ free_at group pv
 free_here group all pv free lt =
     ap (runs_on pv) (free_runs_here group pv (slice_index_or all pv []) lt
-        (free.each pv (slice_index_or all pv []) (slice_get-get_or all pv [] (omega (arith, lt, free.count)))))
+    (free.each pv (slice_index_or all pv []) (slice_get-get_or all pv [] (omega (arith, lt, free.count)))))
 
 -- of several
 abbrev Below : Group → List ℕ → Type 0
@@ -50,7 +50,7 @@ pub all_there : (group : Group) (want : Request) (all : List (List ExtentRun)) (
     → pvs ≡ usable_pvs group want → All (λ pv. pv < length all) pvs
 all_there group want all pvs free are =
     subst (All (λ pv. pv < length all)) (sym are)
-        (subst (λ n. All (λ pv. pv < n) (usable_pvs group want)) (sym free.count) (usable_below group want))
+    (subst (λ n. All (λ pv. pv < n) (usable_pvs group want)) (sym free.count) (usable_below group want))
 
 -- which have room
 roomy_along : (group : Group) (want : Request) (all : List (List ExtentRun)) (pvs : List ℕ) → AreAllFree group all → Below group pvs
@@ -58,14 +58,14 @@ roomy_along : (group : Group) (want : Request) (all : List (List ExtentRun)) (pv
 roomy_along group want all [] free below = refl
 roomy_along group want all (pv ∷ pvs) free below =
     ap₂ (λ (here : List PvRun) (rest : List ℕ). if nat_le want.extents (room_for want here) then pv ∷ rest else rest)
-        (free_here group all pv free below.0) (roomy_along group want all pvs free below.1)
+    (free_here group all pv free below.0) (roomy_along group want all pvs free below.1)
 
 pub found_roomy : (group : Group) (want : Request) (all : List (List ExtentRun)) (pvs fit : List ℕ) → AreAllFree group all
     → pvs ≡ usable_pvs group want → fit ≡ filter (has_room_at all want) pvs → fit ≡ filter (has_room group want) (usable_pvs group want)
 found_roomy group want all pvs fit free are is =
     is ∙ ap (filter (has_room_at all want)) are
-        ∙ roomy_along group want all (usable_pvs group want) free
-        (recursion_from_All (λ pv. pv < length group.pvs) (usable_pvs group want) (usable_below group want))
+    ∙ roomy_along group want all (usable_pvs group want) free
+    (recursion_from_All (λ pv. pv < length group.pvs) (usable_pvs group want) (usable_below group want))
 
 -- what legs take
 taken_along : (group : Group) (all : List (List ExtentRun)) (pvs : List ℕ) (legs : List (List PvRun)) → AreAllFree group all
@@ -73,9 +73,10 @@ taken_along : (group : Group) (all : List (List ExtentRun)) (pvs : List ℕ) (le
 taken_along group all [] [] free below taken = tt
 taken_along group all [] (leg ∷ legs) free below taken = absurd taken
 taken_along group all (pv ∷ pvs) [] free below taken = absurd taken
-taken_along group all (pv ∷ pvs) (leg ∷ legs) free below taken =
-    (subst (λ runs. IsLongestFirst runs leg) (free_here group all pv free below.0) taken.0,
-        taken_along group all pvs legs free below.1 taken.1)
+taken_along group all (pv ∷ pvs) (leg ∷ legs) free below taken = (
+  subst (λ runs. IsLongestFirst runs leg) (free_here group all pv free below.0) taken.0,
+  taken_along group all pvs legs free below.1 taken.1,
+)
 
 pub taken_there : (group : Group) (all : List (List ExtentRun)) (pvs : List ℕ) (legs : List (List PvRun)) → AreAllFree group all
     → All (λ pv. pv < length group.pvs) pvs → AreTakenAt all pvs legs → AreTaken group pvs legs
@@ -100,5 +101,5 @@ free_ends group all pv accepted free lt =
     let here = stands group pv lt in
     subst (All RunEnds) (sym (free_here group all pv free lt))
     (All-from_recursion RunEnds (free_at group pv)
-        (all_weaker (λ run. (run.pv ≡ pv) × IsFreeRun group run) RunEnds (λ run fine. omega (arith, fine.1.small)) (free_at group pv)
-        (free_at_free group pv here.0 accepted here.1)))
+    (all_weaker (λ run. (run.pv ≡ pv) × IsFreeRun group run) RunEnds (λ run fine. omega (arith, fine.1.small)) (free_at group pv)
+    (free_at_free group pv here.0 accepted here.1)))

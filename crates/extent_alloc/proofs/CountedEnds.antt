@@ -1,6 +1,6 @@
 -- Parts are no more than the places where legs go on or end.
-use Rattle.std.proofs.Common.{◌≡◌, ℕ, suc, ◌+◌, ◌<◌, ◌≤◌, true, false, List, [], ◌∷◌, ◌++◌, length, inl, inr, refl, sym, ap, subst, arith,
-    nat_eq, nat_le, ⊎_elim}
+use Rattle.std.proofs.Common.{◌≡◌, ℕ, suc, ◌+◌, ◌<◌, ◌≤◌, true, false, List, [], ◌∷◌, ◌++◌, length, inl, inr, refl, sym, ap, subst, arith}
+use Rattle.std.proofs.Common.{nat_eq, nat_le, ⊎_elim}
 use Rattle.std.specs.Cmp.{nat_eq_equiv}
 use Rattle.std.specs.List.{AllByRecursion, IsDistinct, list_any}
 use Rattle.std.specs.Set.{distinct_count, unique_keys}
@@ -27,9 +27,11 @@ rises_above n (m ∷ more) rises =
 rises_distinct : (n : ℕ) (more : List ℕ) → Rises n more → IsDistinct nat_eq more
 unfolding IsDistinct
 rises_distinct n [] rises = tt
-rises_distinct n (m ∷ more) rises =
-    (all_weaker (λ k. m < k) (λ k. nat_eq m k ≡ false) (λ k lt. ne_eqb m k (λ same. omega (arith, lt, same))) more
-        (rises_above m more rises.1), rises_distinct m more rises.1)
+rises_distinct n (m ∷ more) rises = (
+  all_weaker (λ k. m < k) (λ k. nat_eq m k ≡ false) (λ k lt. ne_eqb m k (λ same. omega (arith, lt, same))) more
+      (rises_above m more rises.1),
+  rises_distinct m more rises.1,
+)
 
 ends_rise : (legs : List (List PvRun)) (at : ℕ) (parts : List Part) → AgreeFrom legs at parts → Rises at (ends_of at parts)
 ends_rise legs at [] agree = tt
@@ -49,7 +51,7 @@ in_any : (n : ℕ) (more : List ℕ) → list_any (nat_eq n) more ≡ true → I
 in_any n [] is = absurd (false≢true is)
 in_any n (m ∷ more) is =
     ⊎_elim (λ (here : nat_eq n m ≡ true). inl (eqb-true n m here)) (λ (later : list_any (nat_eq n) more ≡ true). inr (in_any n more later))
-        (or_cases (nat_eq n m) (list_any (nat_eq n) more) is)
+    (or_cases (nat_eq n m) (list_any (nat_eq n) more) is)
 
 any_in : (n : ℕ) (more : List ℕ) → In n more → list_any (nat_eq n) more ≡ true
 any_in n [] is = absurd is
@@ -61,7 +63,7 @@ in_unique n [] is = is
 in_unique n (m ∷ more) is =
     cond_both (list_any (nat_eq m) more) _ _ (In n)
     (λ again. in_unique n more (⊎_elim (λ (here : n ≡ m). subst (λ k. In k more) (sym here) (in_any m more again))
-        (λ (later : In n more). later) is))
+    (λ (later : In n more). later) is))
     (λ new. ⊎_elim (λ (here : n ≡ m). inl here) (λ (later : In n more). inr (in_unique n more later)) is)
 
 -- parts whose ends are all among these are no more than these
@@ -70,7 +72,7 @@ pub counted : (legs : List (List PvRun)) (parts : List Part) (ends : List ℕ) �
 counted legs parts ends agree among =
     let few : length (ends_of 0 parts) ≤ length (unique_keys nat_eq ends) =
     length-le_from_is_member nat_eq_equiv (ends_of 0 parts) (unique_keys nat_eq ends)
-        (rises_distinct 0 (ends_of 0 parts) (ends_rise legs 0 parts agree))
+    (rises_distinct 0 (ends_of 0 parts) (ends_rise legs 0 parts agree))
     (λ n member. any_in n (unique_keys nat_eq ends) (in_unique n ends (among n (in_any n (ends_of 0 parts) member)))) in
     omega (arith, few, ends_count 0 parts)
 
@@ -86,17 +88,17 @@ last_end at extents [] lt enough = absurd (omega (arith, lt, enough))
 last_end at extents (run ∷ runs) lt enough =
     cond_both (nat_le extents (at + run.count)) _ _ (In extents) (λ is. inl refl)
     (λ isnt. inr (last_end (at + run.count) extents runs (leb-false extents (at + run.count) isnt)
-        (omega (arith, enough, total_cons run runs))))
+    (omega (arith, enough, total_cons run runs))))
 
 pub stop_end : (at extents n : ℕ) (runs : List PvRun) → In n (stops at runs) → n < extents → In n (ends_from at extents (counts_of runs))
 stop_end at extents n [] is lt = absurd is
 stop_end at extents n (run ∷ runs) (inl here) lt =
     cond_both (nat_le extents (at + run.count)) _ _ (In n) (λ is. absurd (omega (arith, here, lt, leb-true extents (at + run.count) is)))
-        (λ isnt. inl here)
+    (λ isnt. inl here)
 stop_end at extents n (run ∷ runs) (inr later) lt =
     cond_both (nat_le extents (at + run.count)) _ _ (In n)
-        (λ is. absurd (omega (arith, lt, leb-true extents (at + run.count) is, stops_after (at + run.count) n runs later)))
-        (λ isnt. inr (stop_end (at + run.count) extents n runs later lt))
+    (λ is. absurd (omega (arith, lt, leb-true extents (at + run.count) is, stops_after (at + run.count) n runs later)))
+    (λ isnt. inr (stop_end (at + run.count) extents n runs later lt))
 
 pub in_left : (n : ℕ) (a b : List ℕ) → In n a → In n (a ++ b)
 in_left n [] b is = absurd is

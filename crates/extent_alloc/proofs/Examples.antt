@@ -24,9 +24,18 @@ use Rattle.extent_alloc.specs.declared.request.Request.{Request}
 
 -- a physical volume of so many extents
 abbrev pv : ℕ → ℕ → Bool → Bool → List ℕ × Pv
-pv id extents allocatable missing =
-    (id ∷ [], record { id = id ∷ []; device = []; allocatable = allocatable; missing = missing; dev_size = 0; pe_start = 2048;
-        pe_count = extents })
+pv id extents allocatable missing = (
+  id ∷ [],
+  record {
+    id = id ∷ [];
+    device = [];
+    allocatable = allocatable;
+    missing = missing;
+    dev_size = 0;
+    pe_start = 2048;
+    pe_count = extents;
+  },
+)
 
 -- a logical volume of one segment
 abbrev lv : ℕ → Bool → Segment → List ℕ × Lv

@@ -1,9 +1,9 @@
 -- So many extents lie in no fewer pieces than the longest runs take.
-use Rattle.std.proofs.Common.{◌≡◌, ℕ, zero, suc, ◌+◌, ◌-◌, ◌<◌, ◌≤◌, ◌⊎◌, Bool, true, false, not, ◌&&◌, List, [], ◌∷◌, length, cond,
-    if◌then◌else◌, inl, inr, refl, sym, ap, ◌∙◌, arith, nat_eq, nat_le, nat_lt, ⊎_elim}
+use Rattle.std.proofs.Common.{◌≡◌, ℕ, zero, suc, ◌+◌, ◌-◌, ◌<◌, ◌≤◌, ◌⊎◌, Bool, true, false, not, ◌&&◌, List, [], ◌∷◌, length, cond}
+use Rattle.std.proofs.Common.{if◌then◌else◌, inl, inr, refl, sym, ap, ◌∙◌, arith, nat_eq, nat_le, nat_lt, ⊎_elim}
 use Rattle.std.specs.List.{AllByRecursion, filter}
-use Rattle.std.proofs.lemmas.Bool.{and_from, and_parts, cases_Bool, cases_lt, cond-false, cond-true, cond_both, eqb-true, eq-eqb,
-    false≢true, le-leb, leb-true, lt-ltb, le-ltb, ltb-true, ne_eqb, not_from_true}
+use Rattle.std.proofs.lemmas.Bool.{and_from, and_parts, cases_Bool, cases_lt, cond-false, cond-true, cond_both, eqb-true, eq-eqb}
+use Rattle.std.proofs.lemmas.Bool.{false≢true, le-leb, leb-true, lt-ltb, le-ltb, ltb-true, ne_eqb, not_from_true}
 use Rattle.std.proofs.lemmas.List.Sums.{sum_by-cons}
 use Rattle.extent_alloc.specs.Free.{total}
 use Rattle.extent_alloc.specs.Giving.{LieApart}
@@ -23,13 +23,13 @@ needed_none (run ∷ runs) = refl
 pub needed_one : (left : ℕ) (run : PvRun) (runs : List PvRun) → 1 ≤ left → left < run.count → needed left (run ∷ runs) ≡ 1
 needed_one left run runs some less =
     cond-false (nat_eq left 0) _ _ (ne_eqb left 0 (λ none. omega (arith, none, some)))
-        ∙ cond-true (nat_lt left run.count) _ _ (lt-ltb left run.count less)
+    ∙ cond-true (nat_lt left run.count) _ _ (lt-ltb left run.count less)
 
 pub needed_more : (left : ℕ) (run : PvRun) (runs : List PvRun) → 1 ≤ left → run.count ≤ left
     → needed left (run ∷ runs) ≡ suc (needed (left - run.count) runs)
 needed_more left run runs some more =
     cond-false (nat_eq left 0) _ _ (ne_eqb left 0 (λ none. omega (arith, none, some)))
-        ∙ cond-false (nat_lt left run.count) _ _ (le-ltb left run.count more)
+    ∙ cond-false (nat_lt left run.count) _ _ (le-ltb left run.count more)
 
 -- fewer extents take no more runs
 needed_grows : (less more : ℕ) (runs : List PvRun) → less ≤ more → needed less runs ≤ needed more runs
@@ -45,8 +45,12 @@ needed_grows (suc n) more (run ∷ runs) le =
           ]
       | inr long ↦
           let rest = needed_grows (suc n - run.count) (more - run.count) runs (omega (arith, le, long)) in
-          omega (arith, rest, needed_more (suc n) run runs (omega arith) long,
-              needed_more more run runs (omega (arith, le)) (omega (arith, le, long)))
+          omega (
+            arith,
+            rest,
+            needed_more (suc n) run runs (omega arith) long,
+            needed_more more run runs (omega (arith, le)) (omega (arith, le, long)),
+          )
     ]
 
 some_needed : (left : ℕ) (runs : List PvRun) → 1 ≤ left → 1 ≤ needed left runs
@@ -75,12 +79,18 @@ front_helps (suc n) run (next ∷ runs) some longest =
           let left : ℕ = suc n - run.count in
           let rest : needed left (next ∷ runs) ≤ needed (suc n - next.count) runs =
           elim (cases_lt left 1) [
-            | inl none ↦ omega (arith, ap (λ k. needed k (next ∷ runs)) (let e : left ≡ 0 = omega (arith, none) in e),
-                needed_none (next ∷ runs))
+            | inl none ↦ omega (
+              arith,
+              ap (λ k. needed k (next ∷ runs)) (let e : left ≡ 0 = omega (arith, none) in e),
+              needed_none (next ∷ runs),
+            )
             | inr more ↦
                 elim (cases_lt left next.count) [
-                  | inl short ↦ omega (arith, needed_one left next runs more short,
-                      some_needed (suc n - next.count) runs (omega (arith, more, longest.0, long)))
+                  | inl short ↦ omega (
+                    arith,
+                    needed_one left next runs more short,
+                    some_needed (suc n - next.count) runs (omega (arith, more, longest.0, long)),
+                  )
                   | inr on ↦
                       omega (
                         arith,
@@ -128,7 +138,7 @@ has_true : (extent : ℕ) (run : PvRun) → has extent run ≡ true → (run.fir
 unfolding has
 has_true extent run is =
     let both = and_parts (nat_le run.first extent) (nat_lt extent (run.first + run.count))
-        is in (leb-true run.first extent both.0, ltb-true extent (run.first + run.count) both.1)
+    is in (leb-true run.first extent both.0, ltb-true extent (run.first + run.count) both.1)
 
 abbrev one_if : Bool → ℕ
 one_if b = cond b 1 0
@@ -233,17 +243,19 @@ fits_true : (run piece : PvRun) → fits run piece ≡ true → LiesWithin run p
 unfolding fits
 fits_true run piece is =
     let pv =
-        and_parts (nat_eq piece.pv run.pv) (nat_le run.first piece.first && nat_le (piece.first + piece.count) (run.first + run.count))
-            is in
-    let ends = and_parts (nat_le run.first piece.first) (nat_le (piece.first + piece.count) (run.first + run.count)) pv.1 in
-    (eqb-true piece.pv run.pv pv.0, leb-true run.first piece.first ends.0,
-        leb-true (piece.first + piece.count) (run.first + run.count) ends.1)
+    and_parts (nat_eq piece.pv run.pv) (nat_le run.first piece.first && nat_le (piece.first + piece.count) (run.first + run.count))
+    is in
+    let ends = and_parts (nat_le run.first piece.first) (nat_le (piece.first + piece.count) (run.first + run.count)) pv.1 in (
+      eqb-true piece.pv run.pv pv.0,
+      leb-true run.first piece.first ends.0,
+      leb-true (piece.first + piece.count) (run.first + run.count) ends.1,
+    )
 
 fits_from : (run piece : PvRun) → LiesWithin run piece → fits run piece ≡ true
 unfolding fits
 fits_from run piece within =
     and_from _ _ (eq-eqb piece.pv run.pv within.0)
-        (and_from _ _ (le-leb run.first piece.first within.1) (le-leb (piece.first + piece.count) (run.first + run.count) within.2))
+    (and_from _ _ (le-leb run.first piece.first within.1) (le-leb (piece.first + piece.count) (run.first + run.count) within.2))
 
 abbrev inside : PvRun → List PvRun → List PvRun
 inside run pieces = filter (fits run) pieces
@@ -256,7 +268,7 @@ split_length run [] = refl
 split_length run (piece ∷ pieces) =
     let rest = split_length run pieces in
     elim (fits run piece) as (λ b. length (cond b (piece ∷ inside run pieces) (inside run pieces))
-        + length (cond (not b) (piece ∷ outside run pieces) (outside run pieces)) ≡ suc (length pieces)) [
+    + length (cond (not b) (piece ∷ outside run pieces) (outside run pieces)) ≡ suc (length pieces)) [
       | true ↦ omega (arith, rest)
       | false ↦ omega (arith, rest)
     ]
@@ -267,7 +279,7 @@ split_total run (piece ∷ pieces) =
     let rest = split_total run pieces in
     let all = sum_by-cons (λ (r : PvRun). r.count) piece pieces in
     elim (fits run piece) as (λ b. total (cond b (piece ∷ inside run pieces) (inside run pieces))
-        + total (cond (not b) (piece ∷ outside run pieces) (outside run pieces)) ≡ total (piece ∷ pieces)) [
+    + total (cond (not b) (piece ∷ outside run pieces) (outside run pieces)) ≡ total (piece ∷ pieces)) [
       | true ↦ omega (arith, rest, all, sum_by-cons (λ (r : PvRun). r.count) piece (inside run pieces))
       | false ↦ omega (arith, rest, all, sum_by-cons (λ (r : PvRun). r.count) piece (outside run pieces))
     ]
@@ -276,16 +288,19 @@ inside_lie : (run : PvRun) (pieces : List PvRun) → AllByRecursion (LiesWithin 
 inside_lie run [] = tt
 inside_lie run (piece ∷ pieces) =
     cond_both (fits run piece) _ _ (AllByRecursion (LiesWithin run)) (λ is. (fits_true run piece is, inside_lie run pieces))
-        (λ is. inside_lie run pieces)
+    (λ is. inside_lie run pieces)
 
 outside_lie : (run : PvRun) (runs pieces : List PvRun) → AllByRecursion (LiesInOne (run ∷ runs)) pieces
     → AllByRecursion (LiesInOne runs) (outside run pieces)
 outside_lie run runs [] lie = tt
 outside_lie run runs (piece ∷ pieces) lie =
     cond_both (not (fits run piece)) _ _ (AllByRecursion (LiesInOne runs))
-    (λ is. (⊎_elim (λ (here : LiesWithin run piece). absurd
-        (false≢true (sym (not_from_true (fits run piece) (fits_from run piece here)) ∙ is))) (λ (later : LiesInOne runs piece). later)
-        lie.0, outside_lie run runs pieces lie.1))
+    (λ is. (
+      ⊎_elim (λ (here : LiesWithin run piece). absurd
+          (false≢true (sym (not_from_true (fits run piece) (fits_from run piece here)) ∙ is))) (λ (later : LiesInOne runs piece). later)
+          lie.0,
+      outside_lie run runs pieces lie.1,
+    ))
     (λ is. outside_lie run runs pieces lie.1)
 
 none_total : (runs : List PvRun) → length runs ≡ 0 → total runs ≡ 0
@@ -307,14 +322,20 @@ fewest (run ∷ runs) pieces order some apart lie =
     let totals = split_total run pieces in
     let within = total_within run (inside run pieces) (pairs_filter LieApart (fits run) pieces apart) (inside_lie run pieces) in
     let rest =
-        fewest runs (outside run pieces) order.1 some.1 (pairs_filter LieApart (λ piece. not (fits run piece)) pieces apart)
-            (outside_lie run runs pieces lie) in
+    fewest runs (outside run pieces) order.1 some.1 (pairs_filter LieApart (λ piece. not (fits run piece)) pieces apart)
+    (outside_lie run runs pieces lie) in
     elim (cases_lt (length (inside run pieces)) 1) [
       | inl none ↦
           let all : total (outside run pieces) ≡ total pieces =
-              omega (arith, totals, none_total (inside run pieces) (omega (arith, none))) in
+          omega (arith, totals, none_total (inside run pieces) (omega (arith, none))) in
           omega (arith, lengths, rest, ap (λ n. needed n runs) all, front_helps (total pieces) run runs some.0 order.0)
       | inr one ↦
-          omega (arith, lengths, rest, needed_step (total pieces) run runs,
-              needed_grows (total pieces - run.count) (total (outside run pieces)) runs (omega (arith, totals, within)), one)
+          omega (
+            arith,
+            lengths,
+            rest,
+            needed_step (total pieces) run runs,
+            needed_grows (total pieces - run.count) (total (outside run pieces)) runs (omega (arith, totals, within)),
+            one,
+          )
     ]

@@ -1,6 +1,6 @@
 -- The free runs of a physical volume are those that are made extent by extent.
-use Rattle.std.proofs.Common.{◌≡◌, ℕ, zero, suc, ◌+◌, ◌<◌, ◌≤◌, true, false, List, [], ◌∷◌, length, get_or, Some, inl, inr, sym, ap, subst,
-    ◌∙◌, arith, ⊎_elim}
+use Rattle.std.proofs.Common.{◌≡◌, ℕ, zero, suc, ◌+◌, ◌<◌, ◌≤◌, true, false, List, [], ◌∷◌, length, get_or, Some, inl, inr, sym, ap, subst}
+use Rattle.std.proofs.Common.{◌∙◌, arith, ⊎_elim}
 use Rattle.std.specs.Prelude.{All, option_map, slice_get, unwrap_or}
 use Rattle.std.specs.List.{AllAdjacentBelow, list_any}
 use Rattle.std.proofs.lemmas.Bool.{cases_Bool, false≢true}
@@ -34,9 +34,12 @@ lies_to (run ∷ runs) extent (inr later) =
 begin_of : (at : ℕ) (run : ExtentRun) (runs : List ExtentRun) → at ≤ run.first → All (λ (r : ExtentRun). 1 ≤ r.count) (run ∷ runs)
     → AllAdjacentBelow (λ (a b : ExtentRun). a.first + a.count < b.first) (run ∷ runs) (length (run ∷ runs)) → Begin at (run ∷ runs)
 begin_of at run [] low some apart = (low, some zero run (omega arith), tt)
-begin_of at run (next ∷ runs) low some apart =
-    (low, some zero run (omega arith), begin_of (run.first + run.count + 1) next runs behind
-        (All-tail (λ (r : ExtentRun). 1 ≤ r.count) run (next ∷ runs) some) later)
+begin_of at run (next ∷ runs) low some apart = (
+  low,
+  some zero run (omega arith),
+  begin_of (run.first + run.count + 1) next runs behind
+      (All-tail (λ (r : ExtentRun). 1 ≤ r.count) run (next ∷ runs) some) later,
+)
   where
     behind : run.first + run.count + 1 ≤ next.first
     behind = let near : run.first + run.count < next.first = apart zero run (omega arith) in omega arith
@@ -45,7 +48,7 @@ begin_of at run (next ∷ runs) low some apart =
     later k d lt =
         let here : suc k + 1 ≡ suc (k + 1) = omega arith in
         let P : ℕ → Type 0 =
-            λ n. (get_or (next ∷ runs) k d).first + (get_or (next ∷ runs) k d).count < (get_or (run ∷ next ∷ runs) n d).first in
+        λ n. (get_or (next ∷ runs) k d).first + (get_or (next ∷ runs) k d).count < (get_or (run ∷ next ∷ runs) n d).first in
         subst P here (apart (suc k) d (omega arith))
 
 begin_from : (group : Group) (pv : ℕ) (runs : List ExtentRun) → AreFreeRuns group pv runs → Begin 0 runs
@@ -61,16 +64,17 @@ free_lies group pv extent free =
     lies_unused (λ e. list_any (is_in e) (lvs_on pv group.lvs)) 0 (all_extents group pv) extent (omega arith)
     (omega (arith, free.0.2, all_of group pv free.0.0 free.0.1))
     (⊎_elim (λ (used : list_any (is_in extent) (lvs_on pv group.lvs) ≡ true). absurd
-        (free.1 (used_where_covered group pv extent (cover_from extent (lvs_on pv group.lvs) used))))
-        (λ (free : list_any (is_in extent) (lvs_on pv group.lvs) ≡ false). free)
+    (free.1 (used_where_covered group pv extent (cover_from extent (lvs_on pv group.lvs) used))))
+    (λ (free : list_any (is_in extent) (lvs_on pv group.lvs) ≡ false). free)
     (cases_Bool (list_any (is_in extent) (lvs_on pv group.lvs))))
 
 pub lies_free : (group : Group) (pv extent : ℕ) (row : List ℕ × Pv) → slice_get group.pvs pv ≡ Some row → Lies (free_in group pv) extent
     → IsFree group pv extent
 lies_free group pv extent row is lies =
-    let all = unused_has (λ e. list_any (is_in e) (lvs_on pv group.lvs)) 0 (all_extents group pv) extent lies in
-    ((row, is, omega (arith, all.1, all_of group pv row is)),
-        λ used. false≢true (sym all.2 ∙ cover_found extent (lvs_on pv group.lvs) (covered_where_used group pv extent used)))
+    let all = unused_has (λ e. list_any (is_in e) (lvs_on pv group.lvs)) 0 (all_extents group pv) extent lies in (
+      (row, is, omega (arith, all.1, all_of group pv row is)),
+      λ used. false≢true (sym all.2 ∙ cover_found extent (lvs_on pv group.lvs) (covered_where_used group pv extent used)),
+    )
 
 pub free_begin : (group : Group) (pv : ℕ) → Begin 0 (free_in group pv)
 free_begin group pv = unused_begin (λ e. list_any (is_in e) (lvs_on pv group.lvs)) 0 (all_extents group pv)

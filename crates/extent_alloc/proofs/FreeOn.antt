@@ -1,6 +1,6 @@
 -- The free runs of several volumes: each lies on one of these, its extents are free, and they lie apart.
-use Rattle.std.proofs.Common.{◌≡◌, ℕ, zero, suc, ◌+◌, ◌-◌, ◌*◌, ◌<◌, ◌≤◌, ◌^◌, ◌≢◌, Bool, true, List, [], ◌∷◌, length, Some, inl, inr, refl,
-    sym, ◌∙◌, arith, sum_by, ⊎_elim}
+use Rattle.std.proofs.Common.{◌≡◌, ℕ, zero, suc, ◌+◌, ◌-◌, ◌*◌, ◌<◌, ◌≤◌, ◌^◌, ◌≢◌, Bool, true, List, [], ◌∷◌, length, Some, inl, inr, refl}
+use Rattle.std.proofs.Common.{sym, ◌∙◌, arith, sum_by, ⊎_elim}
 use Rattle.std.specs.Prelude.{All, slice_get}
 use Rattle.std.specs.List.{AllByRecursion, filter, list_any, range_with_len}
 use Rattle.std.proofs.lemmas.Bool.{cond_both}
@@ -43,7 +43,7 @@ runs_are_free group pv at (run ∷ runs) small begin free = (
       some = begin.1;
       small =
           let last : run.first + (run.count - 1) < 2 ^ 48 =
-              small (run.first + (run.count - 1)) (free (run.first + (run.count - 1)) (inl (omega arith, omega (arith, begin.1)))) in
+          small (run.first + (run.count - 1)) (free (run.first + (run.count - 1)) (inl (omega arith, omega (arith, begin.1)))) in
           omega (arith, begin.1);
       free = λ extent low high. free extent (inl (low, high));
     },
@@ -53,9 +53,11 @@ runs_are_free group pv at (run ∷ runs) small begin free = (
 
 begin_on : (pv at : ℕ) (runs : List ExtentRun) → Begin at runs → AllByRecursion (λ (run : PvRun). at ≤ run.first) (runs_on pv runs)
 begin_on pv at [] begin = tt
-begin_on pv at (run ∷ runs) begin =
-    (begin.0, all_weaker (λ (r : PvRun). run.first + run.count + 1 ≤ r.first) (λ (r : PvRun). at ≤ r.first)
-        (λ r le. omega (arith, le, begin.0)) (runs_on pv runs) (begin_on pv (run.first + run.count + 1) runs begin.2))
+begin_on pv at (run ∷ runs) begin = (
+  begin.0,
+  all_weaker (λ (r : PvRun). run.first + run.count + 1 ≤ r.first) (λ (r : PvRun). at ≤ r.first)
+      (λ r le. omega (arith, le, begin.0)) (runs_on pv runs) (begin_on pv (run.first + run.count + 1) runs begin.2),
+)
 
 runs_apart : (pv at : ℕ) (runs : List ExtentRun) → Begin at runs → Pairs LieApart (runs_on pv runs)
 runs_apart pv at [] begin = tt
@@ -86,7 +88,7 @@ free_on_free group [] accepted stand = tt
 free_on_free group (pv ∷ pvs) accepted stand =
     all_append (IsFreeRun group) (free_at group pv) (free_on group pvs)
     (all_weaker (λ run. (run.pv ≡ pv) × IsFreeRun group run) (IsFreeRun group) (λ run both. both.1) (free_at group pv)
-        (free_at_free group pv stand.0.0 accepted stand.0.1))
+    (free_at_free group pv stand.0.0 accepted stand.0.1))
     (free_on_free group pvs accepted stand.1)
 
 -- what holds of the volumes holds of those that the runs lie on
@@ -99,7 +101,7 @@ pub on_volumes : (P : ℕ → Type 0) (group : Group) (pvs : List ℕ) → AllBy
 on_volumes P group [] all = tt
 on_volumes P group (pv ∷ pvs) all =
     all_append (λ (run : PvRun). P run.pv) (free_at group pv) (free_on group pvs) (at_volume P pv (free_in group pv) all.0)
-        (on_volumes P group pvs all.1)
+    (on_volumes P group pvs all.1)
 
 pub free_on_apart : (group : Group) (pvs : List ℕ) → Pairs (λ (a b : ℕ). a ≢ b) pvs → Pairs LieApart (free_on group pvs)
 free_on_apart group [] differ = tt
@@ -108,7 +110,7 @@ free_on_apart group (pv ∷ pvs) differ =
     (all_weaker (λ (run : PvRun). run.pv ≡ pv) (λ run. AllByRecursion (LieApart run) (free_on group pvs))
     (λ run on.
     all_weaker (λ (other : PvRun). pv ≢ other.pv) (LieApart run) (λ other apart at extent a b. apart (sym on ∙ a.0 ∙ sym b.0))
-        (free_on group pvs) (on_volumes (λ (n : ℕ). pv ≢ n) group pvs differ.0))
+    (free_on group pvs) (on_volumes (λ (n : ℕ). pv ≢ n) group pvs differ.0))
     (free_at group pv) (at_volume (λ (n : ℕ). n ≡ pv) pv (free_in group pv) refl))
 
 -- the volumes that may be used
@@ -120,7 +122,7 @@ usable_from group want from (suc count) =
     let Usable : ℕ → Type 0 = λ pv. (from ≤ pv) × (pv < from + suc count) × (is_usable group want pv ≡ true) in
     let rest : AllByRecursion Usable (filter (is_usable group want) (range_with_len (from + 1) count)) =
     all_weaker (λ pv. (from + 1 ≤ pv) × (pv < from + 1 + count) × (is_usable group want pv ≡ true)) Usable
-        (λ pv all. (omega (arith, all.0), omega (arith, all.1), all.2))
+    (λ pv all. (omega (arith, all.0), omega (arith, all.1), all.2))
     (filter (is_usable group want) (range_with_len (from + 1) count)) (usable_from group want (from + 1) count) in
     cond_both (is_usable group want from) _ _ (AllByRecursion Usable) (λ is. ((omega arith, omega arith, is), rest)) (λ is. rest)
 
@@ -145,7 +147,7 @@ pub usable_are : (group : Group) (want : Request)
     → AllByRecursion (λ pv. (pv < length group.pvs) × (is_usable group want pv ≡ true)) (usable_pvs group want)
 usable_are group want =
     all_weaker (λ pv. (0 ≤ pv) × (pv < 0 + length group.pvs) × (is_usable group want pv ≡ true))
-        (λ pv. (pv < length group.pvs) × (is_usable group want pv ≡ true)) (λ pv all. (omega (arith, all.1), all.2))
+    (λ pv. (pv < length group.pvs) × (is_usable group want pv ≡ true)) (λ pv all. (omega (arith, all.1), all.2))
     (usable_pvs group want) (usable_from group want 0 (length group.pvs))
 
 -- a number below the count is that of a volume
@@ -166,8 +168,12 @@ total_on : (pv : ℕ) (runs : List ExtentRun) → total (runs_on pv runs) ≡ su
 total_on pv [] = refl
 total_on pv (run ∷ runs) =
     let rest = total_on pv runs in
-    omega (arith, rest, sum_by-cons (λ (r : ExtentRun). r.count) run runs,
-        sum_by-cons (λ (r : PvRun). r.count) (record { pv = pv; first = run.first; count = run.count }) (runs_on pv runs))
+    omega (
+      arith,
+      rest,
+      sum_by-cons (λ (r : ExtentRun). r.count) run runs,
+      sum_by-cons (λ (r : PvRun). r.count) (record { pv = pv; first = run.first; count = run.count }) (runs_on pv runs),
+    )
 
 pub free_at_few : (group : Group) (pv : ℕ) → IsAccepted group → pv < length group.pvs → total (free_at group pv) < 2 ^ 48
 free_at_few group pv accepted lt =
@@ -179,8 +185,12 @@ pub free_on_few : (group : Group) (pvs : List ℕ) → IsAccepted group → AllB
     → total (free_on group pvs) ≤ length pvs * 2 ^ 48
 free_on_few group [] accepted below = omega arith
 free_on_few group (pv ∷ pvs) accepted below =
-    omega (arith, free_at_few group pv accepted below.0, free_on_few group pvs accepted below.1,
-        sum_by-append (λ (r : PvRun). r.count) (free_at group pv) (free_on group pvs))
+    omega (
+      arith,
+      free_at_few group pv accepted below.0,
+      free_on_few group pvs accepted below.1,
+      sum_by-append (λ (r : PvRun). r.count) (free_at group pv) (free_on group pvs),
+    )
 
 kept_few : (p : ℕ → Bool) (from count : ℕ) → length (filter p (range_with_len from count)) ≤ count
 kept_few p from zero = omega arith
@@ -195,11 +205,11 @@ pub usable_below : (group : Group) (want : Request) → All (λ pv. pv < length 
 usable_below group want =
     All-from_recursion (λ pv. pv < length group.pvs) (usable_pvs group want)
     (all_weaker (λ pv. (pv < length group.pvs) × (is_usable group want pv ≡ true)) (λ pv. pv < length group.pvs) (λ pv h. h.0)
-        (usable_pvs group want) (usable_are group want))
+    (usable_pvs group want) (usable_are group want))
 
 pub usable_total : (group : Group) (want : Request) → IsAccepted group → total (free_on group (usable_pvs group want)) < 2 ^ 64
 usable_total group want accepted =
     let few =
-        free_on_few group (usable_pvs group want) accepted
-            (recursion_from_All (λ pv. pv < length group.pvs) (usable_pvs group want) (usable_below group want)) in
+    free_on_few group (usable_pvs group want) accepted
+    (recursion_from_All (λ pv. pv < length group.pvs) (usable_pvs group want) (usable_below group want)) in
     omega (arith, few, usable_few group want, (accepted Volumes).pvs.1)

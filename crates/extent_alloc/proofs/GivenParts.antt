@@ -1,6 +1,6 @@
 -- Parts that agree with legs are given, where the legs lie where the request may have them.
-use Rattle.std.proofs.Common.{◌≡◌, ℕ, suc, ◌+◌, ◌-◌, ◌<◌, ◌≤◌, ◌≢◌, ◌⊎◌, List, [], ◌∷◌, length, map, inl, inr, refl, sym, ap, ap₂, subst,
-    ◌∙◌, arith, IsTrue}
+use Rattle.std.proofs.Common.{◌≡◌, ℕ, suc, ◌+◌, ◌-◌, ◌<◌, ◌≤◌, ◌≢◌, ◌⊎◌, List, [], ◌∷◌, length, map, inl, inr, refl, sym, ap, ap₂, subst}
+use Rattle.std.proofs.Common.{◌∙◌, arith, IsTrue}
 use Rattle.std.specs.Prelude.{All, AllPairs}
 use Rattle.std.specs.List.{AllByRecursion}
 use Rattle.std.proofs.lemmas.List.{length-map}
@@ -88,7 +88,7 @@ along_given group want extents from leg run is some within along = (
       let n : ℕ = extent - run.first in
       subst (λ k. IsFree group run.pv k) (let e : run.first + n ≡ extent = omega (arith, low) in e)
       (subst (λ (s : ℕ × ℕ). IsFree group s.0 s.1) (along n (omega (arith, low, high)))
-          (is.fine (from + n) (omega (arith, low, high, within))).1),
+      (is.fine (from + n) (omega (arith, low, high, within))).1),
 )
 
 all_given : (group : Group) (want : Request) (extents from count : ℕ) (runs : List PvRun) (legs : List (List PvRun))
@@ -96,9 +96,10 @@ all_given : (group : Group) (want : Request) (extents from count : ℕ) (runs : 
     → 1 ≤ count → from + count ≤ extents → AllAlong from runs legs → AllByRecursion (MayBeGiven group want) runs
 all_given group want extents from count [] legs are same some within along = tt
 all_given group want extents from count (run ∷ runs) [] are same some within along = absurd along
-all_given group want extents from count (run ∷ runs) (leg ∷ legs) are same some within along =
-    (along_given group want extents from leg run are.0 (omega (arith, some, same.0)) (omega (arith, within, same.0)) along.0,
-        all_given group want extents from count runs legs are.1 same.1 some within along.1)
+all_given group want extents from count (run ∷ runs) (leg ∷ legs) are same some within along = (
+  along_given group want extents from leg run are.0 (omega (arith, some, same.0)) (omega (arith, within, same.0)) along.0,
+  all_given group want extents from count runs legs are.1 same.1 some within along.1,
+)
 
 -- the run lies along one of the legs, from this extent on or later, and ends before that one
 record LiesPast (until : ℕ) (legs : List (List PvRun)) (at : ℕ) (run : PvRun) : Type 0 where
@@ -117,8 +118,14 @@ past_more extents l legs at run past =
 past_earlier : (extents : ℕ) (legs : List (List PvRun)) (at later : ℕ) (run : PvRun) → at ≤ later → LiesPast extents legs later run
     → LiesPast extents legs at run
 past_earlier extents legs at later run le past =
-    record { leg = past.leg; one = past.one; from = past.from; later = omega (arith, le, past.later); within = past.within;
-        along = past.along }
+    record {
+      leg = past.leg;
+      one = past.one;
+      from = past.from;
+      later = omega (arith, le, past.later);
+      within = past.within;
+      along = past.along;
+    }
 
 along_past : (extents from count : ℕ) (runs : List PvRun) (legs : List (List PvRun))
     → AllByRecursion (λ (run : PvRun). run.count ≡ count) runs → from + count ≤ extents → AllAlong from runs legs
@@ -136,7 +143,7 @@ spot_in : (leg : List PvRun) (from : ℕ) (run : PvRun) (pv extent : ℕ) → Al
     → spot leg (from + (extent - run.first)) ≡ (pv, extent)
 spot_in leg from run pv extent along at =
     along (extent - run.first) (omega (arith, at.1, at.2)) ∙ ap (λ (p : ℕ). (p, run.first + (extent - run.first))) at.0
-        ∙ ap (λ (e : ℕ). (pv, e)) (let e : run.first + (extent - run.first) ≡ extent = omega (arith, at.1) in e)
+    ∙ ap (λ (e : ℕ). (pv, e)) (let e : run.first + (extent - run.first) ≡ extent = omega (arith, at.1) in e)
 
 legs_apart : (extents from count : ℕ) (runs : List PvRun) (legs : List (List PvRun)) → Pairs (NeverMeet extents) legs
     → AllByRecursion (λ (run : PvRun). run.count ≡ count) runs → from + count ≤ extents → AllAlong from runs legs → Pairs LieApart runs
@@ -178,44 +185,44 @@ part_along : (legs : List (List PvRun)) (from : ℕ) (part : Part) → 1 ≤ par
 part_along legs from part some agrees = all_along from part.extents part.runs legs some agrees
 
 module _ (group : Group) (want : Request) (extents : ℕ) (legs : List (List PvRun)) (are : AllByRecursion (IsLeg group want extents) legs)
-    where
-  parts_given : (from : ℕ) (parts : List Part) → AgreeFrom legs from parts → from + extents_in parts ≤ extents
-      → AllByRecursion (MayBeGiven group want) (covered parts)
-  parts_given from [] agree within = tt
-  parts_given from (part ∷ parts) agree within =
-      all_append (MayBeGiven group want) (covered_by part) (covered parts)
-      (all_given group want extents from part.extents (covered_by part) legs are (counts_same part.extents part.runs) agree.0
-          (omega (arith, within, extents_cons part parts)) (part_along legs from part agree.0 agree.1))
-      (parts_given (from + part.extents) parts agree.2 (omega (arith, within, extents_cons part parts)))
+  where
+    parts_given : (from : ℕ) (parts : List Part) → AgreeFrom legs from parts → from + extents_in parts ≤ extents
+        → AllByRecursion (MayBeGiven group want) (covered parts)
+    parts_given from [] agree within = tt
+    parts_given from (part ∷ parts) agree within =
+        all_append (MayBeGiven group want) (covered_by part) (covered parts)
+        (all_given group want extents from part.extents (covered_by part) legs are (counts_same part.extents part.runs) agree.0
+        (omega (arith, within, extents_cons part parts)) (part_along legs from part agree.0 agree.1))
+        (parts_given (from + part.extents) parts agree.2 (omega (arith, within, extents_cons part parts)))
 
-  parts_past : (from : ℕ) (parts : List Part) → AgreeFrom legs from parts → from + extents_in parts ≤ extents
-      → AllByRecursion (LiesPast extents legs from) (covered parts)
-  parts_past from [] agree within = tt
-  parts_past from (part ∷ parts) agree within =
-      all_append (LiesPast extents legs from) (covered_by part) (covered parts)
-      (along_past extents from part.extents (covered_by part) legs (counts_same part.extents part.runs)
-          (omega (arith, within, extents_cons part parts)) (part_along legs from part agree.0 agree.1))
-      (all_weaker (LiesPast extents legs (from + part.extents)) (LiesPast extents legs from)
-          (λ run past. past_earlier extents legs from (from + part.extents) run (omega arith) past) (covered parts)
-      (parts_past (from + part.extents) parts agree.2 (omega (arith, within, extents_cons part parts))))
+    parts_past : (from : ℕ) (parts : List Part) → AgreeFrom legs from parts → from + extents_in parts ≤ extents
+        → AllByRecursion (LiesPast extents legs from) (covered parts)
+    parts_past from [] agree within = tt
+    parts_past from (part ∷ parts) agree within =
+        all_append (LiesPast extents legs from) (covered_by part) (covered parts)
+        (along_past extents from part.extents (covered_by part) legs (counts_same part.extents part.runs)
+        (omega (arith, within, extents_cons part parts)) (part_along legs from part agree.0 agree.1))
+        (all_weaker (LiesPast extents legs (from + part.extents)) (LiesPast extents legs from)
+        (λ run past. past_earlier extents legs from (from + part.extents) run (omega arith) past) (covered parts)
+        (parts_past (from + part.extents) parts agree.2 (omega (arith, within, extents_cons part parts))))
 
-  module _ (meet : Pairs (NeverMeet extents) legs) where
-    parts_apart : (from : ℕ) (parts : List Part) → AgreeFrom legs from parts → from + extents_in parts ≤ extents
-        → Pairs LieApart (covered parts)
-    parts_apart from [] agree within = tt
-    parts_apart from (part ∷ parts) agree within =
-        let next : ℕ = from + part.extents in
-        let before : next ≤ extents = omega (arith, within, extents_cons part parts) in
-        let along = part_along legs from part agree.0 agree.1 in
-        let same = counts_same part.extents part.runs in
-        pairs_append LieApart (covered_by part) (covered parts)
-            (legs_apart extents from part.extents (covered_by part) legs meet same before along)
-        (parts_apart next parts agree.2 (omega (arith, within, extents_cons part parts)))
-        (all_weaker (LiesPast next legs from) (λ a. AllByRecursion (LieApart a) (covered parts))
-        (λ a here. all_weaker (LiesPast extents legs next) (LieApart a)
-            (λ b there. past_apart group want extents legs from next a b are meet before here there) (covered parts)
-        (parts_past next parts agree.2 (omega (arith, within, extents_cons part parts))))
-        (covered_by part) (along_past next from part.extents (covered_by part) legs same (omega arith) along))
+    module _ (meet : Pairs (NeverMeet extents) legs) where
+      parts_apart : (from : ℕ) (parts : List Part) → AgreeFrom legs from parts → from + extents_in parts ≤ extents
+          → Pairs LieApart (covered parts)
+      parts_apart from [] agree within = tt
+      parts_apart from (part ∷ parts) agree within =
+          let next : ℕ = from + part.extents in
+          let before : next ≤ extents = omega (arith, within, extents_cons part parts) in
+          let along = part_along legs from part agree.0 agree.1 in
+          let same = counts_same part.extents part.runs in
+          pairs_append LieApart (covered_by part) (covered parts)
+          (legs_apart extents from part.extents (covered_by part) legs meet same before along)
+          (parts_apart next parts agree.2 (omega (arith, within, extents_cons part parts)))
+          (all_weaker (LiesPast next legs from) (λ a. AllByRecursion (LieApart a) (covered parts))
+          (λ a here. all_weaker (LiesPast extents legs next) (LieApart a)
+          (λ b there. past_apart group want extents legs from next a b are meet before here there) (covered parts)
+          (parts_past next parts agree.2 (omega (arith, within, extents_cons part parts))))
+          (covered_by part) (along_past next from part.extents (covered_by part) legs same (omega arith) along))
 
 -- a part has a run for each leg
 as_many : (from : ℕ) (runs : List PvRun) (legs : List (List PvRun)) → AllAlong from runs legs → length runs ≡ length legs
@@ -228,9 +235,12 @@ runs_for_legs : (from : ℕ) (legs : List (List PvRun)) (parts : List Part) → 
     → AllByRecursion (λ (part : Part). (1 ≤ part.extents) × (length part.runs ≡ length legs)) parts
 runs_for_legs from legs [] agree = tt
 runs_for_legs from legs (part ∷ parts) agree = (
-  (agree.0, sym (length-map part.runs (λ (run : PartRun). let r : PvRun =
-      record { pv = run.pv; first = run.first; count = part.extents } in r))
-      ∙ as_many from (covered_by part) legs (part_along legs from part agree.0 agree.1)),
+  (
+    agree.0,
+    sym (length-map part.runs (λ (run : PartRun). let r : PvRun =
+        record { pv = run.pv; first = run.first; count = part.extents } in r))
+        ∙ as_many from (covered_by part) legs (part_along legs from part agree.0 agree.1),
+  ),
   runs_for_legs (from + part.extents) legs parts agree.2,
 )
 
@@ -247,9 +257,10 @@ volumes_differ : (extents : ℕ) (leg : List PvRun) (pv : ℕ) (pvs : List ℕ) 
 volumes_differ extents leg pv [] [] on differ lie = tt
 volumes_differ extents leg pv [] (l ∷ legs) on differ lie = absurd lie
 volumes_differ extents leg pv (other ∷ pvs) [] on differ lie = absurd lie
-volumes_differ extents leg pv (other ∷ pvs) (l ∷ legs) on differ lie =
-    (λ m n low high same. differ.0 (sym (on m low) ∙ ap (λ (s : ℕ × ℕ). s.0) same ∙ lie.0 n high),
-        volumes_differ extents leg pv pvs legs on differ.1 lie.1)
+volumes_differ extents leg pv (other ∷ pvs) (l ∷ legs) on differ lie = (
+  λ m n low high same. differ.0 (sym (on m low) ∙ ap (λ (s : ℕ × ℕ). s.0) same ∙ lie.0 n high),
+  volumes_differ extents leg pv pvs legs on differ.1 lie.1,
+)
 
 pub never_meet : (extents : ℕ) (pvs : List ℕ) (legs : List (List PvRun)) → Pairs (λ (a b : ℕ). a ≢ b) pvs → LieOn extents pvs legs
     → Pairs (NeverMeet extents) legs
@@ -270,7 +281,7 @@ volumes_of extents from count (run ∷ runs) [] pvs some within lie along = absu
 volumes_of extents from count (run ∷ runs) (leg ∷ legs) [] some within lie along = absurd lie
 volumes_of extents from count (run ∷ runs) (leg ∷ legs) (pv ∷ pvs) some within lie along =
     ap₂ (λ (p : ℕ) (ps : List ℕ). p ∷ ps) (ap (λ (s : ℕ × ℕ). s.0) (sym (along.0 0 (omega (arith, some))))
-        ∙ lie.0 (from + 0) (omega (arith, some, within)))
+    ∙ lie.0 (from + 0) (omega (arith, some, within)))
     (volumes_of extents from count runs legs pvs some within lie.1 along.1)
 
 pub parts_on : (extents from : ℕ) (legs : List (List PvRun)) (pvs : List ℕ) (parts : List Part) → LieOn extents pvs legs
@@ -294,8 +305,8 @@ given_parts group want legs parts are meet many agree enough one volumes =
     record {
       legs = All-from_recursion (λ (part : Part). (1 ≤ part.extents) × (length part.runs ≡ want.legs)) parts
           (all_weaker (λ (part : Part). (1 ≤ part.extents) × (length part.runs ≡ length legs))
-              (λ (part : Part). (1 ≤ part.extents) × (length part.runs ≡ want.legs)) (λ part both. (both.0, both.1 ∙ many)) parts
-              (runs_for_legs 0 legs parts agree));
+          (λ (part : Part). (1 ≤ part.extents) × (length part.runs ≡ want.legs)) (λ part both. (both.0, both.1 ∙ many)) parts
+          (runs_for_legs 0 legs parts agree));
       free = All-from_recursion (MayBeGiven group want) (covered parts) (parts_given group want want.extents legs are 0 parts agree within);
       apart = pairs_to LieApart (covered parts) (parts_apart group want want.extents legs are meet 0 parts agree within);
       enough = enough;

@@ -1,6 +1,6 @@
 -- Parts that are cut for one more leg still agree with the legs before, and with the new one.
-use Rattle.std.proofs.Common.{◌≡◌, ℕ, suc, ◌+◌, ◌-◌, ◌<◌, ◌≤◌, ◌⊎◌, true, false, List, [], ◌∷◌, ◌++◌, length, map, cond, if◌then◌else◌, inl,
-    inr, refl, sym, ap, ap₂, subst, ◌∙◌, arith, nat_eq, nat_lt, ⊎_elim}
+use Rattle.std.proofs.Common.{◌≡◌, ℕ, suc, ◌+◌, ◌-◌, ◌<◌, ◌≤◌, ◌⊎◌, true, false, List, [], ◌∷◌, ◌++◌, length, map, cond, if◌then◌else◌, inl}
+use Rattle.std.proofs.Common.{inr, refl, sym, ap, ap₂, subst, ◌∙◌, arith, nat_eq, nat_lt, ⊎_elim}
 use Rattle.std.specs.List.{AllByRecursion}
 use Rattle.std.proofs.lemmas.Bool.{cases_lt, cond-false, cond-true, cond_both, eqb-true, eqb-false, lt-ltb, le-ltb, ltb-true, ltb-false}
 use Rattle.std.proofs.lemmas.List.{map-append}
@@ -50,16 +50,19 @@ total_cons run runs = sum_by-cons (λ (r : PvRun). r.count) run runs
 agree_append : (legs : List (List PvRun)) (from : ℕ) (a b : List Part) → AgreeFrom legs from a → AgreeFrom legs (from + extents_in a) b
     → AgreeFrom legs from (a ++ b)
 agree_append legs from [] b agree more = subst (λ n. AgreeFrom legs n b) (omega arith) more
-agree_append legs from (part ∷ a) b agree more =
-    (agree.0, agree.1, agree_append legs (from + part.extents) a b agree.2
-        (subst (λ n. AgreeFrom legs n b) (omega (arith, extents_cons part a)) more))
+agree_append legs from (part ∷ a) b agree more = (
+  agree.0,
+  agree.1,
+  agree_append legs (from + part.extents) a b agree.2
+      (subst (λ n. AgreeFrom legs n b) (omega (arith, extents_cons part a)) more),
+)
 
 -- pieces of one part
 begin_later : (n by : ℕ) (runs : List PartRun) → map (begin_at n) (all_later by runs) ≡ map (begin_at (by + n)) runs
 begin_later n by [] = refl
 begin_later n by (run ∷ runs) =
     ap₂ (λ (first : ℕ) (rest : List (ℕ × ℕ)). (run.pv, first) ∷ rest) (let e : run.first + by + n ≡ run.first + (by + n) = omega arith in e)
-        (begin_later n by runs)
+    (begin_later n by runs)
 
 piece_agrees : (legs : List (List PvRun)) (leg : List PvRun) (part : Part) (at from count : ℕ) (run : PvRun) → Agrees legs at part
     → from + count ≤ part.extents
@@ -68,7 +71,7 @@ piece_agrees : (legs : List (List PvRun)) (leg : List PvRun) (part : Part) (at f
 piece_agrees legs leg part at from count run agrees within same n lt =
     let old : map (begin_at n) (all_later from part.runs) ≡ map (λ l. spot l (at + from + n)) legs =
     begin_later n from part.runs ∙ agrees (from + n) (omega (arith, within, lt))
-        ∙ ap (λ k. map (λ l. spot l k) legs) (let e : at + (from + n) ≡ at + from + n = omega arith in e) in
+    ∙ ap (λ k. map (λ l. spot l k) legs) (let e : at + (from + n) ≡ at + from + n = omega arith in e) in
     map-append (begin_at n) (all_later from part.runs) ((record { pv = run.pv; first = run.first }) ∷ [])
     ∙ ap₂ (λ (a b : List (ℕ × ℕ)). a ++ b) old (ap (λ (s : ℕ × ℕ). s ∷ []) (sym (same n lt)))
     ∙ sym (map-append (λ l. spot l (at + from + n)) legs (leg ∷ []))
@@ -81,9 +84,12 @@ pieces_agree legs leg part at from left (run ∷ runs) agrees within some same =
     cond_both (nat_eq left 0) _ _ (AgreeFrom (legs ++ leg ∷ []) (at + from)) (λ none. tt)
     (λ more. cond_both (nat_lt left run.count) _ _ (AgreeFrom (legs ++ leg ∷ []) (at + from))
     (λ short.
-    let less = ltb-true left run.count short in
-    (omega (arith, eqb-false left 0 more), piece_agrees legs leg part at from left run agrees within
-        (λ n lt. same n lt ∙ spot_here run runs n (omega (arith, lt, less))), tt))
+    let less = ltb-true left run.count short in (
+      omega (arith, eqb-false left 0 more),
+      piece_agrees legs leg part at from left run agrees within
+          (λ n lt. same n lt ∙ spot_here run runs n (omega (arith, lt, less))),
+      tt,
+    ))
     (λ long.
     let le = ltb-false left run.count long in
     let rest : AgreeFrom (legs ++ leg ∷ []) (at + (from + run.count)) (pieces part (from + run.count) (left - run.count) runs) =
@@ -116,15 +122,15 @@ pub pieces_count : (part : Part) (from left : ℕ) (runs : List PvRun) → left 
 pieces_count part from left [] le = omega (arith, le)
 pieces_count part from left (run ∷ runs) le =
     elim (nat_eq left 0) as (λ b. nat_eq left 0 ≡ b
-        → length (cond b [] (cond (nat_lt left run.count) (piece part from left run ∷ [])
-        (piece part from run.count run ∷ pieces part (from + run.count) (left - run.count) runs)))
+    → length (cond b [] (cond (nat_lt left run.count) (piece part from left run ∷ [])
+    (piece part from run.count run ∷ pieces part (from + run.count) (left - run.count) runs)))
     ≡ cond b 0 (cond (nat_lt left run.count) 1 (suc (needed (left - run.count) runs)))) [
       | true ↦ λ is. refl
       | false ↦ λ is.
           elim (nat_lt left run.count) as (λ b. nat_lt left run.count ≡ b
-              → length (cond b (piece part from left run ∷ [])
-              (piece part from run.count run ∷ pieces part (from + run.count) (left - run.count) runs))
-              ≡ cond b 1 (suc (needed (left - run.count) runs))) [
+          → length (cond b (piece part from left run ∷ [])
+          (piece part from run.count run ∷ pieces part (from + run.count) (left - run.count) runs))
+          ≡ cond b 1 (suc (needed (left - run.count) runs))) [
             | true ↦ λ short. refl
             | false ↦ λ long. ap suc (pieces_count part (from + run.count) (left - run.count) runs
                 (omega (arith, le, total_cons run runs, ltb-false left run.count long)))
@@ -147,13 +153,13 @@ left_some left [] some = tt
 left_some left (run ∷ runs) some =
     cond_both (nat_eq left 0) _ _ Some (λ none. some)
     (λ more. cond_both (nat_lt left run.count) _ _ Some (λ short. (omega (arith, ltb-true left run.count short), some.1))
-        (λ long. left_some (left - run.count) runs some.1))
+    (λ long. left_some (left - run.count) runs some.1))
 
 left_spot : (left n : ℕ) (runs : List PvRun) → left ≤ total runs → spot (left_of left runs) n ≡ spot runs (left + n)
 left_spot left n [] le = refl
 left_spot left n (run ∷ runs) le =
     cond_both (nat_eq left 0) _ _ (λ some. spot some n ≡ spot (run ∷ runs) (left + n))
-        (λ none. ap (spot (run ∷ runs)) (let e : n ≡ left + n = omega (arith, eqb-true left 0 none) in e))
+    (λ none. ap (spot (run ∷ runs)) (let e : n ≡ left + n = omega (arith, eqb-true left 0 none) in e))
     (λ more. cond_both (nat_lt left run.count) _ _ (λ some. spot some n ≡ spot (run ∷ runs) (left + n))
     (λ short. shorter (ltb-true left run.count short))
     (λ long.
@@ -183,10 +189,10 @@ laid_agrees legs leg at [] runs agree fits some same = tt
 laid_agrees legs leg at (part ∷ parts) runs agree fits some same =
     let all = extents_cons part parts in
     let sum : extents_in (pieces part 0 part.extents runs) ≡ part.extents =
-        pieces_sum part 0 part.extents runs (omega (arith, fits, all)) in
+    pieces_sum part 0 part.extents runs (omega (arith, fits, all)) in
     let here : AgreeFrom (legs ++ leg ∷ []) (at + 0) (pieces part 0 part.extents runs) =
     pieces_agree legs leg part at 0 part.extents runs agree.1 (omega arith) some
-        (λ n lt. ap (spot leg) (let e : at + 0 + n ≡ at + n = omega arith in e) ∙ same n (omega (arith, lt, all))) in
+    (λ n lt. ap (spot leg) (let e : at + 0 + n ≡ at + n = omega arith in e) ∙ same n (omega (arith, lt, all))) in
     let rest : AgreeFrom (legs ++ leg ∷ []) (at + part.extents) (laid_on parts (left_of part.extents runs)) =
     laid_agrees legs leg (at + part.extents) parts (left_of part.extents runs) agree.2
     (omega (arith, fits, all, left_total part.extents runs (omega (arith, fits, all))))
@@ -230,8 +236,8 @@ ends_append at n [] b is = inr (subst (λ k. In n (ends_of k b)) (omega arith) i
 ends_append at n (part ∷ a) b (inl here) = inl (inl here)
 ends_append at n (part ∷ a) b (inr later) =
     ⊎_elim (λ (left : In n (ends_of (at + part.extents) a)). inl (inr left))
-        (λ (right : In n (ends_of (at + part.extents + extents_in a) b)). inr
-        (subst (λ k. In n (ends_of k b)) (omega (arith, extents_cons part a)) right))
+    (λ (right : In n (ends_of (at + part.extents + extents_in a) b)). inr
+    (subst (λ k. In n (ends_of k b)) (omega (arith, extents_cons part a)) right))
     (ends_append (at + part.extents) n a b later)
 
 pieces_end : (part : Part) (from left at n : ℕ) (runs : List PvRun) → left ≤ total runs → In n (ends_of at (pieces part from left runs))
@@ -248,7 +254,7 @@ pieces_end part from left at n (run ∷ runs) le is =
     (λ (later : In n (ends_of (at + run.count) (pieces part (from + run.count) (left - run.count) runs))).
     ⊎_elim
     (λ (last : n ≡ at + run.count + (left - run.count)). inl
-        (last ∙ (let e : at + run.count + (left - run.count) ≡ at + left = omega (arith, fits) in e)))
+    (last ∙ (let e : at + run.count + (left - run.count) ≡ at + left = omega (arith, fits) in e)))
     (λ (stop : In n (stops (at + run.count) runs)). inr (inr stop))
     (pieces_end part (from + run.count) (left - run.count) (at + run.count) n runs (omega (arith, le, total_cons run runs, fits)) later))
     is)) is
@@ -260,12 +266,12 @@ left_stops left at n (run ∷ runs) le is =
     (λ none is. subst (λ k. In n (stops k (run ∷ runs))) (omega (arith, eqb-true left 0 none)) is)
     (λ more. cond_both (nat_lt left run.count) _ _ (λ some. In n (stops (at + left) some) → In n (stops at (run ∷ runs)))
     (λ short is. subst (λ k. In n (k ∷ stops k runs))
-        (let e : at + left + (run.count - left) ≡ at + run.count = omega (arith, ltb-true left run.count short) in e) is)
+    (let e : at + left + (run.count - left) ≡ at + run.count = omega (arith, ltb-true left run.count short) in e) is)
     (λ long is.
     let fits = ltb-false left run.count long in
     inr (left_stops (left - run.count) (at + run.count) n runs (omega (arith, le, total_cons run runs, fits))
     (subst (λ k. In n (stops k (left_of (left - run.count) runs)))
-        (let e : at + left ≡ at + run.count + (left - run.count) = omega (arith, fits) in e) is)))) is
+    (let e : at + left ≡ at + run.count + (left - run.count) = omega (arith, fits) in e) is)))) is
 
 -- a part ends where one did before, or where a run of the new leg does
 pub laid_end : (at n : ℕ) (parts : List Part) (runs : List PvRun) → extents_in parts ≤ total runs → In n (ends_of at (laid_on parts runs))
@@ -277,13 +283,13 @@ laid_end at n (part ∷ parts) runs fits is =
     ⊎_elim
     (λ (here : In n (ends_of at (pieces part 0 part.extents runs))).
     ⊎_elim (λ (last : n ≡ at + part.extents). inl (inl last)) (λ (stop : In n (stops at runs)). inr stop)
-        (pieces_end part 0 part.extents at n runs (omega (arith, fits, all)) here))
+    (pieces_end part 0 part.extents at n runs (omega (arith, fits, all)) here))
     (λ (there : In n (ends_of (at + extents_in (pieces part 0 part.extents runs)) (laid_on parts (left_of part.extents runs)))).
     ⊎_elim
     (λ (old : In n (ends_of (at + part.extents) parts)). inl (inr old))
     (λ (stop : In n (stops (at + part.extents) (left_of part.extents runs))). inr
-        (left_stops part.extents at n runs (omega (arith, fits, all)) stop))
+    (left_stops part.extents at n runs (omega (arith, fits, all)) stop))
     (laid_end (at + part.extents) n parts (left_of part.extents runs)
-        (omega (arith, fits, all, left_total part.extents runs (omega (arith, fits, all))))
+    (omega (arith, fits, all, left_total part.extents runs (omega (arith, fits, all))))
     (subst (λ k. In n (ends_of k (laid_on parts (left_of part.extents runs)))) (omega (arith, sum)) there)))
     (ends_append at n (pieces part 0 part.extents runs) (laid_on parts (left_of part.extents runs)) is)

@@ -1,6 +1,6 @@
 -- Runs that were sorted have the lengths that are sorted, the greatest first.
-use Rattle.std.proofs.Common.{◌≡◌, ℕ, zero, suc, ◌+◌, ◌<◌, ◌≤◌, ◌^◌, Bool, List, [], ◌∷◌, get_or, cond, inl, inr, refl, sym, ap, ap₂, ◌∙◌,
-    arith, nat_le, sum_by}
+use Rattle.std.proofs.Common.{◌≡◌, ℕ, zero, suc, ◌+◌, ◌<◌, ◌≤◌, ◌^◌, Bool, List, [], ◌∷◌, get_or, cond, inl, inr, refl, sym, ap, ap₂, ◌∙◌}
+use Rattle.std.proofs.Common.{arith, nat_le, sum_by}
 use Rattle.std.specs.Prelude.{All, IsPermutation}
 use Rattle.std.specs.List.{AllByRecursion}
 use Rattle.std.specs.List.Sorted.{IsNonDecreasingBy}
@@ -28,9 +28,10 @@ no_longer run runs small sorted k d lt =
 pub descends : (runs : List PvRun) → All IsSmall runs → IsNonDecreasingBy shortness runs → Descending runs
 descends [] small sorted = tt
 descends (run ∷ runs) small sorted =
-    let rest : All IsSmall runs = All-tail IsSmall run runs small in
-    (recursion_from_All (λ (r : PvRun). r.count ≤ run.count) runs (no_longer run runs rest sorted),
-        descends runs rest (λ i j d le lt. sorted (suc i) (suc j) d (omega (arith, le)) (omega (arith, lt))))
+    let rest : All IsSmall runs = All-tail IsSmall run runs small in (
+      recursion_from_All (λ (r : PvRun). r.count ≤ run.count) runs (no_longer run runs rest sorted),
+      descends runs rest (λ i j d le lt. sorted (suc i) (suc j) d (omega (arith, le)) (omega (arith, lt))),
+    )
 
 -- numbers of which none is greater than one before it
 abbrev Falls : List ℕ → Type 0
@@ -46,8 +47,13 @@ put_falls : (n : ℕ) (more : List ℕ) → Falls more → Falls (put n more)
 put_falls n [] falls = (tt, tt)
 put_falls n (m ∷ more) falls =
     cond_both (nat_le m n) _ _ Falls
-    (λ le. let below : m ≤ n = leb-true m n le in ((below,
-        all_weaker (λ k. k ≤ m) (λ k. k ≤ n) (λ k h. omega (arith, below, h)) more falls.0), falls))
+    (λ le. let below : m ≤ n = leb-true m n le in (
+      (
+        below,
+        all_weaker (λ k. k ≤ m) (λ k. k ≤ n) (λ k h. omega (arith, below, h)) more falls.0,
+      ),
+      falls,
+    ))
     (λ lt. let below : n < m = leb-false m n lt in (all_put (λ k. k ≤ m) n more (omega arith) falls.0, put_falls n more falls.1))
 
 longest_falls : (numbers : List ℕ) → Falls (longest_first numbers)
@@ -67,7 +73,7 @@ unfolding at_least
 at_least_put m n [] = refl
 at_least_put m n (k ∷ more) =
     cond_both (nat_le k n) _ _ (λ some. at_least m some ≡ one_if (nat_le m n) + (one_if (nat_le m k) + at_least m more)) (λ le. refl)
-        (λ lt. let rest = at_least_put m n more in omega (arith, rest))
+    (λ lt. let rest = at_least_put m n more in omega (arith, rest))
 
 at_least_longest : (m : ℕ) (numbers : List ℕ) → at_least m (longest_first numbers) ≡ at_least m numbers
 unfolding at_least
@@ -99,7 +105,7 @@ same_falling (x ∷ xs) [] falls falls' same = absurd (omega (arith, same x, one
 same_falling (x ∷ xs) (y ∷ ys) falls falls' same =
     let first : x ≡ y = omega (arith, not_greater x y xs ys falls.0 same, not_greater y x ys xs falls'.0 (λ m. sym (same m))) in
     ap₂ (λ (n : ℕ) (more : List ℕ). n ∷ more) first
-        (same_falling xs ys falls.1 falls'.1 (λ m. omega (arith, same m, ap (λ n. one_if (nat_le m n)) first)))
+    (same_falling xs ys falls.1 falls'.1 (λ m. omega (arith, same m, ap (λ n. one_if (nat_le m n)) first)))
 
 counts_fall : (runs : List PvRun) → Descending runs → Falls (counts_of runs)
 counts_fall [] order = tt

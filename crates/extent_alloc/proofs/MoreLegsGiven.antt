@@ -1,6 +1,6 @@
 -- Several legs, each on one of the first volumes that have room.
-use Rattle.std.proofs.Common.{◌≡◌, ℕ, suc, ◌+◌, ◌<◌, ◌≤◌, ◌≢◌, ◌⊎◌, List, [], ◌∷◌, ◌++◌, length, map, inl, inr, refl, sym, ap, subst, ◌∙◌,
-    arith, append_assoc, append-nil, IsTrue, IsPermutation, ⊎_elim}
+use Rattle.std.proofs.Common.{◌≡◌, ℕ, suc, ◌+◌, ◌<◌, ◌≤◌, ◌≢◌, ◌⊎◌, List, [], ◌∷◌, ◌++◌, length, map, inl, inr, refl, sym, ap, subst, ◌∙◌}
+use Rattle.std.proofs.Common.{arith, append_assoc, append-nil, IsTrue, IsPermutation, ⊎_elim}
 use Rattle.std.specs.Prelude.{All}
 use Rattle.std.specs.List.{AllByRecursion}
 use Rattle.std.proofs.lemmas.Bool.{cases_lt}
@@ -51,16 +51,16 @@ taken_lies_on : (group : Group) (want : Request) (pv : ℕ) (leg : List PvRun) �
 taken_lies_on group want pv leg accepted roomy is n lt =
     let here = stands group pv roomy.stands in
     let all : AllByRecursion (λ (run : PvRun). run.pv ≡ pv) (free_at group pv) =
-        all_weaker (λ run. (run.pv ≡ pv) × IsFreeRun group run) (λ (run : PvRun). run.pv ≡ pv) (λ run h. h.0) (free_at group pv)
-            (free_at_free group pv here.0 accepted here.1) in
+    all_weaker (λ run. (run.pv ≡ pv) × IsFreeRun group run) (λ (run : PvRun). run.pv ≡ pv) (λ run h. h.0) (free_at group pv)
+    (free_at_free group pv here.0 accepted here.1) in
     let moved : AllByRecursion (λ (run : PvRun). run.pv ≡ pv) leg =
-        recursion_from_All (λ (run : PvRun). run.pv ≡ pv) leg
-            (All-permutation (λ (run : PvRun). run.pv ≡ pv) (free_at group pv) leg is.0
-            (All-from_recursion (λ (run : PvRun). run.pv ≡ pv) (free_at group pv) all)) in
+    recursion_from_All (λ (run : PvRun). run.pv ≡ pv) leg
+    (All-permutation (λ (run : PvRun). run.pv ≡ pv) (free_at group pv) leg is.0
+    (All-from_recursion (λ (run : PvRun). run.pv ≡ pv) (free_at group pv) all)) in
     each_spot (λ p extent. p ≡ pv) leg n (let enough = taken_has_room group want pv leg roomy is in omega (arith, lt, enough))
     (all_weaker (λ (run : PvRun). run.pv ≡ pv)
-        (λ (run : PvRun). (extent : ℕ) → run.first ≤ extent → extent < run.first + run.count → run.pv ≡ pv)
-        (λ run same extent low high. same) leg moved)
+    (λ (run : PvRun). (extent : ℕ) → run.first ≤ extent → extent < run.first + run.count → run.pv ≡ pv)
+    (λ run same extent low high. same) leg moved)
 
 -- runs in order that have enough extents
 abbrev IsRoomyLeg : Group → Request → List PvRun → Type 0
@@ -71,9 +71,10 @@ legs_roomy : (group : Group) (want : Request) (pvs : List ℕ) (legs : List (Lis
 legs_roomy group want [] [] accepted roomy taken = tt
 legs_roomy group want [] (leg ∷ legs) accepted roomy taken = absurd taken
 legs_roomy group want (pv ∷ pvs) [] accepted roomy taken = absurd taken
-legs_roomy group want (pv ∷ pvs) (leg ∷ legs) accepted roomy taken =
-    ((taken_is_fine group want pv leg accepted roomy.0 taken.0, taken_has_room group want pv leg roomy.0 taken.0),
-        legs_roomy group want pvs legs accepted roomy.1 taken.1)
+legs_roomy group want (pv ∷ pvs) (leg ∷ legs) accepted roomy taken = (
+  (taken_is_fine group want pv leg accepted roomy.0 taken.0, taken_has_room group want pv leg roomy.0 taken.0),
+  legs_roomy group want pvs legs accepted roomy.1 taken.1,
+)
 
 legs_lie : (group : Group) (want : Request) (pvs : List ℕ) (legs : List (List PvRun)) → IsAccepted group
     → AllByRecursion (IsRoomy group want) pvs → AreTaken group pvs legs → LieOn want.extents pvs legs
@@ -101,7 +102,7 @@ one_more group want done leg parts roomy agree =
     record {
       agree =
           laid_agrees done leg 0 parts leg agree.agree fits (fine_some group want leg roomy.0)
-              (λ n lt. ap (spot leg) (let e : 0 + n ≡ n = omega arith in e));
+          (λ n lt. ap (spot leg) (let e : 0 + n ≡ n = omega arith in e));
       enough = laid_sum parts leg fits ∙ agree.enough;
     }
 
@@ -117,7 +118,7 @@ all_agree : (group : Group) (want : Request) (legs : List (List PvRun)) → 1 �
     → AgreeAll want.extents legs (laid_all (whole_part want.extents) legs)
 all_agree group want legs one roomy =
     all_more group want [] legs (whole_part want.extents) roomy
-        (record { agree = (one, (λ n lt. refl), tt); enough = whole_sum want.extents })
+    (record { agree = (one, (λ n lt. refl), tt); enough = whole_sum want.extents })
 
 are_legs : (group : Group) (want : Request) (legs : List (List PvRun)) → AllByRecursion (IsRoomyLeg group want) legs
     → AllByRecursion (IsLeg group want want.extents) legs
@@ -132,24 +133,26 @@ StartsLong extents (run ∷ runs) = extents ≤ run.count
 
 no_longer_than : (extents : ℕ) (run : PvRun) (runs : List PvRun) → run.count < extents
     → AllByRecursion (λ (r : PvRun). r.count ≤ run.count) runs → AllByRecursion (λ (r : PvRun). r.count < extents) (run ∷ runs)
-no_longer_than extents run runs short longest =
-    (short, all_weaker (λ (r : PvRun). r.count ≤ run.count) (λ (r : PvRun). r.count < extents) (λ r le. omega (arith, le, short)) runs
-        longest)
+no_longer_than extents run runs short longest = (
+  short,
+  all_weaker (λ (r : PvRun). r.count ≤ run.count) (λ (r : PvRun). r.count < extents) (λ r le. omega (arith, le, short)) runs
+      longest,
+)
 
 starts_long : (extents : ℕ) (before leg : List PvRun) → 1 ≤ extents → extents ≤ longest before → IsPermutation before leg → Descending leg
     → StartsLong extents leg
 starts_long extents before [] one long moved order =
     absurd (let short = shorter_all extents before one
-        (All-permutation (λ (r : PvRun). r.count < extents) [] before (IsPermutation-sym before [] moved)
-        (λ k d lt. absurd (omega (arith, lt)))) in omega (arith, short, long))
+    (All-permutation (λ (r : PvRun). r.count < extents) [] before (IsPermutation-sym before [] moved)
+    (λ k d lt. absurd (omega (arith, lt)))) in omega (arith, short, long))
 starts_long extents before (run ∷ runs) one long moved order =
     elim (cases_lt run.count extents) [
       | inl short ↦
           let all : All (λ (r : PvRun). r.count < extents) (run ∷ runs) =
-              All-from_recursion (λ (r : PvRun). r.count < extents) (run ∷ runs) (no_longer_than extents run runs short order.0) in
+          All-from_recursion (λ (r : PvRun). r.count < extents) (run ∷ runs) (no_longer_than extents run runs short order.0) in
           absurd (let less = shorter_all extents before one
-              (All-permutation (λ (r : PvRun). r.count < extents) (run ∷ runs) before (IsPermutation-sym before (run ∷ runs) moved)
-              all) in omega (arith, less, long))
+          (All-permutation (λ (r : PvRun). r.count < extents) (run ∷ runs) before (IsPermutation-sym before (run ∷ runs) moved)
+          all) in omega (arith, less, long))
       | inr enough ↦ enough
     ]
 
@@ -171,7 +174,7 @@ all_stay : (group : Group) (want : Request) (legs : List (List PvRun)) (parts : 
 all_stay group want [] parts one roomy long count enough = count
 all_stay group want (leg ∷ legs) parts one roomy long count enough =
     all_stay group want legs (laid_on parts leg) one roomy.1 long.1 (one_stays want.extents parts leg one count enough roomy.0.1 long.0)
-        (laid_sum parts leg (omega (arith, enough, roomy.0.1)) ∙ enough)
+    (laid_sum parts leg (omega (arith, enough, roomy.0.1)) ∙ enough)
 
 all_start_long : (group : Group) (want : Request) (pvs : List ℕ) (legs : List (List PvRun)) → IsAccepted group → 1 ≤ want.extents
     → AllByRecursion (IsRoomy group want) pvs → AllByRecursion (λ pv. want.extents ≤ longest (free_at group pv)) pvs
@@ -199,7 +202,7 @@ all_end group want n (leg ∷ legs) parts roomy enough is =
     let fits : extents_in parts ≤ total leg = omega (arith, enough, roomy.0.1) in
     ⊎_elim
     (λ (laid : In n (ends_of 0 (laid_on parts leg))). ⊎_elim (λ (old : In n (ends_of 0 parts)). inl old)
-        (λ (stop : In n (stops 0 leg)). inr (inl stop)) (laid_end 0 n parts leg fits laid))
+    (λ (stop : In n (stops 0 leg)). inr (inl stop)) (laid_end 0 n parts leg fits laid))
     (λ (stop : StopsOne n legs). inr (inr stop))
     (all_end group want n legs (laid_on parts leg) roomy.1 (laid_sum parts leg fits ∙ enough) is)
 
@@ -207,7 +210,7 @@ counts_are : (group : Group) (want : Request) (pv : ℕ) (leg : List PvRun) → 
     → IsLongestFirst (free_at group pv) leg → counts_of leg ≡ longest_first (counts_of (free_at group pv))
 counts_are group want pv leg accepted roomy is =
     sorted_counts (free_at group pv) leg (fine_small group want (free_at group pv)
-        (volume_fine group want pv accepted roomy.stands roomy.usable)) is.0 is.1
+    (volume_fine group want pv accepted roomy.stands roomy.usable)) is.0 is.1
 
 stop_among : (group : Group) (want : Request) (n : ℕ) (pvs : List ℕ) (legs : List (List PvRun)) → IsAccepted group
     → AllByRecursion (IsRoomy group want) pvs → AreTaken group pvs legs → n < want.extents → StopsOne n legs
@@ -218,10 +221,10 @@ stop_among group want n (pv ∷ pvs) [] accepted roomy taken lt is = absurd take
 stop_among group want n (pv ∷ pvs) (leg ∷ legs) accepted roomy taken lt (inl here) =
     in_left n (ends_from 0 want.extents (longest_first (counts_of (free_at group pv)))) (leg_ends group want pvs)
     (subst (λ counts. In n (ends_from 0 want.extents counts)) (counts_are group want pv leg accepted roomy.0 taken.0)
-        (stop_end 0 want.extents n leg here lt))
+    (stop_end 0 want.extents n leg here lt))
 stop_among group want n (pv ∷ pvs) (leg ∷ legs) accepted roomy taken lt (inr later) =
     in_right n (ends_from 0 want.extents (longest_first (counts_of (free_at group pv)))) (leg_ends group want pvs)
-        (stop_among group want n pvs legs accepted roomy.1 taken.1 lt later)
+    (stop_among group want n pvs legs accepted roomy.1 taken.1 lt later)
 
 last_among : (group : Group) (want : Request) (pvs : List ℕ) (legs : List (List PvRun)) → IsAccepted group → 1 ≤ want.extents
     → 1 ≤ length pvs → AllByRecursion (IsRoomy group want) pvs → AreTaken group pvs legs → In want.extents (leg_ends group want pvs)
@@ -273,7 +276,7 @@ legs_given group want pvs legs accepted request more are_first many roomy long d
       given_parts group want legs parts (are_legs group want legs are) (never_meet want.extents pvs legs differ lie)
           (as_many_legs group pvs legs taken ∙ many) all.agree all.enough
           (λ contiguous. all_stay group want legs (whole_part want.extents) request.extents are
-              (all_start_long group want pvs legs accepted request.extents roomy (long contiguous) taken) refl (whole_sum want.extents))
+          (all_start_long group want pvs legs accepted request.extents roomy (long contiguous) taken) refl (whole_sum want.extents))
           (λ several. (
             pvs,
             pairs_to (λ (a b : ℕ). a ≢ b) pvs differ,

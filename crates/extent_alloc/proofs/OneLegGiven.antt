@@ -1,6 +1,6 @@
 -- One leg has as few parts as the free runs allow.
-use Rattle.std.proofs.Common.{◌≡◌, ℕ, zero, suc, ◌+◌, ◌-◌, ◌<◌, ◌≤◌, ◌⊎◌, ◌&&◌, Bool, true, false, List, [], ◌∷◌, ◌++◌, length, map, inl,
-    inr, refl, sym, ap, subst, ◌∙◌, arith, IsTrue, IsPermutation, append-nil, None, nat_lt}
+use Rattle.std.proofs.Common.{◌≡◌, ℕ, zero, suc, ◌+◌, ◌-◌, ◌<◌, ◌≤◌, ◌⊎◌, ◌&&◌, Bool, true, false, List, [], ◌∷◌, ◌++◌, length, map, inl}
+use Rattle.std.proofs.Common.{inr, refl, sym, ap, subst, ◌∙◌, arith, IsTrue, IsPermutation, append-nil, None, nat_lt}
 use Rattle.std.specs.Prelude.{All, Contains}
 use Rattle.std.specs.List.{AllByRecursion, filter, range_with_len}
 use Rattle.std.proofs.lemmas.Bool.{cases_eq, cases_lt, cond-false, cond_both, false≢true, le-ltb, ltb-false}
@@ -40,7 +40,7 @@ pub one_agrees : (extents : ℕ) (taken : List PvRun) → 1 ≤ extents → exte
     → AgreeFrom (taken ∷ []) 0 (laid_on (whole_part extents) taken)
 one_agrees extents taken one enough some =
     laid_agrees [] taken 0 (whole_part extents) taken (one, (λ n lt. refl), tt) (omega (arith, whole_sum extents, enough)) some
-        (λ n lt. ap (spot taken) (let e : 0 + n ≡ n = omega arith in e))
+    (λ n lt. ap (spot taken) (let e : 0 + n ≡ n = omega arith in e))
 
 one_count : (extents : ℕ) (taken : List PvRun) → extents ≤ total taken → length (laid_on (whole_part extents) taken) ≡ needed extents taken
 one_count extents taken enough =
@@ -76,8 +76,11 @@ lies_on : (pv : ℕ) (runs : List ExtentRun) (run : ExtentRun) (piece : PvRun) �
     → piece.first + piece.count ≤ run.first + run.count → LiesInOne (runs_on pv runs) piece
 lies_on pv [] run piece (k, lt, is) same low high = absurd (omega (arith, lt))
 lies_on pv (r ∷ runs) run piece (zero, lt, is) same low high =
-    inl (same, subst (λ (x : ExtentRun). x.first ≤ piece.first) (sym is) low,
-        subst (λ (x : ExtentRun). piece.first + piece.count ≤ x.first + x.count) (sym is) high)
+    inl (
+      same,
+      subst (λ (x : ExtentRun). x.first ≤ piece.first) (sym is) low,
+      subst (λ (x : ExtentRun). piece.first + piece.count ≤ x.first + x.count) (sym is) high,
+    )
 lies_on pv (r ∷ runs) run piece (suc k, lt, is) same low high = inr (lies_on pv runs run piece (k, omega (arith, lt), is) same low high)
 
 lies_left : (a b : List PvRun) (piece : PvRun) → LiesInOne a piece → LiesInOne (a ++ b) piece
@@ -119,11 +122,11 @@ may_lie : (group : Group) (want : Request) (piece : PvRun) → 1 ≤ piece.count
 may_lie group want piece some may =
     let free = may.1 piece.first (omega arith) (omega (arith, some)) in
     let found =
-        within_one 0 piece.first piece.count (free_in group piece.pv) (free_begin group piece.pv) some
-            (λ extent low high. free_lies group piece.pv extent (may.1 extent low high)) in
+    within_one 0 piece.first piece.count (free_in group piece.pv) (free_begin group piece.pv) some
+    (λ extent low high. free_lies group piece.pv extent (may.1 extent low high)) in
     lies_there group (usable_pvs group want) piece.pv piece
     (usable_one group want piece.pv 0 (length group.pvs) (omega arith)
-        (let lt = slice_get_within group.pvs piece.pv free.0.0 free.0.1 in omega (arith, lt)) may.0)
+    (let lt = slice_get_within group.pvs piece.pv free.0.0 free.0.1 in omega (arith, lt)) may.0)
     (lies_on piece.pv (free_in group piece.pv) found.0 piece found.1 refl found.2 found.3)
 
 -- in whatever order the runs stand
@@ -159,7 +162,7 @@ cover_count legs (part ∷ parts) one all =
     let run = single part.runs (all.0.1 ∙ one) in
     let first : PvRun = record { pv = run.0.pv; first = run.0.first; count = part.extents } in
     let here : covered_by part ≡ first ∷ [] =
-        ap (map (λ (r : PartRun). let p : PvRun = record { pv = r.pv; first = r.first; count = part.extents } in p)) run.1 in
+    ap (map (λ (r : PartRun). let p : PvRun = record { pv = r.pv; first = r.first; count = part.extents } in p)) run.1 in
     subst (λ some. CoversAs (some ++ covered parts) (part ∷ parts)) (sym here)
     (ap suc rest.0, omega (arith, rest.1, total_cons first (covered parts), extents_cons part parts), (all.0.0, rest.2))
 
@@ -184,13 +187,13 @@ none_fewer group want taken others accepted legs one (inr all) given =
     let runs : List PvRun = free_on group (usable_pvs group want) in
     let fine : AreFine group want taken = moved_fine group want runs taken all.1.0 (usable_fine group want accepted) in
     let covers =
-        cover_count want.legs others legs (recursion_from_All (λ (part : Part). (1 ≤ part.extents) × (length part.runs ≡ want.legs)) others
-            given.legs) in
+    cover_count want.legs others legs (recursion_from_All (λ (part : Part). (1 ≤ part.extents) × (length part.runs ≡ want.legs)) others
+    given.legs) in
     let lie = all_weaker (LiesInOne runs) (LiesInOne taken) (λ piece lies. moved_lies runs taken piece all.1.0 lies) (covered others)
     (all_lie group want (covered others) covers.2 (recursion_from_All (MayBeGiven group want) (covered others) given.free)) in
     let few =
-        fewest taken (covered others) (descends taken (fine_small group want taken fine) all.1.1) (fine_some group want taken fine)
-            (pairs_from LieApart (covered others) given.apart) lie in
+    fewest taken (covered others) (descends taken (fine_small group want taken fine) all.1.1) (fine_some group want taken fine)
+    (pairs_from LieApart (covered others) given.apart) lie in
     omega (arith, few, covers.0, ap (λ n. needed n taken) (covers.1 ∙ given.enough))
 
 -- one leg on what it takes is given, in as few parts as may be
@@ -227,4 +230,4 @@ pub not_refused : (want : Request) (runs : List PvRun) → want.extents ≤ tota
     → (want.contiguous && nat_lt (longest runs) want.extents) ≡ false → one_leg_refusal want runs ≡ None
 not_refused want runs enough long =
     cond-false (nat_lt (total runs) want.extents) _ _ (le-ltb (total runs) want.extents enough)
-        ∙ cond-false (want.contiguous && nat_lt (longest runs) want.extents) _ _ long
+    ∙ cond-false (want.contiguous && nat_lt (longest runs) want.extents) _ _ long

@@ -17,9 +17,10 @@ module _ {X : Type 0} (R : X → X → Type 0) where
 
   pub pairs_from : (xs : List X) → AllPairs R xs → Pairs R xs
   pairs_from [] pairs = tt
-  pairs_from (x ∷ xs) pairs =
-      (recursion_from_All (R x) xs (first_and x xs pairs),
-          pairs_from xs (λ i j d lt within. pairs (suc i) (suc j) d (omega (arith, lt)) (omega (arith, within))))
+  pairs_from (x ∷ xs) pairs = (
+    recursion_from_All (R x) xs (first_and x xs pairs),
+    pairs_from xs (λ i j d lt within. pairs (suc i) (suc j) d (omega (arith, lt)) (omega (arith, within))),
+  )
 
   pub pairs_to : (xs : List X) → Pairs R xs → AllPairs R xs
   pairs_to [] pairs = λ i j d lt within. absurd (omega (arith, within))

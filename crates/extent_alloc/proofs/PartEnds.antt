@@ -35,7 +35,7 @@ pieces_end part from left (run ∷ runs) within end ends =
     (λ some.
     cond_both (nat_lt left run.count) _ _ (AllByRecursion PartEnds)
     (λ is. let less : left < run.count = ltb-true left run.count
-        is in (piece_ends part from left run within (omega (arith, less)) end ends.0, tt))
+    is in (piece_ends part from left run within (omega (arith, less)) end ends.0, tt))
     (λ is. let more : run.count ≤ left = ltb-false left run.count is in (
       piece_ends part from run.count run (omega (arith, within, more)) (omega arith) end ends.0,
       pieces_end part (from + run.count) (left - run.count) runs (omega (arith, within, more)) end ends.1,
@@ -55,13 +55,13 @@ all_end : (parts : List Part) (runs : List PvRun) → AllByRecursion PartEnds pa
 all_end [] runs end ends = tt
 all_end (part ∷ parts) runs end ends =
     all_append PartEnds (pieces part 0 part.extents runs) (laid_on parts (left_of part.extents runs))
-        (pieces_end part 0 part.extents runs (omega arith) end.0 ends)
+    (pieces_end part 0 part.extents runs (omega arith) end.0 ends)
     (all_end parts (left_of part.extents runs) end.1 (left_end part.extents runs ends))
 
 pub laid_end_small : (parts : List Part) (runs : List PvRun) → All PartEnds parts → All RunEnds runs → All PartEnds (laid_on parts runs)
 laid_end_small parts runs end ends =
     All-from_recursion PartEnds (laid_on parts runs)
-        (all_end parts runs (recursion_from_All PartEnds parts end) (recursion_from_All RunEnds runs ends))
+    (all_end parts runs (recursion_from_All PartEnds parts end) (recursion_from_All RunEnds runs ends))
 
 -- a part without a leg
 pub whole_ends : (extents : ℕ) → All PartEnds (whole_part extents)

@@ -55,7 +55,7 @@ spots_below (run ∷ runs) m n apart less lt same =
     elim (cases_lt n run.count) [
       | inl here ↦
           let both : run.first + m ≡ run.first + n =
-              ap (λ (s : ℕ × ℕ). s.1) (sym (spot_here run runs m (omega (arith, less, here))) ∙ same ∙ spot_here run runs n here) in
+          ap (λ (s : ℕ × ℕ). s.1) (sym (spot_here run runs m (omega (arith, less, here))) ∙ same ∙ spot_here run runs n here) in
           omega (arith, less)
       | inr there ↦
           let later : spot (run ∷ runs) n ≡ spot runs (n - run.count) = spot_later run runs n there in
@@ -65,7 +65,7 @@ spots_below (run ∷ runs) m n apart less lt same =
                 (subst (HasSpot runs) (sym (same ∙ later)) (has_spot runs (n - run.count) (omega (arith, lt, there, total_cons run runs))))
             | inr behind ↦
                 spots_below runs (m - run.count) (n - run.count) apart.1 (omega (arith, less, behind))
-                    (omega (arith, lt, there, total_cons run runs)) (sym (spot_later run runs m behind) ∙ same ∙ later)
+                (omega (arith, lt, there, total_cons run runs)) (sym (spot_later run runs m behind) ∙ same ∙ later)
           ]
     ]
 
@@ -73,8 +73,11 @@ pub spots_differ : (runs : List PvRun) (m n : ℕ) → Pairs LieApart runs → m
 spots_differ runs m n apart lt lt' differ same =
     elim (cases_order m n) [
       | inl is ↦ differ is
-      | inr rest ↦ elim rest [ inl less ↦ spots_below runs m n apart less lt' same | inr more ↦ spots_below runs n m apart more lt
-          (sym same) ]
+      | inr rest ↦ elim rest [
+        | inl less ↦ spots_below runs m n apart less lt' same
+        | inr more ↦ spots_below runs n m apart more lt
+            (sym same)
+      ]
     ]
 
 -- the first so many extents of a leg lie where the request may have them, each at a place of its own

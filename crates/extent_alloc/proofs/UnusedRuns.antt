@@ -1,6 +1,6 @@
 -- The runs of the extents that aren't used, extent by extent; and that longest runs of the same extents are one list.
-use Rattle.std.proofs.Common.{◌≡◌, ℕ, zero, suc, ◌+◌, ◌<◌, ◌≤◌, ◌⊎◌, Bool, false, List, [], ◌∷◌, inl, inr, refl, sym, ap, ap₂, ◌∙◌, arith,
-    nat_eq, sum_by, ⊎_elim}
+use Rattle.std.proofs.Common.{◌≡◌, ℕ, zero, suc, ◌+◌, ◌<◌, ◌≤◌, ◌⊎◌, Bool, false, List, [], ◌∷◌, inl, inr, refl, sym, ap, ap₂, ◌∙◌, arith}
+use Rattle.std.proofs.Common.{nat_eq, sum_by, ⊎_elim}
 use Rattle.std.specs.Prelude.{Contains}
 use Rattle.std.proofs.lemmas.Bool.{cases_eq, cases_lt, cond_both, eqb-true, eqb-false, false≢true}
 use Rattle.std.proofs.lemmas.List.Sums.{sum_by-cons}
@@ -64,7 +64,7 @@ later_too : (at to extent : ℕ) (x y : ExtentRun) (xs ys : List ExtentRun) → 
 later_too at to extent x y xs ys begin first count there lies =
     let rest : x.first + x.count + 1 ≤ extent = lies_after (x.first + x.count + 1) extent xs begin.2 lies in
     ⊎_elim (λ (has : Has y extent). absurd (omega (arith, has.1, first, count))) (λ (later : Lies ys extent). later)
-        (there extent (inr lies))
+    (there extent (inr lies))
 
 pub same_runs : (at to : ℕ) (xs ys : List ExtentRun) → Begin at xs → Begin to ys → ((extent : ℕ) → Lies xs extent → Lies ys extent)
     → ((extent : ℕ) → Lies ys extent → Lies xs extent) → xs ≡ ys
@@ -89,8 +89,12 @@ begin_with : (at : ℕ) (runs : List ExtentRun) → Begin (at + 1) runs → Begi
 begin_with at [] begin = (omega arith, omega arith, tt)
 begin_with at (run ∷ runs) begin =
     cond_both (nat_eq run.first (at + 1)) _ _ (Begin at)
-    (λ same. (omega arith, omega arith, begin_earlier (at + (run.count + 1) + 1) (run.first + run.count + 1) runs
-        (omega (arith, eqb-true run.first (at + 1) same)) begin.2))
+    (λ same. (
+      omega arith,
+      omega arith,
+      begin_earlier (at + (run.count + 1) + 1) (run.first + run.count + 1) runs
+          (omega (arith, eqb-true run.first (at + 1) same)) begin.2,
+    ))
     (λ other. (omega arith, omega arith, (omega (arith, begin.0, eqb-false run.first (at + 1) other), begin.1, begin.2)))
 
 lies_with : (at extent : ℕ) (runs : List ExtentRun) → Lies (with_extent at runs) extent → (extent ≡ at) ⊎ Lies runs extent
@@ -104,8 +108,10 @@ lies_with at extent (run ∷ runs) lies =
     longer : run.first ≡ at + 1 → Lies (record { first = at; count = run.count + 1 } ∷ runs) extent
         → (extent ≡ at) ⊎ Lies (run ∷ runs) extent
     longer same (inl has) =
-        elim (cases_eq extent at) [ inl is ↦ inl is | inr other ↦ inr (inl (omega (arith, same, has.0, other), omega (arith, same, has.1)))
-            ]
+        elim (cases_eq extent at) [
+          | inl is ↦ inl is
+          | inr other ↦ inr (inl (omega (arith, same, has.0, other), omega (arith, same, has.1)))
+        ]
     longer same (inr later) = inr (inr later)
 
     before : Lies (record { first = at; count = 1 } ∷ run ∷ runs) extent → (extent ≡ at) ⊎ Lies (run ∷ runs) extent
@@ -150,11 +156,11 @@ pub unused_has : (used : ℕ → Bool) (at count extent : ℕ) → Lies (unused 
 unused_has used at zero extent lies = absurd lies
 unused_has used at (suc count) extent lies =
     let later =
-        λ (lies : Lies (unused used (at + 1) count) extent). has_later used at count extent (unused_has used (at + 1) count extent lies) in
+    λ (lies : Lies (unused used (at + 1) count) extent). has_later used at count extent (unused_has used (at + 1) count extent lies) in
     cond_both (used at) _ _ (λ some. Lies some extent → HasUnused used at (suc count) extent)
     (λ is lies. later lies)
     (λ is lies. ⊎_elim (λ (same : extent ≡ at). (omega (arith, same), omega (arith, same), ap used same ∙ is)) later
-        (lies_with at extent (unused used (at + 1) count) lies)) lies
+    (lies_with at extent (unused used (at + 1) count) lies)) lies
 
 pub lies_unused : (used : ℕ → Bool) (at count extent : ℕ) → at ≤ extent → extent < at + count → used extent ≡ false
     → Lies (unused used at count) extent
@@ -167,9 +173,9 @@ lies_unused used at (suc count) extent low high is =
           (λ free. with_lies at extent (unused used (at + 1) count) (inl same))
       | inr other ↦
           let later : Lies (unused used (at + 1) count) extent =
-              lies_unused used (at + 1) count extent (omega (arith, low, other)) (omega (arith, high)) is in
+          lies_unused used (at + 1) count extent (omega (arith, low, other)) (omega (arith, high)) is in
           cond_both (used at) _ _ (λ some. Lies some extent) (λ used_there. later)
-              (λ free. with_lies at extent (unused used (at + 1) count) (inr later))
+          (λ free. with_lies at extent (unused used (at + 1) count) (inr later))
     ]
 
 -- extents side by side that all lie in these runs lie in one
@@ -189,9 +195,9 @@ within_one at first count (run ∷ runs) begin some lie =
                 ]
             | inr later ↦
                 let found =
-                    within_one (run.first + run.count + 1) first count runs begin.2 some
-                        (λ extent low high. ⊎_elim (λ (has : Has run extent). absurd (omega (arith, has.1, low, later)))
-                        (λ (lies : Lies runs extent). lies) (lie extent low high)) in
+                within_one (run.first + run.count + 1) first count runs begin.2 some
+                (λ extent low high. ⊎_elim (λ (has : Has run extent). absurd (omega (arith, has.1, low, later)))
+                (λ (lies : Lies runs extent). lies) (lie extent low high)) in
                 (found.0, contains_later run found.0 runs found.1, found.2, found.3)
           ]
     ]
@@ -200,7 +206,7 @@ within_one at first count (run ∷ runs) begin some lie =
     past (inl has) = omega (arith, has.1)
     past (inr later) =
         let rest : run.first + run.count + 1 ≤ run.first + run.count =
-            lies_after (run.first + run.count + 1) (run.first + run.count) runs begin.2 later in
+        lies_after (run.first + run.count + 1) (run.first + run.count) runs begin.2 later in
         omega arith
 
 -- they are no more than all extents
@@ -210,7 +216,7 @@ with_sum at [] = refl
 with_sum at (run ∷ runs) =
     let old = sum_by-cons (λ (r : ExtentRun). r.count) run runs in
     cond_both (nat_eq run.first (at + 1)) _ _
-        (λ some. sum_by (λ (r : ExtentRun). r.count) some ≡ suc (sum_by (λ (r : ExtentRun). r.count) (run ∷ runs)))
+    (λ some. sum_by (λ (r : ExtentRun). r.count) some ≡ suc (sum_by (λ (r : ExtentRun). r.count) (run ∷ runs)))
     (λ same. omega (arith, old, sum_by-cons (λ (r : ExtentRun). r.count) (record { first = at; count = run.count + 1 }) runs))
     (λ other. omega (arith, old, sum_by-cons (λ (r : ExtentRun). r.count) (record { first = at; count = 1 }) (run ∷ runs)))
 

@@ -1,6 +1,6 @@
 -- Walks over lists and over the numbers of volumes.
-use Rattle.std.proofs.Common.{◌≡◌, ℕ, zero, suc, ◌+◌, ◌-◌, ◌<◌, ◌≤◌, Bool, true, false, ◌||◌, List, [], ◌∷◌, ◌++◌, length, get_or, drop,
-    take, find, Some, refl, sym, ap, subst, take_all, ◌∙◌, arith, add-one, append_assoc, drop-cons, nat_eq}
+use Rattle.std.proofs.Common.{◌≡◌, ℕ, zero, suc, ◌+◌, ◌-◌, ◌<◌, ◌≤◌, Bool, true, false, ◌||◌, List, [], ◌∷◌, ◌++◌, length, get_or, drop}
+use Rattle.std.proofs.Common.{take, find, Some, refl, sym, ap, subst, take_all, ◌∙◌, arith, add-one, append_assoc, drop-cons, nat_eq}
 use Rattle.std.specs.FinSet as set
 use Rattle.std.specs.Ordering.{nat_cmp}
 use Rattle.std.specs.Prelude.{All, slice_get}
@@ -13,7 +13,7 @@ pub any_here : {X : Type 0} (p : X → Bool) (xs : List X) (i : ℕ) (x : X) →
     → list_any p (drop i xs) ≡ (p x || list_any p (drop (i + 1) xs))
 any_here p xs i x is =
     rw add-one (ap (list_any p) (drop-cons xs i x (slice_get_within xs i x is))
-        ∙ ap (λ y. p y || list_any p (drop (suc i) xs)) (get_or_from_slice_get xs i x x is))
+    ∙ ap (λ y. p y || list_any p (drop (suc i) xs)) (get_or_from_slice_get xs i x x is))
 
 -- the numbers that are left
 pub range_next : (n count : ℕ) → n < count → range_with_len n (count - n) ≡ n ∷ range_with_len (n + 1) (count - (n + 1))
@@ -31,7 +31,7 @@ pub kept : {X : Type 0} (p : X → Bool) (items rest : List X) (x : X) → p x �
     → (items ++ x ∷ []) ++ filter p rest ≡ items ++ filter p (x ∷ rest)
 kept p items rest x passes =
     append_assoc items (x ∷ []) (filter p rest)
-        ∙ ap (λ some. items ++ some) (sym (cond-true (p x) (x ∷ filter p rest) (filter p rest) passes))
+    ∙ ap (λ some. items ++ some) (sym (cond-true (p x) (x ∷ filter p rest) (filter p rest) passes))
 
 pub passed : {X : Type 0} (p : X → Bool) (items rest : List X) (x : X) → p x ≡ false → items ++ filter p rest ≡ items ++ filter p (x ∷ rest)
 passed p items rest x fails = ap (λ some. items ++ some) (sym (cond-false (p x) (x ∷ filter p rest) (filter p rest) fails))
@@ -53,4 +53,4 @@ take_more [] i d lt = absurd (omega (arith, lt))
 take_more (x ∷ xs) zero d lt = refl
 take_more (x ∷ xs) (suc i) d lt =
     ap (λ n. take n (x ∷ xs)) (let e : suc i + 1 ≡ suc (i + 1) = omega arith in e)
-        ∙ ap (λ more. x ∷ more) (take_more xs i d (omega (arith, lt)))
+    ∙ ap (λ more. x ∷ more) (take_more xs i d (omega (arith, lt)))

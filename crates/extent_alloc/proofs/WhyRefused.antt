@@ -11,7 +11,7 @@ pub no_space : (want : Request) (runs : List PvRun) (free : ℕ) → free ≡ to
     → one_leg_refusal want runs ≡ Some (NoSpace want.extents free)
 no_space want runs free is less =
     cond-true (nat_lt (total runs) want.extents) _ _ (lt-ltb (total runs) want.extents (omega (arith, is, less)))
-        ∙ ap (λ n. Some (NoSpace want.extents n)) (sym is)
+    ∙ ap (λ n. Some (NoSpace want.extents n)) (sym is)
 
 pub no_run : (want : Request) (runs : List PvRun) (long : ℕ) → want.extents ≤ total runs → want.contiguous ≡ true → long ≡ longest runs
     → long < want.extents → one_leg_refusal want runs ≡ Some (NoRun want.extents long)
@@ -25,4 +25,4 @@ pub too_few : (want : Request) (fit : List ℕ) (count : ℕ) → count ≡ leng
     → more_legs_refusal want fit ≡ Some (TooFewPvs want.legs count)
 too_few want fit count is less =
     cond-true (nat_lt (length fit) want.legs) _ _ (lt-ltb (length fit) want.legs (omega (arith, is, less)))
-        ∙ ap (λ n. Some (TooFewPvs want.legs n)) (sym is)
+    ∙ ap (λ n. Some (TooFewPvs want.legs n)) (sym is)

@@ -1,6 +1,6 @@
 -- Runs that are put into the buckets of their volumes.
-use Rattle.std.proofs.Common.{◌≡◌, ◌≢◌, ℕ, zero, suc, ◌+◌, ◌*◌, ◌<◌, ◌≤◌, List, [], ◌∷◌, ◌++◌, length, drop, get_or, map, refl, sym, ap,
-    ap₂, ◌∙◌, arith, append_assoc, append-nil}
+use Rattle.std.proofs.Common.{◌≡◌, ◌≢◌, ℕ, zero, suc, ◌+◌, ◌*◌, ◌<◌, ◌≤◌, List, [], ◌∷◌, ◌++◌, length, drop, get_or, map, refl, sym, ap}
+use Rattle.std.proofs.Common.{ap₂, ◌∙◌, arith, append_assoc, append-nil}
 use Rattle.std.specs.Prelude.{Some, Vec, replicate, slice_get, slice_index_or, slice_set}
 use Rattle.std.specs.List.{flat_map, range_with_len}
 use Rattle.std.proofs.lemmas.List.{drop_all, length-map}
@@ -38,7 +38,7 @@ each_set more at (suc k) (bucket ∷ buckets) old new lt is with_is none =
     ap₂ (λ (runs : List ExtentSpan) (later : List (List ExtentSpan)). runs ∷ later)
     (sym (ap (λ some. bucket.items ++ some) (none at (λ same. omega (arith, same))) ∙ append-nil bucket.items))
     (each_set more (at + 1) k buckets old new (omega (arith, lt)) is (with_is ∙ ap (λ n. old.items ++ more n) next)
-        (λ pv other. none pv (λ same. other (same ∙ next))))
+    (λ pv other. none pv (λ same. other (same ∙ next))))
 
 -- more, and then more
 pub each_next : (some rest all : ℕ → List ExtentSpan) (at : ℕ) (lists : List (List ExtentSpan)) → ((pv : ℕ) → all pv ≡ some pv ++ rest pv)
@@ -66,7 +66,7 @@ pub each_row : {X : Type 0} (f : ℕ → X → List ExtentSpan) (xs : List X) (i
     → each_with (λ pv. flat_map (f pv) (drop (i + 1) xs)) 0 next ≡ each_with (λ pv. flat_map (f pv) (drop i xs)) 0 lists
 each_row f xs i x lists next at is =
     each_walked f xs i x lists next (slice_get_within xs i x at)
-        (is ∙ ap (λ y. each_with (λ pv. f pv y) 0 lists) (sym (get_or_from_slice_get xs i x x at)))
+    (is ∙ ap (λ y. each_with (λ pv. f pv y) 0 lists) (sym (get_or_from_slice_get xs i x x at)))
 
 -- and nothing once it is done
 pub each_nothing : {X : Type 0} (f : ℕ → X → List ExtentSpan) (xs : List X) (i : ℕ) (lists : List (List ExtentSpan)) → length xs ≤ i

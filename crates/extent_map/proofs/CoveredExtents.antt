@@ -1,6 +1,6 @@
 -- Extents that runs have.
-use Rattle.std.proofs.Common.{◌≡◌, ℕ, zero, suc, ◌+◌, ◌<◌, ◌≤◌, Bool, true, false, List, [], ◌∷◌, ⊎_elim, refl, sym, subst, ◌∙◌, ◌↔◌,
-    IsTrue, arith}
+use Rattle.std.proofs.Common.{◌≡◌, ℕ, zero, suc, ◌+◌, ◌<◌, ◌≤◌, Bool, true, false, List, [], ◌∷◌, ⊎_elim, refl, sym, subst, ◌∙◌, ◌↔◌}
+use Rattle.std.proofs.Common.{IsTrue, arith}
 use Rattle.std.specs.Prelude.{Contains, nat_le, nat_lt}
 use Rattle.std.specs.List.{list_any}
 use Rattle.std.specs.List.Sorted.{IsPermutation}
@@ -46,7 +46,7 @@ cover_found extent [] cover = absurd (omega (arith, cover.1.1))
 cover_found extent (run ∷ runs) cover =
     cover_cases run runs extent cover
     (λ has. or_left (is_in extent run) (list_any (is_in extent) runs)
-        (and_from _ _ (le-leb run.first extent has.0) (lt-ltb extent (run.first + run.count) has.1)))
+    (and_from _ _ (le-leb run.first extent has.0) (lt-ltb extent (run.first + run.count) has.1)))
     (λ later. or_right (is_in extent run) (list_any (is_in extent) runs) (cover_found extent runs later))
 
 is_true : (b : Bool) → IsTrue b → b ≡ true

@@ -41,9 +41,9 @@ are_free group pv row runs is stand from to = record {
     free_to : (extent : ℕ) → IsFree group pv extent → LiesIn (gaps 0 row.1.pe_count runs) extent
     free_to extent free =
         let below : extent < row.1.pe_count =
-            subst (λ (r : List ℕ × Pv). extent < r.1.pe_count) (same_Some free.0.0 row (sym free.0.1 ∙ is)) free.0.2 in
+        subst (λ (r : List ℕ × Pv). extent < r.1.pe_count) (same_Some free.0.0 row (sym free.0.1 ∙ is)) free.0.2 in
         lies_in_gaps 0 row.1.pe_count extent runs stand (omega arith) below
-            (λ cover. free.1 (used_where_covered group pv extent (from extent cover)))
+        (λ cover. free.1 (used_where_covered group pv extent (from extent cover)))
 
 -- once the runs were sorted, they stand in order
 pub sorted_stand : (group : Group) (pv : ℕ) (row : List ℕ × Pv) (runs : List ExtentSpan) → IsAccepted group
@@ -51,7 +51,7 @@ pub sorted_stand : (group : Group) (pv : ℕ) (row : List ℕ × Pv) (runs : Lis
     → StandBetween 0 row.1.pe_count runs
 sorted_stand group pv row runs accepted is moved order =
     let fit : All (Fits (2 * pv) row.1.pe_count) runs =
-        All-permutation (Fits (2 * pv) row.1.pe_count) (lvs_on pv group.lvs) runs moved (all_fit group pv row accepted is) in
+    All-permutation (Fits (2 * pv) row.1.pe_count) (lvs_on pv group.lvs) runs moved (all_fit group pv row accepted is) in
     sorted_between (2 * pv) row.1.pe_count runs (recursion_from_All (Fits (2 * pv) row.1.pe_count) runs fit)
     ((sorted_tells (lvs_on pv group.lvs) runs (can_sort group pv row accepted is) moved order).1 (lie_apart_there group pv accepted))
 
@@ -70,9 +70,8 @@ pub free_and_covered : (group : Group) (pv : ℕ) (row : List ℕ × Pv) → IsA
     × (sum_by (λ (run : ExtentRun). run.count) runs + extents_in (lvs_on pv group.lvs) ≡ row.1.pe_count)
 free_and_covered group pv row accepted is =
     let ordered : InOrder row.1.pe_count (lvs_on pv group.lvs) =
-        in_order (2 * pv) row.1.pe_count (lvs_on pv group.lvs)
-            (recursion_from_All (Fits (2 * pv) row.1.pe_count) _ (all_fit group pv row accepted is)) (lie_apart_there group pv accepted) in
-    (
+    in_order (2 * pv) row.1.pe_count (lvs_on pv group.lvs)
+    (recursion_from_All (Fits (2 * pv) row.1.pe_count) _ (all_fit group pv row accepted is)) (lie_apart_there group pv accepted) in (
       gaps 0 row.1.pe_count ordered.sorted,
       are_free group pv row ordered.sorted is ordered.between ordered.from ordered.to,
       omega (arith, gaps_sum 0 row.1.pe_count ordered.sorted ordered.between, ordered.sum),

@@ -1,6 +1,6 @@
 -- The gaps between runs in order are the longest runs of what they don't cover.
-use Rattle.std.proofs.Common.{◌≡◌, ℕ, zero, suc, ◌+◌, ◌-◌, ◌<◌, ◌≤◌, List, [], ◌∷◌, ◌++◌, length, get_or, sum_by, ⊎_elim, inl, inr, sym, ap,
-    subst, ◌∙◌, drop, drop-cons, arith}
+use Rattle.std.proofs.Common.{◌≡◌, ℕ, zero, suc, ◌+◌, ◌-◌, ◌<◌, ◌≤◌, List, [], ◌∷◌, ◌++◌, length, get_or, sum_by, ⊎_elim, inl, inr, sym, ap}
+use Rattle.std.proofs.Common.{subst, ◌∙◌, drop, drop-cons, arith}
 use Rattle.std.specs.Prelude.{All, nat_lt}
 use Rattle.std.specs.List.{AllAdjacentBelow}
 use Rattle.std.proofs.lemmas.Bool.{cases_lt, cond-true, cond-false, lt-ltb, le-ltb}
@@ -39,7 +39,7 @@ lies_in_gap : (from to extent : ℕ) → from ≤ extent → extent < to → Lie
 lies_in_gap from to extent low high =
     let run : ExtentRun = record { first = from; count = to - from } in
     subst (λ (runs : List ExtentRun). LiesIn runs extent) (sym (some_gap from to (omega arith)))
-        (run, contains_first run [], low, omega arith)
+    (run, contains_first run [], low, omega arith)
 
 gap_has : (from to extent : ℕ) → LiesIn (gap from to) extent → (from ≤ extent) × (extent < to)
 gap_has from to extent lies =
@@ -52,9 +52,10 @@ gap_has from to extent lies =
     none_has lies = omega (arith, lies.1.1)
 
     one_has : LiesIn (record { first = from; count = to - from } ∷ []) extent → (from ≤ extent) × (extent < to)
-    one_has (run, (zero, lt, is), low, high) =
-        (omega (arith, low, ap (λ (r : ExtentRun). r.first) is),
-            omega (arith, low, high, ap (λ (r : ExtentRun). r.first) is, ap (λ (r : ExtentRun). r.count) is))
+    one_has (run, (zero, lt, is), low, high) = (
+      omega (arith, low, ap (λ (r : ExtentRun). r.first) is),
+      omega (arith, low, high, ap (λ (r : ExtentRun). r.first) is, ap (λ (r : ExtentRun). r.count) is),
+    )
     one_has (run, (suc k, lt, is), low, high) = absurd (omega (arith, lt))
 
 lies_left : (a b : List ExtentRun) (extent : ℕ) → LiesIn a extent → LiesIn (a ++ b) extent
@@ -117,7 +118,7 @@ pub gaps_some : (at end : ℕ) (runs : List ExtentSpan) → All (λ (run : Exten
 gaps_some at end [] = gap_some at end
 gaps_some at end (run ∷ runs) =
     All-append (λ (run : ExtentRun). 1 ≤ run.count) (gap at run.first) (gaps (run.first + run.count) end runs) (gap_some at run.first)
-        (gaps_some (run.first + run.count) end runs)
+    (gaps_some (run.first + run.count) end runs)
 
 -- between two gaps lies an extent: each begins at this extent or later
 Begin : ℕ → List ExtentRun → Type 0
@@ -147,7 +148,7 @@ gaps_begin at end [] stand =
     ]
 gaps_begin at end (run ∷ runs) stand =
     let rest : Begin (run.first + run.count) (gaps (run.first + run.count) end runs) =
-        gaps_begin (run.first + run.count) end runs stand.2 in
+    gaps_begin (run.first + run.count) end runs stand.2 in
     begin_gap at run.first (gaps (run.first + run.count) end runs)
     (begin_earlier (run.first + 1) (run.first + run.count) _ (omega (arith, stand.1)) rest)
     (begin_earlier at (run.first + run.count) _ (omega (arith, stand.0)) rest)
@@ -161,7 +162,7 @@ apart_from at (run ∷ next ∷ runs) begin zero d lt = omega (arith, begin.1.0)
 apart_from at (run ∷ next ∷ runs) begin (suc k) d lt =
     let here : suc (k + 1) ≡ suc k + 1 = omega arith in
     let P : ℕ → Type 0 =
-        λ n. (get_or (next ∷ runs) k d).first + (get_or (next ∷ runs) k d).count < (get_or (run ∷ next ∷ runs) n d).first in
+    λ n. (get_or (next ∷ runs) k d).first + (get_or (next ∷ runs) k d).count < (get_or (run ∷ next ∷ runs) n d).first in
     subst P here (apart_from (run.first + run.count + 1) (next ∷ runs) begin.1 k d (omega arith))
 
 pub gaps_apart : (at end : ℕ) (runs : List ExtentSpan) → StandBetween at end runs
@@ -182,7 +183,7 @@ gaps_sum at end [] stand = let all : at + sum_by (λ (run : ExtentRun). run.coun
 gaps_sum at end (run ∷ runs) stand =
     let here : at + sum_by (λ (run : ExtentRun). run.count) (gap at run.first) ≡ run.first = gap_sum at run.first stand.0 in
     let rest : run.first + run.count + sum_by (λ (run : ExtentRun). run.count) (gaps (run.first + run.count) end runs)
-        + sum_by (λ (run : ExtentSpan). run.count) runs ≡ end = gaps_sum (run.first + run.count) end runs stand.2 in
+    + sum_by (λ (run : ExtentSpan). run.count) runs ≡ end = gaps_sum (run.first + run.count) end runs stand.2 in
     let both = sum_by-append (λ (run : ExtentRun). run.count) (gap at run.first) (gaps (run.first + run.count) end runs) in
     let all = sum_by-cons (λ (run : ExtentSpan). run.count) run runs in
     omega (arith, here, rest, both, all)

@@ -1,6 +1,6 @@
 -- The runs on a physical volume are those of the group that lie there, and what they are like where the group keeps the rules.
-use Rattle.std.proofs.Common.{◌≡◌, ℕ, zero, suc, ◌+◌, ◌*◌, ◌/◌, ◌%◌, ◌<◌, ◌≤◌, ◌^◌, List, [], ◌∷◌, ◌++◌, length, get_or, map, cond, Some,
-    inl, inr, refl, sym, ap, subst, ◌∙◌, arith, zero-mul}
+use Rattle.std.proofs.Common.{◌≡◌, ℕ, zero, suc, ◌+◌, ◌*◌, ◌/◌, ◌%◌, ◌<◌, ◌≤◌, ◌^◌, List, [], ◌∷◌, ◌++◌, length, get_or, map, cond, Some}
+use Rattle.std.proofs.Common.{inl, inr, refl, sym, ap, subst, ◌∙◌, arith, zero-mul}
 use Rattle.std.specs.Prelude.{All, AllPairs, Contains, nat_eq, slice_get}
 use Rattle.std.specs.List.{filter, flat_map}
 use Rattle.std.proofs.lemmas.Bool.{cases_eq, cases_lt, cond-true, cond-false, eq-eqb, ne_eqb}
@@ -56,14 +56,14 @@ one_leg pv share leg (on.Lv number) rest =
 there_append : (pv : ℕ) (a b : List LegRun) → there pv (a ++ b) ≡ there pv a ++ there pv b
 there_append pv a b =
     ap (filter (λ (run : ExtentSpan). nat_eq run.on (2 * pv))) (map-append run_to_sort a b)
-        ∙ filter-append (λ (run : ExtentSpan). nat_eq run.on (2 * pv)) (map run_to_sort a) (map run_to_sort b)
+    ∙ filter-append (λ (run : ExtentSpan). nat_eq run.on (2 * pv)) (map run_to_sort a) (map run_to_sort b)
 
 of_legs : (pv lv segment share number : ℕ) (legs : List Leg)
     → flat_map (leg_on pv share) legs ≡ there pv (runs_of_legs lv segment share number legs)
 of_legs pv lv segment share number [] = refl
 of_legs pv lv segment share number (leg ∷ legs) =
     ap (λ rest. leg_on pv share leg ++ rest) (of_legs pv lv segment share (number + 1) legs)
-        ∙ one_leg pv share leg leg.on (there pv (runs_of_legs lv segment share (number + 1) legs))
+    ∙ one_leg pv share leg leg.on (there pv (runs_of_legs lv segment share (number + 1) legs))
 
 of_segments : (pv lv number : ℕ) (segments : List Segment)
     → flat_map (segment_on pv) segments ≡ there pv (runs_of_segments lv number segments)
@@ -123,7 +123,7 @@ goes_there pv [] leg at is = absurd (omega (arith, at.1))
 goes_there pv (one ∷ runs) leg (zero, lt, same) is =
     let here : on_number one.on ≡ 2 * pv = ap (λ (l : LegRun). on_number l.on) same ∙ ap on_number is in
     subst (λ (some : List ExtentSpan). Contains some (run_to_sort leg))
-        (sym (cond-true (nat_eq (on_number one.on) (2 * pv)) _ _ (eq-eqb _ _ here)))
+    (sym (cond-true (nat_eq (on_number one.on) (2 * pv)) _ _ (eq-eqb _ _ here)))
     (subst (Contains (run_to_sort one ∷ there pv runs)) (ap run_to_sort same) (contains_first (run_to_sort one) (there pv runs)))
 goes_there pv (one ∷ runs) leg (suc k, lt, same) is =
     let rest : Contains (there pv runs) (run_to_sort leg) = goes_there pv runs leg (k, omega arith, same) is in
@@ -139,21 +139,30 @@ goes_there pv (one ∷ runs) leg (suc k, lt, same) is =
 pub used_where_covered : (group : Group) (pv extent : ℕ) → Cover (lvs_on pv group.lvs) extent → IsUsed group (on.Pv pv) extent
 used_where_covered group pv extent cover =
     let of : IsOf pv (runs_of group) cover.0 =
-        come_from pv (runs_of group) cover.0 (subst (λ (some : List ExtentSpan). Contains some cover.0) (of_group group pv) cover.1) in
-    (of.leg, of.listed, (of.on_is, subst (λ (r : ExtentSpan). r.first ≤ extent) (sym of.is) cover.2.0,
-        subst (λ (r : ExtentSpan). extent < r.first + r.count) (sym of.is) cover.2.1))
+    come_from pv (runs_of group) cover.0 (subst (λ (some : List ExtentSpan). Contains some cover.0) (of_group group pv) cover.1) in (
+      of.leg,
+      of.listed,
+      (
+        of.on_is,
+        subst (λ (r : ExtentSpan). r.first ≤ extent) (sym of.is) cover.2.0,
+        subst (λ (r : ExtentSpan). extent < r.first + r.count) (sym of.is) cover.2.1,
+      ),
+    )
 
 pub covered_where_used : (group : Group) (pv extent : ℕ) → IsUsed group (on.Pv pv) extent → Cover (lvs_on pv group.lvs) extent
-covered_where_used group pv extent used =
-    (run_to_sort used.0, subst (λ (some : List ExtentSpan). Contains some (run_to_sort used.0)) (sym (of_group group pv))
-        (goes_there pv (runs_of group) used.0 used.1 used.2.0), (used.2.1, used.2.2))
+covered_where_used group pv extent used = (
+  run_to_sort used.0,
+  subst (λ (some : List ExtentSpan). Contains some (run_to_sort used.0)) (sym (of_group group pv))
+      (goes_there pv (runs_of group) used.0 used.1 used.2.0),
+  (used.2.1, used.2.2),
+)
 
 -- they lie apart
 pub lie_apart_there : (group : Group) (pv : ℕ) → IsAccepted group → AllPairs NoExtentInBoth (lvs_on pv group.lvs)
 lie_apart_there group pv accepted =
     subst (AllPairs NoExtentInBoth) (sym (of_group group pv))
-        (AllPairs-filter NoExtentInBoth (λ (run : ExtentSpan). nat_eq run.on (2 * pv)) (map run_to_sort (runs_of group))
-        ((apart_in_order group).0 (accepted Apart)))
+    (AllPairs-filter NoExtentInBoth (λ (run : ExtentSpan). nat_eq run.on (2 * pv)) (map run_to_sort (runs_of group))
+    ((apart_in_order group).0 (accepted Apart)))
 
 -- each segment has a leg
 leg_of_kind : (size count : ℕ) (kind : SegKind) → IsWholeStriped size count kind → IsWholeMirror kind → 1 ≤ length (legs_of kind)
@@ -174,7 +183,7 @@ share_some size count (Striped stripe legs) striped some =
       | inl more ↦ omega arith
       | inr none ↦ let nothing : share * length legs ≡ 0 =
           ap (λ (n : ℕ). n * length legs) (let e : share ≡ 0 = omega arith in e)
-              ∙ zero-mul (length legs) in absurd (omega (arith, striped.2))
+          ∙ zero-mul (length legs) in absurd (omega (arith, striped.2))
     ]
 share_some size count (Mirror region moved legs) striped some = some
 
@@ -189,14 +198,14 @@ run_some group run accepted listed =
     let of : IsRunOf group.lvs 0 run = run_is group run listed in
     let follow : Follow 0 of.volume.1.segments × (extents_of of.volume.1 * group.extent_size < 2 ^ 48) =
     all_at (λ (lv : List ℕ × Lv). Follow 0 lv.1.segments × (extents_of lv.1 * group.extent_size < 2 ^ 48)) group.lvs of.nth of.volume
-        (accepted Follows) of.is_volume in
+    (accepted Follows) of.is_volume in
     let some : 1 ≤ of.segment.count = follow_some 0 run.segment of.volume.1.segments of.segment follow.0 of.is_segment in
     let whole : All (λ (segment : Segment). IsWholeStriped group.extent_size segment.count segment.kind) of.volume.1.segments =
     all_at (λ (lv : List ℕ × Lv). All (λ (segment : Segment). IsWholeStriped group.extent_size segment.count segment.kind) lv.1.segments)
-        group.lvs of.nth of.volume (accepted Stripes) of.is_volume in
+    group.lvs of.nth of.volume (accepted Stripes) of.is_volume in
     let striped : IsWholeStriped group.extent_size of.segment.count of.segment.kind =
     all_at (λ (segment : Segment). IsWholeStriped group.extent_size segment.count segment.kind) of.volume.1.segments run.segment of.segment
-        whole of.is_segment in
+    whole of.is_segment in
     subst (λ n. 1 ≤ n) (sym of.count_is) (share_some group.extent_size of.segment.count of.segment.kind striped some)
 
 -- each lies within the volume
@@ -211,15 +220,15 @@ pub all_fit : (group : Group) (pv : ℕ) (row : List ℕ × Pv) → IsAccepted g
 all_fit group pv row accepted is k d lt =
     let run : ExtentSpan = get_or (lvs_on pv group.lvs) k d in
     let of : IsOf pv (runs_of group) run =
-        come_from pv (runs_of group) run (subst (λ (some : List ExtentSpan). Contains some run) (of_group group pv)
-            (Contains-get_or (lvs_on pv group.lvs) k d lt)) in
+    come_from pv (runs_of group) run (subst (λ (some : List ExtentSpan). Contains some run) (of_group group pv)
+    (Contains-get_or (lvs_on pv group.lvs) k d lt)) in
     subst (Fits (2 * pv) row.1.pe_count) of.is (record {
       same = ap on_number of.on_is;
       some = run_some group of.leg accepted of.listed;
       within =
           ends_within group of.leg.on pv (of.leg.first + of.leg.count) row is of.on_is
-              (All-contains (λ (leg : LegRun). LiesWithin group leg.on (leg.first + leg.count)) (runs_of group) of.leg (accepted Within)
-              of.listed);
+          (All-contains (λ (leg : LegRun). LiesWithin group leg.on (leg.first + leg.count)) (runs_of group) of.leg (accepted Within)
+          of.listed);
     })
 
 pub extents_are_few : (group : Group) (pv : ℕ) (row : List ℕ × Pv) → IsAccepted group → slice_get group.pvs pv ≡ Some row

@@ -1,6 +1,6 @@
 -- Runs that lie apart on one volume can be put in order, and then stand between its extents.
-use Rattle.std.proofs.Common.{◌≡◌, ℕ, zero, suc, ◌+◌, ◌≤◌, List, [], ◌∷◌, length, get_or, sum_by, inl, inr, refl, sym, ap, subst, ◌∙◌,
-    arith}
+use Rattle.std.proofs.Common.{◌≡◌, ℕ, zero, suc, ◌+◌, ◌≤◌, List, [], ◌∷◌, length, get_or, sum_by, inl, inr, refl, sym, ap, subst, ◌∙◌}
+use Rattle.std.proofs.Common.{arith}
 use Rattle.std.specs.Prelude.{AllPairs}
 use Rattle.std.specs.List.{AllAdjacentBelow, AllByRecursion}
 use Rattle.std.proofs.lemmas.Bool.{cases_lt}
@@ -54,7 +54,7 @@ unfolding put
 put_between at end run [] stand low some high misses = (low, some, high)
 put_between at end run (next ∷ runs) stand low some high misses =
     elim (cases_lt run.first next.first) as (λ c. StandBetween at end
-        (elim c [ inl less ↦ run ∷ next ∷ runs | inr more ↦ next ∷ put run runs ])) [
+    (elim c [ inl less ↦ run ∷ next ∷ runs | inr more ↦ next ∷ put run runs ])) [
       | inl less ↦
           elim (cases_lt next.first (run.first + run.count)) [
             | inl meet ↦ absurd (misses next.first (omega arith, meet)
@@ -64,8 +64,12 @@ put_between at end run (next ∷ runs) stand low some high misses =
       | inr more ↦
           elim (cases_lt run.first (next.first + next.count)) [
             | inl meet ↦ absurd (misses run.first (omega arith, omega arith) (cover_first next runs run.first (more, meet)))
-            | inr apart ↦ (stand.0, stand.1, put_between (next.first + next.count) end run runs stand.2 apart some high
-                (λ extent has cover. misses extent has (cover_later next runs extent cover)))
+            | inr apart ↦ (
+              stand.0,
+              stand.1,
+              put_between (next.first + next.count) end run runs stand.2 apart some high
+                  (λ extent has cover. misses extent has (cover_later next runs extent cover)),
+            )
           ]
     ]
 
@@ -80,7 +84,7 @@ put_covers run (next ∷ runs) extent cover =
       | inr more ↦ λ here. cover_cases next (put run runs) extent here
           (λ has. cover_later run (next ∷ runs) extent (cover_first next runs extent has))
           (λ later. cover_cases run runs extent (put_covers run runs extent later) (λ has. cover_first run (next ∷ runs) extent has)
-              (λ rest. cover_later run (next ∷ runs) extent (cover_later next runs extent rest)))
+          (λ rest. cover_later run (next ∷ runs) extent (cover_later next runs extent rest)))
     ] in
     step cover
 
@@ -104,11 +108,15 @@ unfolding put
 put_sum run [] = sum_by-cons (λ (r : ExtentSpan). r.count) run []
 put_sum run (next ∷ runs) =
     elim (cases_lt run.first next.first) as (λ c. sum_by (λ (r : ExtentSpan). r.count)
-        (elim c [ inl less ↦ run ∷ next ∷ runs | inr more ↦ next ∷ put run runs ])
-        ≡ run.count + sum_by (λ (r : ExtentSpan). r.count) (next ∷ runs)) [
+    (elim c [ inl less ↦ run ∷ next ∷ runs | inr more ↦ next ∷ put run runs ])
+    ≡ run.count + sum_by (λ (r : ExtentSpan). r.count) (next ∷ runs)) [
       | inl less ↦ sum_by-cons (λ (r : ExtentSpan). r.count) run (next ∷ runs)
-      | inr more ↦ omega (arith, sum_by-cons (λ (r : ExtentSpan). r.count) next (put run runs),
-          sum_by-cons (λ (r : ExtentSpan). r.count) next runs, put_sum run runs)
+      | inr more ↦ omega (
+        arith,
+        sum_by-cons (λ (r : ExtentSpan). r.count) next (put run runs),
+        sum_by-cons (λ (r : ExtentSpan). r.count) next runs,
+        put_sum run runs,
+      )
     ]
 
 -- the same extents in order
@@ -129,11 +137,11 @@ in_order on end (run ∷ runs) fit apart =
       between = put_between 0 end run rest.sorted rest.between (omega arith) fit.0.some fit.0.within (misses rest);
       from =
           λ extent cover. cover_cases run rest.sorted extent (put_covers run rest.sorted extent cover)
-              (λ has. cover_first run runs extent has) (λ later. cover_later run runs extent (rest.from extent later));
+          (λ has. cover_first run runs extent has) (λ later. cover_later run runs extent (rest.from extent later));
       to =
           λ extent cover. covers_put run rest.sorted extent
-              (cover_cases run runs extent cover (λ has. cover_first run rest.sorted extent has)
-              (λ later. cover_later run rest.sorted extent (rest.to extent later)));
+          (cover_cases run runs extent cover (λ has. cover_first run rest.sorted extent has)
+          (λ later. cover_later run rest.sorted extent (rest.to extent later)));
       sum = put_sum run rest.sorted ∙ ap (λ n. run.count + n) rest.sum ∙ sym (sum_by-cons (λ (r : ExtentSpan). r.count) run runs);
     }
   where
@@ -142,5 +150,5 @@ in_order on end (run ∷ runs) fit apart =
         let there : Cover runs extent = rest.from extent cover in
         let fits : Fits on end there.0 = All-contains (Fits on end) runs there.0 (All-from_recursion (Fits on end) runs fit.1) there.1 in
         let both : NoExtentInBoth run there.0 =
-            subst (NoExtentInBoth run) there.1.2 (apart zero (suc there.1.0) there.0 (omega arith) (omega (arith, there.1.1))) in
+        subst (NoExtentInBoth run) there.1.2 (apart zero (suc there.1.0) there.0 (omega arith) (omega (arith, there.1.1))) in
         both extent (fit.0.same ∙ sym fits.same) has.0 has.1 there.2.0 there.2.1

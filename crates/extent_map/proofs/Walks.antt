@@ -1,6 +1,6 @@
 -- A walk over a list, of which each element gives some of another.
-use Rattle.std.proofs.Common.{◌≡◌, ℕ, ◌+◌, ◌<◌, Bool, ◌||◌, List, ◌++◌, length, get_or, drop, sum_by, ap, ◌∙◌, add-one, drop-cons, Some,
-    subst}
+use Rattle.std.proofs.Common.{◌≡◌, ℕ, ◌+◌, ◌<◌, Bool, ◌||◌, List, ◌++◌, length, get_or, drop, sum_by, ap, ◌∙◌, add-one, drop-cons, Some}
+use Rattle.std.proofs.Common.{subst}
 use Rattle.std.specs.Prelude.{All, slice_get}
 use Rattle.std.specs.List.{flat_map, list_any}
 use Rattle.std.proofs.lemmas.Option.{slice_get_within, get_or_from_slice_get}

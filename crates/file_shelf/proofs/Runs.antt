@@ -1,6 +1,6 @@
 -- Sectors in a run of bytes, as one more is copied.
-use Rattle.std.proofs.Common.{◌≡◌, ◌≤◌, ◌<◌, ℕ, ◌+◌, ◌-◌, ◌*◌, ◌&&◌, List, [], ◌++◌, length, take, drop, slice_index_or, slice_set, nat_le,
-    nat_lt, if◌then◌else◌, sym, ap, subst, ◌∙◌, arith}
+use Rattle.std.proofs.Common.{◌≡◌, ◌≤◌, ◌<◌, ℕ, ◌+◌, ◌-◌, ◌*◌, ◌&&◌, List, [], ◌++◌, length, take, drop, slice_index_or, slice_set, nat_le}
+use Rattle.std.proofs.Common.{nat_lt, if◌then◌else◌, sym, ap, subst, ◌∙◌, arith}
 use Rattle.std.proofs.lemmas.List.{drop-take, drop_all, append-nil, get_or-set_same, get_or-set_other}
 use Rattle.std.proofs.lemmas.Slice.{take-put_mid_below, between-put_mid}
 use Rattle.std.proofs.lemmas.Grind.{common_steps}
@@ -22,7 +22,7 @@ pub sector_of-written : (xs ys : List ℕ) (k n : ℕ) → 512 * k ≤ length xs
 sector_of-written xs ys k n le len =
     let e : 512 * k + 512 - 512 * k ≡ 512 = omega arith in
     subst (λ (m : ℕ). take m (drop (512 * k) (put_mid (512 * k) n xs ys)) ≡ ys) e
-        (between-put_mid (512 * k) n xs ys (512 * k + 512) le (omega arith))
+    (between-put_mid (512 * k) n xs ys (512 * k + 512) le (omega arith))
 
 -- a whole sector is put
 pub with_bytes-whole : (old bytes : List ℕ) → length old ≡ 512 → length bytes ≡ 512 → with_bytes old 0 bytes ≡ bytes

@@ -1,11 +1,11 @@
 -- Entries of a map, marks of disks and flushes in flight, as events change them.
-use Rattle.std.proofs.Common.{◌≡◌, ◌<◌, ◌≤◌, ℕ, zero, suc, ◌+◌, Bool, true, false, not, cond, ◌&&◌, ◌||◌, nat_eq, nat_le, nat_lt, List, [],
-    ◌∷◌, length, get_or, set, max, refl, sym, ap, ◌∙◌, arith}
+use Rattle.std.proofs.Common.{◌≡◌, ◌<◌, ◌≤◌, ℕ, zero, suc, ◌+◌, Bool, true, false, not, cond, ◌&&◌, ◌||◌, nat_eq, nat_le, nat_lt, List, []}
+use Rattle.std.proofs.Common.{◌∷◌, length, get_or, set, max, refl, sym, ap, ◌∙◌, arith}
 use Rattle.std.specs.Prelude.{AllPairs, None, Option, Some, remove}
 use Rattle.std.specs.List.{list_any, position_or_len}
 use Rattle.std.specs.Map.{lookup}
-use Rattle.std.proofs.lemmas.Bool.{and_from, and_left, and_parts, and_right, eqb-true, eqb-false, eq-eqb, le-leb, leb-true, leb-false,
-    lt-leb, ltb-true, ltb-false, ne_eqb}
+use Rattle.std.proofs.lemmas.Bool.{and_from, and_left, and_parts, and_right, eqb-true, eqb-false, eq-eqb, le-leb, leb-true, leb-false}
+use Rattle.std.proofs.lemmas.Bool.{lt-leb, ltb-true, ltb-false, ne_eqb}
 use Rattle.std.proofs.lemmas.List.Edits.{get_or-remove_above, get_or-remove_below, length-remove}
 use Rattle.std.proofs.lemmas.List.Folds.{list_any_at}
 use Rattle.indexmap.specs.IndexMap.{insert_entry}
@@ -31,7 +31,7 @@ pub lookup_put : (es : List (Write × ℕ)) (w : Write) (place : ℕ) → lookup
 lookup_put [] w place = rw (same_itself w) refl
 lookup_put (e ∷ es) w place =
     elim (same_write w e.0) as (λ b. same_write w e.0 ≡ b
-        → lookup (same_write w) (cond b ((e.0, place) ∷ es) (e ∷ insert_entry same_write es w place)) ≡ Some place) [
+    → lookup (same_write w) (cond b ((e.0, place) ∷ es) (e ∷ insert_entry same_write es w place)) ≡ Some place) [
       | true ↦ λ t. rw (t) refl
       | false ↦ λ t. rw (t) (lookup_put es w place)
     ] refl
@@ -42,7 +42,7 @@ pub lookup_other : (es : List (Write × ℕ)) (w x : Write) (place : ℕ) → sa
 lookup_other [] w x place other = rw (other) refl
 lookup_other (e ∷ es) w x place other =
     elim (same_write w e.0) as (λ b. same_write w e.0 ≡ b
-        → lookup (same_write x) (cond b ((e.0, place) ∷ es) (e ∷ insert_entry same_write es w place)) ≡ lookup (same_write x) (e ∷ es)) [
+    → lookup (same_write x) (cond b ((e.0, place) ∷ es) (e ∷ insert_entry same_write es w place)) ≡ lookup (same_write x) (e ∷ es)) [
       | true ↦ λ t. let apart : same_write x e.0 ≡ false = same_told w e.0 x t ∙ other in rw (apart) refl
       | false ↦ λ t. ap (λ (o : Option ℕ). cond (same_write x e.0) (Some e.1) o) (lookup_other es w x place other)
     ] refl

@@ -39,7 +39,7 @@ last_within (e ∷ es) w place held le all =
     let head : e.1 ≤ held = all 0 e (omega arith) in
     let tail : All (λ (x : Write × ℕ). x.1 ≤ held) es = λ k d lt. all (suc k) d (omega arith) in
     elim (same_write w e.0) as (λ b. All (λ (x : Write × ℕ). x.1 ≤ held)
-        (cond b ((e.0, place) ∷ es) (e ∷ insert_entry same_write es w place))) [
+    (cond b ((e.0, place) ∷ es) (e ∷ insert_entry same_write es w place))) [
       | true ↦ All-cons (λ (x : Write × ℕ). x.1 ≤ held) (e.0, place) es le tail
       | false ↦ All-cons (λ (x : Write × ℕ). x.1 ≤ held) e (insert_entry same_write es w place) head (last_within es w place held le tail)
     ]
@@ -51,10 +51,10 @@ orderly_by_wrote plan number pv o =
     record {
       last =
           last_within plan.last (record { number = number; pv = pv }) (plan.held + 1) (plan.held + 1) (omega arith)
-              (λ k d lt. let h : (get_or plan.last k d).1 ≤ plan.held = o.last k d lt in omega arith);
+          (λ k d lt. let h : (get_or plan.last k d).1 ≤ plan.held = o.last k d lt in omega arith);
       marks =
           All-set (IsWithin (plan.held + 1)) plan.marks pv (record (marks_of plan pv) { written = plan.held + 1 })
-              (omega arith, m.1, omega arith)
+          (omega arith, m.1, omega arith)
           (λ k d lt. let h : IsWithin plan.held (get_or plan.marks k d) = o.marks k d lt in (omega arith, h.1, omega arith));
       flushes = λ k d lt. let h : (get_or plan.flushes k d).after ≤ plan.held = o.flushes k d lt in omega arith;
     }
@@ -79,8 +79,10 @@ orderly_by_flushed plan tag flies o =
       last = o.last;
       marks =
           All-set (IsWithin plan.held) plan.marks f.pv
-              (record (marks_of plan f.pv) { ended = max (marks_of plan f.pv).ended f.after;
-              stable = max (marks_of plan f.pv).stable f.after }) (m.0, omega arith, omega arith) o.marks;
+          (record (marks_of plan f.pv) {
+            ended = max (marks_of plan f.pv).ended f.after;
+            stable = max (marks_of plan f.pv).stable f.after;
+          }) (m.0, omega arith, omega arith) o.marks;
       flushes = all_remove (λ (g : Flush). g.after ≤ plan.held) plan.flushes (flush_at plan tag) at o.flushes;
     }
 
@@ -94,6 +96,6 @@ orderly_by_lost plan tag flies o =
       last = o.last;
       marks =
           All-set (IsWithin plan.held) plan.marks f.pv (record (marks_of plan f.pv) { ended = max (marks_of plan f.pv).ended f.after })
-              (m.0, omega arith, omega arith) o.marks;
+          (m.0, omega arith, omega arith) o.marks;
       flushes = all_remove (λ (g : Flush). g.after ≤ plan.held) plan.flushes (flush_at plan tag) at o.flushes;
     }

@@ -1,6 +1,6 @@
 -- What a plan says after any events is what the events say.
-use Rattle.std.proofs.Common.{◌≡◌, ◌<◌, ◌≤◌, ℕ, suc, ◌+◌, Bool, true, false, cond, ◌&&◌, ◌||◌, nat_eq, nat_le, List, [], ◌∷◌, length,
-    get_or, set, max, refl, sym, ap, subst, ◌∙◌, arith}
+use Rattle.std.proofs.Common.{◌≡◌, ◌<◌, ◌≤◌, ℕ, suc, ◌+◌, Bool, true, false, cond, ◌&&◌, ◌||◌, nat_eq, nat_le, List, [], ◌∷◌, length}
+use Rattle.std.proofs.Common.{get_or, set, max, refl, sym, ap, subst, ◌∙◌, arith}
 use Rattle.std.specs.Prelude.{All, AllPairs, IsFalse, IsTrue, MatchOption, None, Option, Some, remove, replicate}
 use Rattle.std.specs.List.{list_any}
 use Rattle.std.proofs.lemmas.List.Folds.{list_any_at}
@@ -14,14 +14,14 @@ use Rattle.sector_base.proofs.Positions.{all_remove, any_within}
 use Rattle.flush_plan.specs.declared.records.Marks.{Marks}
 use Rattle.flush_plan.specs.declared.records.Write.{Write}
 use Rattle.flush_plan.specs.declared.records.Flush.{Flush}
-use Rattle.flush_plan.specs.History.{Event, Reserved, Wrote, Submitted, Flushed, Lost, MayBeTold, MayBeToldAll, StableIsFlushedAfter,
-    after_event, flight_of, has_flushed, is_disk, is_flushed_after, is_write, plan_after, since_write}
+use Rattle.flush_plan.specs.History.{Event, Reserved, Wrote, Submitted, Flushed, Lost, MayBeTold, MayBeToldAll, StableIsFlushedAfter}
+use Rattle.flush_plan.specs.History.{after_event, flight_of, has_flushed, is_disk, is_flushed_after, is_write, plan_after, since_write}
 use Rattle.flush_plan.specs.Plans.{Plan, IsOrderly, flush_at, flush_of, is_in_flight, is_stable, marks_of, no_marks, same_write}
 use Rattle.flush_plan.specs.Steps.{new_plan, after_wrote, after_submitted, after_flushed, after_lost}
-use Rattle.flush_plan.proofs.Flights.{lookup_put, lookup_other, mark_kept, mark_other, mark_written, passes_at, tags_left, tags_swap,
-    up_to_greater}
-use Rattle.flush_plan.proofs.Orderly.{marks_within, orderly_new, orderly_by_reserve, orderly_by_wrote, orderly_by_submitted,
-    orderly_by_flushed, orderly_by_lost}
+use Rattle.flush_plan.proofs.Flights.{lookup_put, lookup_other, mark_kept, mark_other, mark_written, passes_at, tags_left, tags_swap}
+use Rattle.flush_plan.proofs.Flights.{up_to_greater}
+use Rattle.flush_plan.proofs.Orderly.{marks_within, orderly_new, orderly_by_reserve, orderly_by_wrote, orderly_by_submitted}
+use Rattle.flush_plan.proofs.Orderly.{orderly_by_flushed, orderly_by_lost}
 
 -- a plan over so many disks: its places are those of writes, each flush is of one of the disks, and no two have one tag
 pub record IsKept (disks : ℕ) (plan : Plan) : Type 0 where
@@ -43,17 +43,21 @@ kept_step : (disks : ℕ) (plan : Plan) (e : Event) → IsKept disks plan → Ma
 kept_step disks plan (Reserved writes) h may =
     record { orderly = orderly_by_reserve plan (max writes plan.spare) h.orderly; many = h.many; within = h.within; unlike = h.unlike }
 kept_step disks plan (Wrote number pv) h may =
-    record { orderly = orderly_by_wrote plan number pv h.orderly; many = length-set plan.marks pv _ ∙ h.many; within = h.within;
-        unlike = h.unlike }
+    record {
+      orderly = orderly_by_wrote plan number pv h.orderly;
+      many = length-set plan.marks pv _ ∙ h.many;
+      within = h.within;
+      unlike = h.unlike;
+    }
 kept_step disks plan (Submitted pv tag) h may = record {
   orderly = orderly_by_submitted plan pv tag h.orderly;
   many = h.many;
   within =
       All-push (λ (f : Flush). f.pv < disks) plan.flushes (record { tag = tag; pv = pv; after = plan.held }) h.within
-          (omega (arith, may.0, h.many));
+      (omega (arith, may.0, h.many));
   unlike =
       all_pairs_push (λ (f g : Flush). nat_eq f.tag g.tag ≡ false) plan.flushes (record { tag = tag; pv = pv; after = plan.held }) h.unlike
-          (none_in_flight tag plan.flushes may.2);
+      (none_in_flight tag plan.flushes may.2);
 }
 kept_step disks plan (Flushed tag) h may =
     let at : flush_at plan tag < length plan.flushes = any_within (λ (f : Flush). nat_eq f.tag tag) plan.flushes may in
@@ -74,8 +78,12 @@ kept_step disks plan (Lost tag) h may =
 
 pub kept : (disks : ℕ) (events : List Event) → MayBeToldAll disks events → IsKept disks (plan_after disks events)
 kept disks [] may =
-    record { orderly = orderly_new disks; many = length-replicate disks no_marks; within = All-nil (λ (f : Flush). f.pv < disks);
-        unlike = λ i j d lt within. absurd (omega arith) }
+    record {
+      orderly = orderly_new disks;
+      many = length-replicate disks no_marks;
+      within = All-nil (λ (f : Flush). f.pv < disks);
+      unlike = λ i j d lt within. absurd (omega arith);
+    }
 kept disks (e ∷ before) may = kept_step disks (plan_after disks before) e (kept disks before may.1) may.0
 
 -- a write that has completed at this place, and what happened since
@@ -91,15 +99,15 @@ since_begins : (disks : ℕ) (plan : Plan) (number pv : ℕ) → IsKept disks pl
 since_begins disks plan number pv h =
     let m = marks_within plan h.orderly pv in
     let same : (marks_of (after_wrote plan number pv) pv).stable ≡ (marks_of plan pv).stable =
-        mark_kept (λ (x : Marks). x.stable) plan.marks pv (record (marks_of plan pv) { written = plan.held + 1 }) no_marks refl pv in
+    mark_kept (λ (x : Marks). x.stable) plan.marks pv (record (marks_of plan pv) { written = plan.held + 1 }) no_marks refl pv in
     record {
       found = lookup_put plan.last (record { number = number; pv = pv }) (plan.held + 1);
       held = omega arith;
       stable = lt-leb (plan.held + 1) (marks_of (after_wrote plan number pv) pv).stable (omega (arith, same, m.1, m.2));
       flying =
           λ k d lt. let early : (get_or plan.flushes k d).after
-              ≤ plan.held = h.orderly.flushes k d lt in and_left (nat_le (plan.held + 1) (get_or plan.flushes k d).after)
-              (nat_eq (get_or plan.flushes k d).pv pv) (lt-leb (plan.held + 1) (get_or plan.flushes k d).after (omega (arith, early)));
+          ≤ plan.held = h.orderly.flushes k d lt in and_left (nat_le (plan.held + 1) (get_or plan.flushes k d).after)
+          (nat_eq (get_or plan.flushes k d).pv pv) (lt-leb (plan.held + 1) (get_or plan.flushes k d).after (omega (arith, early)));
     }
 
 -- another write completes
@@ -110,7 +118,7 @@ since_wrote plan number pv place since own disk h other = record {
   held = omega (arith, h.held);
   stable =
       ap (λ (n : ℕ). nat_le place n) (mark_kept (λ (x : Marks). x.stable) plan.marks disk
-          (record (marks_of plan disk) { written = plan.held + 1 }) no_marks refl pv) ∙ h.stable;
+      (record (marks_of plan disk) { written = plan.held + 1 }) no_marks refl pv) ∙ h.stable;
   flying = h.flying;
 }
 
@@ -125,10 +133,10 @@ since_submitted plan number pv place since disk tag h fresh =
       stable = h.stable;
       flying =
           All-push (λ (g : Flush). (nat_le place g.after && nat_eq g.pv pv) ≡ is_disk pv (flight_of g.tag (Submitted disk tag ∷ since)))
-              plan.flushes f
+          plan.flushes f
           (λ k d lt. let apart : nat_eq tag (get_or plan.flushes k d).tag
-              ≡ false = tags_swap (get_or plan.flushes k d).tag tag (none_in_flight tag plan.flushes fresh k d lt) in rw (apart)
-              (h.flying k d lt))
+          ≡ false = tags_swap (get_or plan.flushes k d).tag tag (none_in_flight tag plan.flushes fresh k d lt) in rw (apart)
+          (h.flying k d lt))
           (rw (eq-eqb tag tag refl, le-leb place plan.held h.held) refl);
     }
 
@@ -143,11 +151,11 @@ left_flying plan pv place since tag e passed disks h flies all k d within =
     let at : flush_at plan tag < length plan.flushes = any_within (λ (f : Flush). nat_eq f.tag tag) plan.flushes flies in
     let left : List Flush = remove plan.flushes (flush_at plan tag) in
     let own : (get_or plan.flushes (flush_at plan tag) d).tag ≡ tag =
-        eqb-true (get_or plan.flushes (flush_at plan tag) d).tag tag (passes_at (λ (f : Flush). nat_eq f.tag tag) plan.flushes d flies) in
+    eqb-true (get_or plan.flushes (flush_at plan tag) d).tag tag (passes_at (λ (f : Flush). nat_eq f.tag tag) plan.flushes d flies) in
     let apart : nat_eq tag (get_or left k d).tag ≡ false =
-        subst (λ (n : ℕ). nat_eq n (get_or left k d).tag ≡ false) own (tags_left plan.flushes (flush_at plan tag) at h.unlike k d within) in
+    subst (λ (n : ℕ). nat_eq n (get_or left k d).tag ≡ false) own (tags_left plan.flushes (flush_at plan tag) at h.unlike k d within) in
     all_remove (λ (f : Flush). (nat_le place f.after && nat_eq f.pv pv) ≡ is_disk pv (flight_of f.tag since)) plan.flushes
-        (flush_at plan tag) at all k d within
+    (flush_at plan tag) at all k d within
     ∙ sym (ap (λ (o : Option ℕ). is_disk pv o) (passed (get_or left k d).tag apart))
 
 -- what the flush that ends was, by the events
@@ -157,7 +165,7 @@ own_flight : (plan : Plan) (number pv place : ℕ) (since : List Event) (tag : �
 own_flight plan number pv place since tag h flies =
     let at : flush_at plan tag < length plan.flushes = any_within (λ (f : Flush). nat_eq f.tag tag) plan.flushes flies in
     let own : (flush_of plan tag).tag ≡ tag =
-        eqb-true (flush_of plan tag).tag tag (passes_at (λ (f : Flush). nat_eq f.tag tag) plan.flushes _ flies) in
+    eqb-true (flush_of plan tag).tag tag (passes_at (λ (f : Flush). nat_eq f.tag tag) plan.flushes _ flies) in
     h.flying (flush_at plan tag) _ at ∙ ap (λ (n : ℕ). is_disk pv (flight_of n since)) own
 
 -- one of two tests, where the other passes
@@ -173,40 +181,41 @@ since_flushed disks plan number pv place since tag kept_so h flies =
     let at : flush_at plan tag < length plan.flushes = any_within (λ (f : Flush). nat_eq f.tag tag) plan.flushes flies in
     let f : Flush = flush_of plan tag in
     let m : Marks =
-        record (marks_of plan (flush_of plan tag).pv)
-            { ended = max (marks_of plan (flush_of plan tag).pv).ended (flush_of plan tag).after;
-            stable = max (marks_of plan (flush_of plan tag).pv).stable (flush_of plan tag).after } in
+    record (marks_of plan (flush_of plan tag).pv) {
+      ended = max (marks_of plan (flush_of plan tag).pv).ended (flush_of plan tag).after;
+      stable = max (marks_of plan (flush_of plan tag).pv).stable (flush_of plan tag).after;
+    } in
     let within : (flush_of plan tag).pv < length plan.marks =
-        omega (arith, kept_so.within (flush_at plan tag) (record { tag = 0; pv = 0; after = 0 }) at, kept_so.many) in
+    omega (arith, kept_so.within (flush_at plan tag) (record { tag = 0; pv = 0; after = 0 }) at, kept_so.many) in
     let own = own_flight plan number pv place since tag h flies in
     record {
       found = h.found;
       held = h.held;
       stable =
           elim (nat_eq (flush_of plan tag).pv pv) as
-              (λ b. nat_eq (flush_of plan tag).pv pv ≡ b
-              → nat_le place (marks_of (after_flushed plan tag) pv).stable ≡ (is_disk pv (flight_of tag since) || has_flushed pv since)) [
-        | true ↦ λ t.
-            let here : (flush_of plan tag).pv ≡ pv = eqb-true (flush_of plan tag).pv pv t in
-            let written : (marks_of (after_flushed plan tag) pv).stable ≡ max (marks_of plan pv).stable (flush_of plan tag).after =
-            subst (λ (p : ℕ). (get_or (set plan.marks (flush_of plan tag).pv m) p no_marks).stable
+          (λ b. nat_eq (flush_of plan tag).pv pv ≡ b
+          → nat_le place (marks_of (after_flushed plan tag) pv).stable ≡ (is_disk pv (flight_of tag since) || has_flushed pv since)) [
+            | true ↦ λ t.
+                let here : (flush_of plan tag).pv ≡ pv = eqb-true (flush_of plan tag).pv pv t in
+                let written : (marks_of (after_flushed plan tag) pv).stable ≡ max (marks_of plan pv).stable (flush_of plan tag).after =
+                subst (λ (p : ℕ). (get_or (set plan.marks (flush_of plan tag).pv m) p no_marks).stable
                 ≡ max (marks_of plan p).stable (flush_of plan tag).after) here
                 (ap (λ (x : Marks). x.stable) (mark_written plan.marks (flush_of plan tag).pv m no_marks within)) in
-            let covers : nat_le place (flush_of plan tag).after ≡ is_disk pv (flight_of tag since) =
+                let covers : nat_le place (flush_of plan tag).after ≡ is_disk pv (flight_of tag since) =
                 sym (and_true (nat_le place (flush_of plan tag).after) (nat_eq (flush_of plan tag).pv pv) t) ∙ own in
-            ap (λ (n : ℕ). nat_le place n) written ∙ up_to_greater place (marks_of plan pv).stable (flush_of plan tag).after
+                ap (λ (n : ℕ). nat_le place n) written ∙ up_to_greater place (marks_of plan pv).stable (flush_of plan tag).after
                 ∙ ap (λ (b : Bool). b || nat_le place (marks_of plan pv).stable) covers
                 ∙ ap (λ (b : Bool). is_disk pv (flight_of tag since) || b) h.stable
-        | false ↦ λ t.
-            let kept_mark : (marks_of (after_flushed plan tag) pv).stable ≡ (marks_of plan pv).stable =
+            | false ↦ λ t.
+                let kept_mark : (marks_of (after_flushed plan tag) pv).stable ≡ (marks_of plan pv).stable =
                 ap (λ (x : Marks). x.stable) (mark_other plan.marks (flush_of plan tag).pv pv m no_marks t) in
-            let not_own : is_disk pv (flight_of tag since) ≡ false =
+                let not_own : is_disk pv (flight_of tag since) ≡ false =
                 sym own ∙ and_right (nat_le place (flush_of plan tag).after) (nat_eq (flush_of plan tag).pv pv) t in
-            ap (λ (n : ℕ). nat_le place n) kept_mark ∙ h.stable ∙ ap (λ (b : Bool). b || has_flushed pv since) (sym not_own)
-      ] refl;
+                ap (λ (n : ℕ). nat_le place n) kept_mark ∙ h.stable ∙ ap (λ (b : Bool). b || has_flushed pv since) (sym not_own)
+          ] refl;
       flying =
           left_flying plan pv place since tag (Flushed tag) (λ other apart. ap (λ (b : Bool). cond b None (flight_of other since)) apart)
-              disks kept_so flies h.flying;
+          disks kept_so flies h.flying;
     }
 
 -- a flush fails
@@ -217,18 +226,18 @@ since_lost disks plan number pv place since tag kept_so h flies = record {
   held = h.held;
   stable =
       ap (λ (n : ℕ). nat_le place n) (mark_kept (λ (x : Marks). x.stable) plan.marks (flush_of plan tag).pv
-          (record (marks_of plan (flush_of plan tag).pv)
-          { ended = max (marks_of plan (flush_of plan tag).pv).ended (flush_of plan tag).after }) no_marks refl pv) ∙ h.stable;
+      (record (marks_of plan (flush_of plan tag).pv)
+      { ended = max (marks_of plan (flush_of plan tag).pv).ended (flush_of plan tag).after }) no_marks refl pv) ∙ h.stable;
   flying =
       left_flying plan pv place since tag (Lost tag) (λ other apart. ap (λ (b : Bool). cond b None (flight_of other since)) apart) disks
-          kept_so flies h.flying;
+      kept_so flies h.flying;
 }
 
 -- what is known of a write after the events: it has never completed, or what happened since
 abbrev IsTold : ℕ → ℕ → Plan → Option (List Event) → Type 0
 IsTold number pv plan o =
     MatchOption o (lookup (same_write (record { number = number; pv = pv })) plan.last ≡ None)
-        (λ since. (place : ℕ) × HasSince plan number pv place since)
+    (λ since. (place : ℕ) × HasSince plan number pv place since)
 
 -- an event that is no completion of it
 told_step : (disks : ℕ) (plan : Plan) (number pv : ℕ) (e : Event) (o : Option (List Event)) → IsKept disks plan → MayBeTold plan e
@@ -259,8 +268,8 @@ told_write disks plan number pv (Wrote other disk) h own =
     let same : number ≡ other = eqb-true number other parts.0 in
     let there : pv ≡ disk = eqb-true pv disk parts.1 in
     subst (λ (n : ℕ). IsTold n pv (after_wrote plan other disk) (Some [])) (sym same)
-        (subst (λ (p : ℕ). IsTold other p (after_wrote plan other disk) (Some [])) (sym there)
-        (plan.held + 1, since_begins disks plan other disk h))
+    (subst (λ (p : ℕ). IsTold other p (after_wrote plan other disk) (Some [])) (sym there)
+    (plan.held + 1, since_begins disks plan other disk h))
 told_write disks plan number pv (Submitted disk tag) h own = cc
 told_write disks plan number pv (Flushed tag) h own = cc
 told_write disks plan number pv (Lost tag) h own = cc
@@ -270,8 +279,8 @@ told : (disks : ℕ) (events : List Event) (number pv : ℕ) → MayBeToldAll di
 told disks [] number pv may = refl
 told disks (e ∷ before) number pv may =
     elim (is_write number pv e) as (λ b. is_write number pv e ≡ b
-        → IsTold number pv (plan_after disks (e ∷ before))
-        (cond b (Some []) (option_map (λ since. e ∷ since) (since_write number pv before)))) [
+    → IsTold number pv (plan_after disks (e ∷ before))
+    (cond b (Some []) (option_map (λ since. e ∷ since) (since_write number pv before)))) [
       | true ↦ λ own. told_write disks (plan_after disks before) number pv e (kept disks before may.1) own
       | false ↦ λ other. told_step disks (plan_after disks before) number pv e (since_write number pv before) (kept disks before may.1)
           may.0 other (told disks before number pv may.1)

@@ -1,6 +1,6 @@
 -- What happened to a plan, and which writes that has made stable, by the events alone.
-use Rattle.std.specs.Prelude.{◌≡◌, ◌<◌, ℕ, Bool, true, false, ◌==◌, ◌&&◌, ◌||◌, max, if◌then◌else◌, IsFalse, IsTrue, List, [], ◌∷◌, Option,
-    None, Some, length}
+use Rattle.std.specs.Prelude.{◌≡◌, ◌<◌, ℕ, Bool, true, false, ◌==◌, ◌&&◌, ◌||◌, max, if◌then◌else◌, IsFalse, IsTrue, List, [], ◌∷◌, Option}
+use Rattle.std.specs.Prelude.{None, Some, length}
 use Rattle.std.specs.Option.{option_map, option_map_or}
 use Rattle.flush_plan.specs.Plans.{Plan, is_in_flight, is_stable}
 use Rattle.flush_plan.specs.Steps.{new_plan, after_wrote, after_submitted, after_flushed, after_lost}
@@ -85,4 +85,4 @@ MayBeToldAll disks (e ∷ before) = MayBeTold (plan_after disks before) e × May
 abbrev pub StableIsFlushedAfter : Type 0
 StableIsFlushedAfter =
     (disks : ℕ) (events : List Event) (number pv : ℕ) → MayBeToldAll disks events
-        → is_stable (plan_after disks events) number pv ≡ is_flushed_after number pv events
+    → is_stable (plan_after disks events) number pv ≡ is_flushed_after number pv events

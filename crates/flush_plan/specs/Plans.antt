@@ -45,7 +45,7 @@ flush_of plan tag = slice_index_or plan.flushes (flush_at plan tag) (record { ta
 abbrev pub is_stable : Plan → ℕ → ℕ → Bool
 is_stable plan number pv =
     option_map_or (λ place. nat_le place (marks_of plan pv).stable) (lookup (same_write (record { number = number; pv = pv })) plan.last)
-        false
+    false
 
 -- whether a write on this disk has completed for which no flush submitted after it has ended, and no flush of the disk is
 -- in flight

@@ -1,12 +1,12 @@
 -- A volume whose legs lie on physical volumes of at most 2^40 sectors each has less than 2^48.
-use Rattle.std.proofs.Common.{◌≡◌, ◌≤◌, ◌<◌, ℕ, zero, suc, ◌+◌, ◌*◌, ◌^◌, Bool, true, false, cond, List, [], ◌∷◌, ◌++◌, length, map, Some,
-    inl, inr, refl, sym, ap, subst, ◌∙◌, arith}
+use Rattle.std.proofs.Common.{◌≡◌, ◌≤◌, ◌<◌, ℕ, zero, suc, ◌+◌, ◌*◌, ◌^◌, Bool, true, false, cond, List, [], ◌∷◌, ◌++◌, length, map, Some}
+use Rattle.std.proofs.Common.{inl, inr, refl, sym, ap, subst, ◌∙◌, arith}
 use Rattle.std.specs.Prelude.{slice_get, sum_by, All, AllPairs}
 use Rattle.std.specs.List.{filter}
 use Rattle.std.proofs.lemmas.Bool.{cases_eq, eq-eqb}
 use Rattle.std.proofs.lemmas.Bool.Decides.{nat_tests}
-use Rattle.std.proofs.lemmas.List.Elements.{All-contains, All-filter, All-head, All-map, All-tail, All-weaker, filter_passes,
-    recursion_from_All}
+use Rattle.std.proofs.lemmas.List.Elements.{All-contains, All-filter, All-head, All-map, All-tail, All-weaker, filter_passes}
+use Rattle.std.proofs.lemmas.List.Elements.{recursion_from_All}
 use Rattle.std.proofs.lemmas.List.Kept.{AllPairs-filter}
 use Rattle.std.proofs.lemmas.List.Sums.{sum_by-append, sum_by-cons}
 use Rattle.std.proofs.lemmas.Nat.{div-add-mod'}
@@ -55,9 +55,9 @@ segment_covered extent_size count (Striped stripe legs) striped mirror =
     let whole = div-add-mod' count (length legs) in let none = striped.2 in omega (arith, whole, none)
 segment_covered extent_size count (Mirror region moved legs) striped mirror =
     times count (length legs) (let two = mirror.0 in omega (arith, two)) where
-  times : (a b : ℕ) → 1 ≤ b → a ≤ a * b
-  times a zero some = absurd (omega (arith, some))
-  times a (suc b) some = omega arith
+      times : (a b : ℕ) → 1 ≤ b → a ≤ a * b
+      times a zero some = absurd (omega (arith, some))
+      times a (suc b) some = omega arith
 
 pub segments_covered : (extent_size lv number : ℕ) (segments : List Segment)
     → All (λ segment. IsWholeStriped extent_size segment.count segment.kind) segments → All (λ segment. IsWholeMirror segment.kind) segments
@@ -66,13 +66,13 @@ segments_covered extent_size lv number [] striped mirrors = omega arith
 segments_covered extent_size lv number (segment ∷ segments) striped mirrors =
     let share : ℕ = leg_share segment.count segment.kind in
     let here =
-        segment_covered extent_size segment.count segment.kind
-            (All-head (λ (s : Segment). IsWholeStriped extent_size s.count s.kind) segment segments striped)
-            (All-head (λ (s : Segment). IsWholeMirror s.kind) segment segments mirrors) in
+    segment_covered extent_size segment.count segment.kind
+    (All-head (λ (s : Segment). IsWholeStriped extent_size s.count s.kind) segment segments striped)
+    (All-head (λ (s : Segment). IsWholeMirror s.kind) segment segments mirrors) in
     let later =
-        segments_covered extent_size lv (number + 1) segments
-            (All-tail (λ (s : Segment). IsWholeStriped extent_size s.count s.kind) segment segments striped)
-            (All-tail (λ (s : Segment). IsWholeMirror s.kind) segment segments mirrors) in
+    segments_covered extent_size lv (number + 1) segments
+    (All-tail (λ (s : Segment). IsWholeStriped extent_size s.count s.kind) segment segments striped)
+    (All-tail (λ (s : Segment). IsWholeMirror s.kind) segment segments mirrors) in
     let first = legs_total lv number share 0 (legs_of segment.kind) in
     let both = total_both (runs_of_legs lv number share 0 (legs_of segment.kind)) (runs_of_segments lv (number + 1) segments) in
     let all = sum_by-cons (λ (s : Segment). s.count) segment segments in
@@ -97,7 +97,7 @@ at_sum pv (run ∷ runs) = by (tests pv run) (at_sum pv runs) where
       ≡ cond b (run.count + total_at pv runs) (total_at pv runs)
   by true later =
       sum_by-cons (λ (run : ExtentSpan). run.count) (run_to_sort run) (map run_to_sort (filter (tests pv) runs))
-          ∙ ap (λ (n : ℕ). run.count + n) later
+      ∙ ap (λ (n : ℕ). run.count + n) later
   by false later = later
 
 on_it : (pv : ℕ) (is : On) → is_on pv is ≡ true → is ≡ on.Pv pv
@@ -119,7 +119,7 @@ module _ (group : Group) (pv : ℕ) (row : List ℕ × Pv) (there : slice_get gr
   are_there : All (λ (run : LegRun). run.on ≡ on.Pv pv) here
   are_there =
       All-weaker (λ (run : LegRun). tests pv run ≡ true) (λ (run : LegRun). run.on ≡ on.Pv pv) (λ run passes. on_it pv run.on passes) here
-          (filter_passes (tests pv) runs)
+      (filter_passes (tests pv) runs)
 
   fits : (run : LegRun) → run.on ≡ on.Pv pv → IsOnVolume group run → Fits (2 * pv) row.1.pe_count (run_to_sort run)
   fits run is on_volume = record {
@@ -133,20 +133,20 @@ module _ (group : Group) (pv : ℕ) (row : List ℕ × Pv) (there : slice_get gr
   all_fit : All (Fits (2 * pv) row.1.pe_count) (map run_to_sort here)
   all_fit =
       All-map (Fits (2 * pv) row.1.pe_count) run_to_sort here
-          (λ k d within. fits _ (are_there k d within) (All-filter (tests pv) (IsOnVolume group) runs on_volumes k d within))
+      (λ k d within. fits _ (are_there k d within) (All-filter (tests pv) (IsOnVolume group) runs on_volumes k d within))
 
   sorted_apart : AllPairs NoExtentInBoth (map run_to_sort here)
   sorted_apart =
       map_pairs LieApart NoExtentInBoth (λ (run : LegRun). run.on ≡ on.Pv pv) run_to_sort
-          (λ a b is_a is_b lie extent same x y z w. lie (on.Pv pv) extent (is_a, x, y) (is_b, z, w)) here
+      (λ a b is_a is_b lie extent same x y z w. lie (on.Pv pv) extent (is_a, x, y) (is_b, z, w)) here
       (recursion_from_All (λ (run : LegRun). run.on ≡ on.Pv pv) here are_there) (AllPairs-filter LieApart (tests pv) runs apart)
 
   -- they have no more extents than the volume
   pub at_most : total_at pv runs ≤ row.1.pe_count
   at_most =
       let ordered =
-          in_order (2 * pv) row.1.pe_count (map run_to_sort here)
-              (recursion_from_All (Fits (2 * pv) row.1.pe_count) (map run_to_sort here) all_fit) sorted_apart in
+      in_order (2 * pv) row.1.pe_count (map run_to_sort here)
+      (recursion_from_All (Fits (2 * pv) row.1.pe_count) (map run_to_sort here) all_fit) sorted_apart in
       let gaps = gaps_sum 0 row.1.pe_count ordered.sorted ordered.between in
       omega (arith, gaps, ordered.sum, at_sum pv runs)
 
@@ -209,8 +209,8 @@ module _ (group : Group) (disks : LieOnDisks group) (runs : List LegRun) (on_vol
             let there : slice_get group.pvs pv ≡ Some row = one.2 in
             let few = times_less (total_at pv runs) row.1.pe_count group.extent_size (at_most group pv row there runs on_volumes apart) in
             let most =
-                All-contains (λ (pv : List ℕ × Pv). pv.1.pe_count * group.extent_size ≤ 2 ^ 40) group.pvs row disks
-                    (contains_at group.pvs pv row there) in
+            All-contains (λ (pv : List ℕ × Pv). pv.1.pe_count * group.extent_size ≤ 2 ^ 40) group.pvs row disks
+            (contains_at group.pvs pv row there) in
             omega (arith, few, most)
         | inr none ↦ let past = none.0 in absurd (omega (arith, past, within))
       ]
@@ -227,7 +227,7 @@ module _ (group : Group) (disks : LieOnDisks group) (runs : List LegRun) (on_vol
   stand =
       All-weaker (IsOnVolume group) (λ (run : LegRun). (pv : ℕ) × (run.on ≡ on.Pv pv) × (pv < length group.pvs))
       (λ run is. (is.pv, is.on_pv, by run is (subst (λ (o : On). LiesWithin group o (run.first + run.count)) is.on_pv is.within))) runs
-          on_volumes
+      on_volumes
     where
       by : (run : LegRun) (is : IsOnVolume group run) → LiesWithin group (on.Pv is.pv) (run.first + run.count) → is.pv < length group.pvs
       by run is lies = slice_get_within group.pvs is.pv (lies.0, lies.1) lies.2

@@ -1,7 +1,7 @@
 -- Where a new logical volume begins: its first eight sectors stand side by side at the first leg of its first segment, in extents
 -- that were free.
-use Rattle.std.proofs.Common.{◌≡◌, ◌≤◌, ◌<◌, ◌⊎◌, ℕ, ◌+◌, ◌-◌, ◌*◌, ◌/◌, ◌%◌, Bool, true, cond, nat_le, nat_lt, List, [], ◌∷◌, ◌++◌, length,
-    map, Option, Some, inl, inr, refl, sym, ap, subst, ◌∙◌, arith}
+use Rattle.std.proofs.Common.{◌≡◌, ◌≤◌, ◌<◌, ◌⊎◌, ℕ, ◌+◌, ◌-◌, ◌*◌, ◌/◌, ◌%◌, Bool, true, cond, nat_le, nat_lt, List, [], ◌∷◌, ◌++◌, length}
+use Rattle.std.proofs.Common.{map, Option, Some, inl, inr, refl, sym, ap, subst, ◌∙◌, arith}
 use Rattle.std.specs.Prelude.{option_map, slice_get, slice_index, All}
 use Rattle.std.specs.Option.{option_and_then}
 use Rattle.std.proofs.lemmas.Bool.{and_from, cases_eq, le-leb, lt-ltb}
@@ -24,8 +24,8 @@ use Rattle.extent_alloc.specs.declared.part.PartRun.{PartRun}
 use Rattle.extent_alloc.specs.declared.part.PvRun.{PvRun}
 use Rattle.volume_rules.specs.Rules.{Follow, IsAccepted}
 use Rattle.volume_rules.specs.declared.rule.Rule.TheVariants.{Numbers}
-use Rattle.volume_view.specs.InSegments.{Met, has_sector, leg_spot, met, offset_in, primary_leg, primary_spot, segment_from, spot_in,
-    stripe_leg, stripe_offset}
+use Rattle.volume_view.specs.InSegments.{Met, has_sector, leg_spot, met, offset_in, primary_leg, primary_spot, segment_from, spot_in}
+use Rattle.volume_view.specs.InSegments.{stripe_leg, stripe_offset}
 use Rattle.volume_view.specs.Places.{down, primary}
 use Rattle.volume_view.specs.View.{DisksDiffer}
 use Rattle.volume_view.proofs.GoingDown.{step_down}
@@ -59,8 +59,10 @@ pub first_of : (extent_size n count : ℕ) (kind : SegKind) (legs : List Leg) (s
 first_of extent_size n count (Mirror region moved others) legs sector may same less = record { leg = refl; offset = refl }
 first_of extent_size n count (Striped stripe others) legs sector may same less =
     elim (cases_eq (length legs) 1) [
-      | inl one ↦ record { leg = ap (λ (k : ℕ). stripe_leg stripe k sector) one;
-          offset = ap (λ (k : ℕ). stripe_offset stripe k sector) one }
+      | inl one ↦ record {
+        leg = ap (λ (k : ℕ). stripe_leg stripe k sector) one;
+        offset = ap (λ (k : ℕ). stripe_offset stripe k sector) one;
+      }
       | inr more ↦ by more
     ]
   where
@@ -125,8 +127,8 @@ first_covered Q (p ∷ parts) part run all is_part is_run =
     by [] all is = absurd cc
     by (r ∷ runs) all is =
         subst (λ (x : PartRun). Q (cover x)) (same_Some r run is)
-            (All-head Q (cover r) (map (λ (r : PartRun). record { pv = r.pv; first = r.first; count = part.extents }) runs ++ covered parts)
-            all)
+        (All-head Q (cover r) (map (λ (r : PartRun). record { pv = r.pv; first = r.first; count = part.extents }) runs ++ covered parts)
+        all)
 
 module _ (group : Group) (name id : List ℕ) (kind : SegKind) (given : List Part) (now : ℕ) (may : MayHave group id kind given now)
     (accepted : IsAccepted group) where
@@ -154,7 +156,7 @@ module _ (group : Group) (name id : List ℕ) (kind : SegKind) (given : List Par
       run_free : (1 ≤ part.extents) × IsFreeRun group its_run
       run_free =
           first_covered (λ (r : PvRun). (1 ≤ r.count) × IsFreeRun group r) given part run
-              (each_free group may.count given may.laid some_legs) is_part is_run
+          (each_free group may.count given may.laid some_legs) is_part is_run
 
       its_pv : (pv : List ℕ × Pv) × (slice_get group.pvs run.pv ≡ Some pv) × (run.first + part.extents ≤ pv.1.pe_count)
       its_pv = free_within group may.count given may.laid some_legs its_run run_free.0 run_free.1
@@ -163,13 +165,15 @@ module _ (group : Group) (name id : List ℕ) (kind : SegKind) (given : List Par
       first_leg : slice_get (legs_of (segment_of kind 0 part).kind) 0 ≡ Some (leg_at run)
       first_leg =
           ap (λ (legs : List Leg). slice_get legs 0) (legs_on (legs_in part) kind) ∙ slice_get-map leg_at part.runs 0
-              ∙ ap (option_map leg_at) is_run
+          ∙ ap (option_map leg_at) is_run
 
       pub leg_is : (segment : Segment) × (slice_get (new_lv id kind given now).segments 0 ≡ Some segment)
           × (slice_get (legs_of segment.kind) 0 ≡ Some (leg_at run))
-      leg_is =
-          (segment_of kind 0 part, ap (λ (segments : List Segment). slice_get segments 0) (first_segment kind given part is_part).1,
-              first_leg)
+      leg_is = (
+        segment_of kind 0 part,
+        ap (λ (segments : List Segment). slice_get segments 0) (first_segment kind given part is_part).1,
+        first_leg,
+      )
 
       module _ (pv : List ℕ × Pv) (is_pv : slice_get group.pvs run.pv ≡ Some pv) where
         -- the sector of the disk from which on they stand
@@ -187,13 +191,13 @@ module _ (group : Group) (name id : List ℕ) (kind : SegKind) (given : List Par
           segment_has =
               let first = first_segment kind given part is_part in
               let follow : Follow 0 (segment ∷ first.0) =
-                  subst (Follow 0) first.1 (parts_follow kind group may.count given may.legs may.laid 0) in
+              subst (Follow 0) first.1 (parts_follow kind group may.count given may.legs may.laid 0) in
               let some : 1 ≤ segment.count = follow.1 in
               let extent : 1 * group.extent_size ≤ (0 + segment.count) * group.extent_size =
-                  mul-le 1 group.extent_size (0 + segment.count) group.extent_size (omega (arith, some)) (omega arith) in
+              mul-le 1 group.extent_size (0 + segment.count) group.extent_size (omega (arith, some)) (omega arith) in
               let least : 8 ≤ group.extent_size = extent_least in
               and_from (nat_le (0 * group.extent_size) sector) (nat_lt sector ((0 + segment.count) * group.extent_size))
-                  (le-leb (0 * group.extent_size) sector (omega arith))
+              (le-leb (0 * group.extent_size) sector (omega arith))
               (lt-ltb sector ((0 + segment.count) * group.extent_size) (omega (arith, less, least, extent)))
 
           -- what is met in a row
@@ -215,10 +219,10 @@ module _ (group : Group) (name id : List ℕ) (kind : SegKind) (given : List Par
           unfolding leg_spot
           spot =
               let first : IsFirst segment.count segment.kind sector =
-                  first_of group.extent_size segment.count may.count kind (legs_in part) sector may.legs (legs_count part ∙ part_is.1)
-                      less in
+              first_of group.extent_size segment.count may.count kind (legs_in part) sector may.legs (legs_count part ∙ part_is.1)
+              less in
               ap (λ (j : ℕ). option_map (spot_in group.extent_size (offset_in segment.kind sector)) (slice_get (legs_of segment.kind) j))
-                  first.leg
+              first.leg
               ∙ ap (λ (offset : ℕ). option_map (spot_in group.extent_size offset) (slice_get (legs_of segment.kind) 0)) first.offset
               ∙ ap (option_map (spot_in group.extent_size sector)) first_leg
 
@@ -226,8 +230,10 @@ module _ (group : Group) (name id : List ℕ) (kind : SegKind) (given : List Par
               ≡ Some (record { pv = run.pv; sector = start + sector })
           goes =
               let sum : pv.1.pe_start + (run.first * group.extent_size + sector) ≡ start + sector = omega arith in
-              ap (option_map (λ (p : List ℕ × Pv). record { pv = run.pv;
-                  sector = p.1.pe_start + (run.first * group.extent_size + sector) })) is_pv
+              ap (option_map (λ (p : List ℕ × Pv). record {
+                pv = run.pv;
+                sector = p.1.pe_start + (run.first * group.extent_size + sector);
+              })) is_pv
               ∙ ap (λ (n : ℕ). Some (record { pv = run.pv; sector = n })) sum
 
           -- each of the first eight sectors has its primary place there
@@ -235,17 +241,17 @@ module _ (group : Group) (name id : List ℕ) (kind : SegKind) (given : List Par
           unfolding primary
           first_sectors =
               step_down next (length group.lvs) sector 4 m (spot_in group.extent_size sector (leg_at run))
-                  (record { pv = run.pv; sector = start + sector }) meets spot goes
+              (record { pv = run.pv; sector = start + sector }) meets spot goes
 
         -- they end within the extents of the physical volume
         pub start_within : start + 8 ≤ pv.1.pe_start + pv.1.pe_count * group.extent_size
         start_within =
             let most : run.first + part.extents ≤ pv.1.pe_count =
-                subst (λ (p : List ℕ × Pv). run.first + part.extents ≤ p.1.pe_count) (same_Some its_pv.0 pv (sym its_pv.1 ∙ is_pv))
-                    its_pv.2 in
+            subst (λ (p : List ℕ × Pv). run.first + part.extents ≤ p.1.pe_count) (same_Some its_pv.0 pv (sym its_pv.1 ∙ is_pv))
+            its_pv.2 in
             let some : 1 ≤ part.extents = run_free.0 in
             let within : (run.first + 1) * group.extent_size ≤ pv.1.pe_count * group.extent_size =
-                mul-le (run.first + 1) group.extent_size pv.1.pe_count group.extent_size (omega (arith, most, some)) (omega arith) in
+            mul-le (run.first + 1) group.extent_size pv.1.pe_count group.extent_size (omega (arith, most, some)) (omega arith) in
             let least : 8 ≤ group.extent_size = extent_least in
             omega (arith, within, least)
 
@@ -255,7 +261,7 @@ module _ (group : Group) (name id : List ℕ) (kind : SegKind) (given : List Par
         beside_eight sector (inr behind) =
             let some : 1 ≤ part.extents = run_free.0 in
             let within : (run.first + 1) * group.extent_size ≤ (run.first + part.extents) * group.extent_size =
-                mul-le (run.first + 1) group.extent_size (run.first + part.extents) group.extent_size (omega (arith, some)) (omega arith) in
+            mul-le (run.first + 1) group.extent_size (run.first + part.extents) group.extent_size (omega (arith, some)) (omega arith) in
             let least : 8 ≤ group.extent_size = extent_least in
             inr (omega (arith, behind, within, least))
 

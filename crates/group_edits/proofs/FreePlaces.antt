@@ -80,7 +80,7 @@ module _ (group : Group) (accepted : IsAccepted group) (run : PvRun) (free : IsF
           let low : run.first * group.extent_size ≤ used.into = omega (arith, reached, starts, used.at_is) in
           let high : used.into < (run.first + run.count) * group.extent_size = omega (arith, inside, starts, used.at_is) in
           (free (used.into / group.extent_size) (le-div run.first used.into group.extent_size some low)
-              (div_below used.into group.extent_size (run.first + run.count) some high)).1
+          (div_below used.into group.extent_size (run.first + run.count) some high)).1
           (subst (λ (n : ℕ). IsUsed group (on.Pv n) (used.into / group.extent_size)) same used.used)
 
   -- so is each primary place there
@@ -93,4 +93,4 @@ module _ (group : Group) (accepted : IsAccepted group) (run : PvRun) (free : IsF
   primary_beside_on disk_of differ lv sector at is same =
       let used : IsUsedAt group at = primary_is_used group lv sector at accepted is in
       used_beside at used (differ at.pv run.pv (slice_get_within group.pvs at.pv used.pv used.is_pv)
-          (slice_get_within group.pvs run.pv pv is_pv) same)
+      (slice_get_within group.pvs run.pv pv is_pv) same)

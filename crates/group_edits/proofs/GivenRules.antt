@@ -1,6 +1,6 @@
 -- The segments that are made of given extents keep the rules on segments.
-use Rattle.std.proofs.Common.{◌≡◌, ◌≤◌, ◌<◌, ℕ, ◌+◌, ◌*◌, ◌%◌, ◌^◌, zero, suc, Bool, List, [], ◌∷◌, ◌++◌, length, refl, sym, ap, subst, ◌∙◌,
-    arith}
+use Rattle.std.proofs.Common.{◌≡◌, ◌≤◌, ◌<◌, ℕ, ◌+◌, ◌*◌, ◌%◌, ◌^◌, zero, suc, Bool, List, [], ◌∷◌, ◌++◌, length, refl, sym, ap, subst, ◌∙◌}
+use Rattle.std.proofs.Common.{arith}
 use Rattle.std.specs.Prelude.{All}
 use Rattle.std.proofs.lemmas.List.Elements.{All-cons, All-contains, All-head, All-nil, All-tail}
 use Rattle.std.proofs.lemmas.List.Sums.{sum_by-append, sum_by-cons}
@@ -13,12 +13,12 @@ use Rattle.meta_model.specs.declared.segment.SegKind.TheVariants.{Striped, Mirro
 use Rattle.meta_model.specs.declared.segment.Segment.{Segment}
 use Rattle.extent_alloc.specs.declared.part.Part.{Part}
 use Rattle.extent_alloc.specs.declared.part.PvRun.{PvRun}
-use Rattle.volume_rules.specs.Rules.{Follow, IsPowerOfTwo, IsSmall, IsWholeMirror, IsWholeStriped, KindIsSmall, MovedIsAllowed, PvIsSmall,
-    SegmentIsSmall}
+use Rattle.volume_rules.specs.Rules.{Follow, IsPowerOfTwo, IsSmall, IsWholeMirror, IsWholeStriped, KindIsSmall, MovedIsAllowed, PvIsSmall}
+use Rattle.volume_rules.specs.Rules.{SegmentIsSmall}
 use Rattle.group_edits.proofs.GivenRuns.{each_free, free_within, legs_by, legs_count}
 use Rattle.group_edits.proofs.OtherNames.{contains_at}
-use Rattle.group_edits.specs.GivenSegments.{IsFreeRun, MayBeLaid, MayHaveLegs, extents_by, extents_in, kind_on, legs_in, segment_of,
-    segments_of}
+use Rattle.group_edits.specs.GivenSegments.{IsFreeRun, MayBeLaid, MayHaveLegs, extents_by, extents_in, kind_on, legs_in, segment_of}
+use Rattle.group_edits.specs.GivenSegments.{segments_of}
 
 -- ---- segments that follow each other
 
@@ -29,7 +29,7 @@ follow_both at (x ∷ xs) ys first second = (
   first.1,
   follow_both (at + x.count) xs ys first.2
       (subst (λ (n : ℕ). Follow n ys) (let more = sum_by-cons (λ (s : Segment). s.count) x xs in let e : at + extents_in (x ∷ xs)
-          ≡ at + x.count + extents_in xs = omega (arith, more) in e) second),
+      ≡ at + x.count + extents_in xs = omega (arith, more) in e) second),
 )
 
 pub extents_both : (xs ys : List Segment) → extents_in (xs ++ ys) ≡ extents_in xs + extents_in ys
@@ -111,7 +111,7 @@ module _ (kind : SegKind) where
   parts_moved pvmove start [] = All-nil (λ (segment : Segment). MovedIsAllowed pvmove segment.count segment.kind)
   parts_moved pvmove start (part ∷ parts) =
       All-cons (λ (segment : Segment). MovedIsAllowed pvmove segment.count segment.kind) (segment_of kind start part)
-          (segments_of kind (start + extents_by part.extents (kind_on (legs_in part) kind)) parts)
+      (segments_of kind (start + extents_by part.extents (kind_on (legs_in part) kind)) parts)
       (part_moved kind pvmove start part) (parts_moved pvmove (start + extents_by part.extents (kind_on (legs_in part) kind)) parts)
 
   pub segments_count : (start : ℕ) (parts : List Part) → length (segments_of kind start parts) ≡ length parts
@@ -125,7 +125,7 @@ module _ (kind : SegKind) where
     each_part start (part ∷ parts) all =
         All-cons Q (segment_of kind start part) (segments_of kind (start + extents_by part.extents (kind_on (legs_in part) kind)) parts)
         (step start part (All-head P part parts all))
-            (each_part (start + extents_by part.extents (kind_on (legs_in part) kind)) parts (All-tail P part parts all))
+        (each_part (start + extents_by part.extents (kind_on (legs_in part) kind)) parts (All-tail P part parts all))
 
 module _ (kind : SegKind) (group : Group) (count : ℕ) (parts : List Part) (kinds : MayHaveLegs group.extent_size count kind)
     (may : MayBeLaid group count parts) where
@@ -136,12 +136,12 @@ module _ (kind : SegKind) (group : Group) (count : ℕ) (parts : List Part) (kin
       (segments_of kind start parts)
   parts_striped start =
       each_part kind IsGood (λ (segment : Segment). IsWholeStriped group.extent_size segment.count segment.kind)
-          (λ at part good. part_striped kind group.extent_size count kinds part good.1 at) start parts may.legs
+      (λ at part good. part_striped kind group.extent_size count kinds part good.1 at) start parts may.legs
 
   pub parts_mirror : (start : ℕ) → All (λ segment. IsWholeMirror segment.kind) (segments_of kind start parts)
   parts_mirror start =
       each_part kind IsGood (λ (segment : Segment). IsWholeMirror segment.kind)
-          (λ at part good. part_mirror kind group.extent_size count kinds part good.1 at) start parts may.legs
+      (λ at part good. part_mirror kind group.extent_size count kinds part good.1 at) start parts may.legs
 
   pub parts_follow : (start : ℕ) → Follow start (segments_of kind start parts)
   parts_follow start = by start parts may.legs where
@@ -152,9 +152,12 @@ module _ (kind : SegKind) (group : Group) (count : ℕ) (parts : List Part) (kin
         let extents = here.0 in
         let runs = here.1 in
         let some : 1 ≤ length part.runs = let least = legs_some kind group.extent_size count kinds in omega (arith, runs, least) in
-        let least = extents_least kind part some in
-        (refl, omega (arith, extents, least), by (start + extents_by part.extents (kind_on (legs_in part) kind)) parts
-            (All-tail IsGood part parts all))
+        let least = extents_least kind part some in (
+          refl,
+          omega (arith, extents, least),
+          by (start + extents_by part.extents (kind_on (legs_in part) kind)) parts
+              (All-tail IsGood part parts all),
+        )
 
   -- ---- numbers
 
@@ -165,7 +168,7 @@ module _ (kind : SegKind) (group : Group) (count : ℕ) (parts : List Part) (kin
   first_small pvs run free =
       let inside = free_within group count parts may (legs_some kind group.extent_size count kinds) run free.0 free.1 in
       let few : IsSmall inside.0.1.pe_count =
-          (All-contains (λ (pv : List ℕ × Pv). PvIsSmall pv.1) group.pvs inside.0 pvs (contains_at group.pvs run.pv inside.0 inside.1)).2 in
+      (All-contains (λ (pv : List ℕ × Pv). PvIsSmall pv.1) group.pvs inside.0 pvs (contains_at group.pvs run.pv inside.0 inside.1)).2 in
       let most = inside.2 in
       let some = free.0 in
       omega (arith, some, few, most)
@@ -180,8 +183,8 @@ module _ (kind : SegKind) (group : Group) (count : ℕ) (parts : List Part) (kin
   parts_small pvs start ends =
       by start parts may.legs
       (legs_by (λ (run : PvRun). (1 ≤ run.count) × IsFreeRun group run) (λ (leg : Leg). IsSmall leg.first)
-          (λ run n free. first_small pvs (record { pv = run.pv; first = run.first; count = n }) free) parts
-          (each_free group count parts may (legs_some kind group.extent_size count kinds)))
+      (λ run n free. first_small pvs (record { pv = run.pv; first = run.first; count = n }) free) parts
+      (each_free group count parts may (legs_some kind group.extent_size count kinds)))
       ends
     where
       by : (start : ℕ) (parts : List Part) → All IsGood parts → All FirstsAreSmall parts
@@ -191,9 +194,11 @@ module _ (kind : SegKind) (group : Group) (count : ℕ) (parts : List Part) (kin
           let n : ℕ = extents_by part.extents (kind_on (legs_in part) kind) in
           let later : List Segment = segments_of kind (start + n) parts in
           let whole : extents_in (segments_of kind start (part ∷ parts)) ≡ n + extents_in later =
-              sum_by-cons (λ (s : Segment). s.count) (segment_of kind start part) later in
-          All-cons SegmentIsSmall (segment_of kind start part) later
-          (omega (arith, whole, ends), omega (arith, whole, ends),
-              part_small kind group.extent_size count kinds part (All-head IsGood part parts good).1 start
-              (All-head FirstsAreSmall part parts firsts))
+          sum_by-cons (λ (s : Segment). s.count) (segment_of kind start part) later in
+          All-cons SegmentIsSmall (segment_of kind start part) later (
+            omega (arith, whole, ends),
+            omega (arith, whole, ends),
+            part_small kind group.extent_size count kinds part (All-head IsGood part parts good).1 start
+                (All-head FirstsAreSmall part parts firsts),
+          )
           (by (start + n) parts (All-tail IsGood part parts good) (All-tail FirstsAreSmall part parts firsts) (omega (arith, whole, ends)))

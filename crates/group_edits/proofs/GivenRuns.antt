@@ -1,6 +1,6 @@
 -- The legs of the segments that are made of given extents: what they cover is free, and lies apart.
-use Rattle.std.proofs.Common.{◌≡◌, ◌≤◌, ◌<◌, ℕ, ◌+◌, ◌-◌, ◌*◌, ◌/◌, List, [], ◌∷◌, ◌++◌, length, map, Some, refl, sym, ap, subst, ◌∙◌,
-    arith}
+use Rattle.std.proofs.Common.{◌≡◌, ◌≤◌, ◌<◌, ℕ, ◌+◌, ◌-◌, ◌*◌, ◌/◌, List, [], ◌∷◌, ◌++◌, length, map, Some, refl, sym, ap, subst, ◌∙◌}
+use Rattle.std.proofs.Common.{arith}
 use Rattle.std.specs.Prelude.{slice_get, All, AllPairs}
 use Rattle.std.proofs.lemmas.List.{length-map}
 use Rattle.std.proofs.lemmas.List.Elements.{All-append, All-cons, All-head, All-nil, All-tail}
@@ -110,7 +110,7 @@ laid_pairs (leg ∷ a) [] laid pairs = absurd laid
 laid_pairs (leg ∷ a) (run ∷ b) laid pairs =
     AllPairs-cons LieApart leg a
     (laid_all (LieApart leg) (PvApart run) (λ other there is apart. legs_apart leg other run there laid.0 is apart) a b laid.1
-        (first_pairs PvApart run b pairs))
+    (first_pairs PvApart run b pairs))
     (laid_pairs a b laid.1 (later_pairs PvApart run b pairs))
 
 -- ---- the segments
@@ -128,9 +128,9 @@ module _ (kind : SegKind) (lv : ℕ) where
       (legs_of (kind_on (legs_in part) kind))) (covered_by part)
   part_laid segment start part some =
       subst (λ (share : ℕ). AreLaid (runs_of_legs lv segment share 0 (legs_of (kind_on (legs_in part) kind))) (covered_by part))
-          (sym (share_is part kind some))
+      (sym (share_is part kind some))
       (subst (λ (legs : List Leg). AreLaid (runs_of_legs lv segment part.extents 0 legs) (covered_by part))
-          (sym (legs_on (legs_in part) kind)) (legs_laid segment 0 part.extents part.runs))
+      (sym (legs_on (legs_in part) kind)) (legs_laid segment 0 part.extents part.runs))
 
   pub parts_laid : (segment start : ℕ) (parts : List Part) → All (λ (part : Part). 1 ≤ length part.runs) parts
       → AreLaid (runs_of_segments lv segment (segments_of kind start parts)) (covered parts)
@@ -138,12 +138,12 @@ module _ (kind : SegKind) (lv : ℕ) where
   parts_laid segment start (part ∷ parts) some =
       laid_append
       (runs_of_legs lv segment (leg_share (extents_by part.extents (kind_on (legs_in part) kind)) (kind_on (legs_in part) kind)) 0
-          (legs_of (kind_on (legs_in part) kind)))
+      (legs_of (kind_on (legs_in part) kind)))
       (runs_of_segments lv (segment + 1) (segments_of kind (start + extents_by part.extents (kind_on (legs_in part) kind)) parts))
       (covered_by part) (covered parts)
       (part_laid segment start part (All-head (λ (part : Part). 1 ≤ length part.runs) part parts some))
       (parts_laid (segment + 1) (start + extents_by part.extents (kind_on (legs_in part) kind)) parts
-          (All-tail (λ (part : Part). 1 ≤ length part.runs) part parts some))
+      (All-tail (λ (part : Part). 1 ≤ length part.runs) part parts some))
 
 -- ---- the legs of all parts
 
@@ -187,7 +187,7 @@ module _ (group : Group) (count : ℕ) (parts : List Part) (may : MayBeLaid grou
       by [] here = All-nil (λ (run : PvRun). 1 ≤ run.count)
       by (run ∷ runs) here =
           All-cons (λ (run : PvRun). 1 ≤ run.count) (record { pv = run.pv; first = run.first; count = part.extents })
-              (map (λ (run : PartRun). record { pv = run.pv; first = run.first; count = part.extents }) runs) here (by runs here)
+          (map (λ (run : PartRun). record { pv = run.pv; first = run.first; count = part.extents }) runs) here (by runs here)
 
   -- the last extent of a free run is one of its volume
   pub free_within : (run : PvRun) → 1 ≤ run.count → IsFreeRun group run
@@ -219,10 +219,10 @@ module _ (group : Group) (count : ℕ) (parts : List Part) (may : MayBeLaid grou
   pub runs_new : (kind : SegKind) (lv segment start : ℕ) → All (IsNewRun group) (runs_of_segments lv segment (segments_of kind start parts))
   runs_new kind lv segment start =
       laid_all (IsNewRun group) (λ (run : PvRun). (1 ≤ run.count) × IsFreeRun group run) new_run
-          (runs_of_segments lv segment (segments_of kind start parts)) (covered parts)
-          (parts_laid kind lv segment start parts each_has_runs) each_free
+      (runs_of_segments lv segment (segments_of kind start parts)) (covered parts)
+      (parts_laid kind lv segment start parts each_has_runs) each_free
 
   pub runs_apart : (kind : SegKind) (lv segment start : ℕ) → AllPairs LieApart (runs_of_segments lv segment (segments_of kind start parts))
   runs_apart kind lv segment start =
       laid_pairs (runs_of_segments lv segment (segments_of kind start parts)) (covered parts)
-          (parts_laid kind lv segment start parts each_has_runs) may.apart
+      (parts_laid kind lv segment start parts each_has_runs) may.apart

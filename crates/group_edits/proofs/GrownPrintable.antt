@@ -1,6 +1,6 @@
 -- New legs on physical volumes can be printed, and what stands in the group stays so where names came behind its own.
-use Rattle.std.proofs.Common.{◌≡◌, ◌<◌, ℕ, zero, suc, ◌+◌, ◌^◌, Bool, true, false, ◌||◌, cond, List, [], ◌∷◌, ◌++◌, length, get_or, map,
-    Option, Some, None, refl, sym, ap, subst, ◌∙◌, arith}
+use Rattle.std.proofs.Common.{◌≡◌, ◌<◌, ℕ, zero, suc, ◌+◌, ◌^◌, Bool, true, false, ◌||◌, cond, List, [], ◌∷◌, ◌++◌, length, get_or, map}
+use Rattle.std.proofs.Common.{Option, Some, None, refl, sym, ap, subst, ◌∙◌, arith}
 use Rattle.std.specs.Prelude.{nat_eq, is_none, slice_get, option_map}
 use Rattle.std.specs.Option.{option_or}
 use Rattle.std.specs.List.{AllByRecursion as Each, list_all, position, position_from}
@@ -45,10 +45,10 @@ module _ (group other : Group) (more : List (List ℕ)) (pvs : other.pvs ≡ gro
       let p : List ℕ → Bool = pointwise nat_eq name in
       let same_names : pv_names other ≡ pv_names group = ap (map (λ (pv : List ℕ × Pv). pv.0)) pvs in
       let places : (position p (pv_names group) ≡ None) × (position p (lv_names group) ≡ Some n) =
-          second_of (position p (pv_names group)) (position p (lv_names group)) n found in
+      second_of (position p (pv_names group)) (position p (lv_names group)) n found in
       let within : n < length (lv_names group) = (position-Some p (lv_names group) n [] places.1).0 in
       let same : get_or (lv_names other) n [] ≡ name =
-          ap (λ (l : List (List ℕ)). get_or l n []) names ∙ get_or_append_left (lv_names group) more [] n within in
+      ap (λ (l : List (List ℕ)). get_or l n []) names ∙ get_or_append_left (lv_names group) more [] n within in
       let none : position p (pv_names other) ≡ None = ap (position p) same_names ∙ places.0 in
       let again : position p (lv_names other) ≡ Some n = ap (position p) names ∙ position_kept p (lv_names group) more n places.1 in (
         ap (on_named (names_of other)) same
@@ -69,18 +69,18 @@ apart_at taken [] k are within = absurd (omega (arith, within))
 apart_at taken (name ∷ names) zero are within = are.1
 apart_at taken (name ∷ names) (suc k) are within =
     (or_false (pointwise nat_eq (get_or names k []) name) (is_among taken (get_or names k []))
-        (apart_at (name ∷ taken) names k are.2 (omega (arith, within)))).1
+    (apart_at (name ∷ taken) names k are.2 (omega (arith, within)))).1
 
 place_of : (i : ℕ) (taken names : List (List ℕ)) (k : ℕ) → AreNames taken names → k < length names
     → position_from (pointwise nat_eq (get_or names k [])) i names ≡ Some (i + k)
 place_of i taken [] k are within = absurd (omega (arith, within))
 place_of i taken (name ∷ names) zero are within =
     ap (λ (b : Bool). cond b (Some i) (position_from (pointwise nat_eq name) (i + 1) names)) (pointwise_same name)
-        ∙ ap (λ (n : ℕ). Some n) (let e : i ≡ i + 0 = omega arith in e)
+    ∙ ap (λ (n : ℕ). Some n) (let e : i ≡ i + 0 = omega arith in e)
 place_of i taken (name ∷ names) (suc k) are within =
     let x : List ℕ = get_or names k [] in
     let other : pointwise nat_eq x name ≡ false =
-        (or_false (pointwise nat_eq x name) (is_among taken x) (apart_at (name ∷ taken) names k are.2 (omega (arith, within)))).0 in
+    (or_false (pointwise nat_eq x name) (is_among taken x) (apart_at (name ∷ taken) names k are.2 (omega (arith, within)))).0 in
     ap (λ (b : Bool). cond b (Some i) (position_from (pointwise nat_eq x) (i + 1) names)) other
     ∙ place_of (i + 1) (name ∷ taken) names k are.2 (omega (arith, within))
     ∙ ap (λ (n : ℕ). Some n) (let e : i + 1 + k ≡ i + suc k = omega arith in e)
@@ -115,15 +115,15 @@ new_leg group are leg pv row lies there first =
     let name : List ℕ = get_or (pv_names group) pv [] in
     let p : List ℕ → Bool = pointwise nat_eq name in
     let within : pv < length (pv_names group) =
-        slice_get_within (pv_names group) pv row.0
-            (slice_get-map (λ (r : List ℕ × Pv). r.0) group.pvs pv ∙ ap (option_map (λ (r : List ℕ × Pv). r.0)) there) in
+    slice_get_within (pv_names group) pv row.0
+    (slice_get-map (λ (r : List ℕ × Pv). r.0) group.pvs pv ∙ ap (option_map (λ (r : List ℕ × Pv). r.0)) there) in
     let place : position p (pv_names group) ≡ Some pv =
-        position_from-zero p (pv_names group) ∙ place_of 0 [] (pv_names group) pv are within
-            ∙ ap (λ (n : ℕ). Some n) (let e : 0 + pv ≡ pv = omega arith in e) in
+    position_from-zero p (pv_names group) ∙ place_of 0 [] (pv_names group) pv are within
+    ∙ ap (λ (n : ℕ). Some n) (let e : 0 + pv ≡ pv = omega arith in e) in
     record {
       found =
           subst (λ (o : On). on_named (names_of group) (name_of group o) ≡ Some o) (sym lies)
-              (ap (λ (o : Option ℕ). option_or (on_pv o) (on_lv (position p (lv_names group)))) place);
+          (ap (λ (o : Option ℕ). option_or (on_pv o) (on_lv (position p (lv_names group)))) place);
       content = subst (λ (o : On). IsContent (name_of group o)) (sym lies) (name_content name (valid_at [] (pv_names group) pv are within));
       first_fits = first;
     }

@@ -1,11 +1,12 @@
 -- The next version of a group keeps all rules, where new legs lie on free extents of physical volumes: those of one volume, or of
 -- a new one. What the rules on ids, counts and segments ask is asked of it.
-use Rattle.std.proofs.Common.{◌≡◌, ◌≤◌, ◌<◌, ◌⊎◌, ℕ, ◌+◌, Bool, false, true≢false, cond, List, [], ◌∷◌, ◌++◌, Some, None, inl, inr, ⊎_elim,
-    refl, sym, ap, subst, ◌∙◌, arith}
+use Rattle.std.proofs.Common.{◌≡◌, ◌≤◌, ◌<◌, ◌⊎◌, ℕ, ◌+◌, Bool, false, true≢false, cond, List, [], ◌∷◌, ◌++◌, Some, None, inl, inr, ⊎_elim}
+use Rattle.std.proofs.Common.{refl, sym, ap, subst, ◌∙◌, arith}
 use Rattle.std.specs.Prelude.{nat_eq, slice_get, All, AllPairs, Contains}
 use Rattle.std.specs.List.{AllByRecursion as Each}
-use Rattle.std.proofs.lemmas.List.Elements.{All-append, All-contains, All-contains_itself, All-from_recursion, All-head, All-tail,
-    All-weaker, Contains-append_cases, Contains-append_left, Contains-append_right, recursion_from_All}
+use Rattle.std.proofs.lemmas.List.Elements.{All-append, All-contains, All-contains_itself, All-from_recursion, All-head, All-tail}
+use Rattle.std.proofs.lemmas.List.Elements.{All-weaker, Contains-append_cases, Contains-append_left, Contains-append_right}
+use Rattle.std.proofs.lemmas.List.Elements.{recursion_from_All}
 use Rattle.std.proofs.lemmas.Option.{same_Some}
 use Rattle.meta_model.specs.declared.group.Group.{Group}
 use Rattle.meta_model.specs.declared.lv.Lv.{Lv}
@@ -17,8 +18,8 @@ use Rattle.volume_rules.specs.Extents.{extents_of}
 use Rattle.volume_rules.specs.Legs.{IsInRun, IsUsed, IsWayDown, LegRun, LieApart, LiesOn, runs_of}
 use Rattle.volume_rules.specs.Moving.{lv_number}
 use Rattle.volume_rules.specs.Rules.{IsAccepted, IsMove, IsMoving, IsPvmove, Keeps, LiesWithin, LvIsSmall, counts, pvmove_number}
-use Rattle.volume_rules.specs.declared.rule.Rule.TheVariants.{Numbers, Ids, Volumes, Segments, Extents, Follows, Stripes, Mirrors, Within,
-    Apart, Depth, Moved, Pvmove, Locked}
+use Rattle.volume_rules.specs.declared.rule.Rule.TheVariants.{Numbers, Ids, Volumes, Segments, Extents, Follows, Stripes, Mirrors, Within}
+use Rattle.volume_rules.specs.declared.rule.Rule.TheVariants.{Apart, Depth, Moved, Pvmove, Locked}
 use Rattle.group_edits.proofs.Inserted.{first_pairs, later_pairs, pairs_inserted}
 use Rattle.group_edits.specs.NextVersion.{with_lvs}
 
@@ -104,7 +105,7 @@ module _ (group : Group) (lvs : List Row) (grown : IsGrown group lvs) (accepted 
       ⊎_elim
       (λ first. inl (old (Contains-append_left grown.front grown.back run first)))
       (λ later. ⊎_elim (λ new. inr new) (λ last. inl (old (Contains-append_right grown.front grown.back run last)))
-          (Contains-append_cases grown.more grown.back run later))
+      (Contains-append_cases grown.more grown.back run later))
       (Contains-append_cases grown.front (grown.more ++ grown.back) run (subst (λ (runs : List LegRun). Contains runs run) grown.is within))
     where
       old : Contains (grown.front ++ grown.back) run → Contains (runs_of group) run
@@ -125,11 +126,11 @@ module _ (group : Group) (lvs : List Row) (grown : IsGrown group lvs) (accepted 
       subst (All (λ (run : LegRun). LiesWithin next run.on (run.first + run.count))) (sym grown.is)
       (All-append P grown.front (grown.more ++ grown.back)
       (All-weaker (Contains grown.front) P (λ run there. old run (Contains-append_left grown.front grown.back run there)) grown.front
-          (All-contains_itself grown.front))
+      (All-contains_itself grown.front))
       (All-append P grown.more grown.back
       (All-weaker (IsNewRun group) P (λ run is. lies_within run.on (run.first + run.count) is.within) grown.more grown.new)
       (All-weaker (Contains grown.back) P (λ run there. old run (Contains-append_right grown.front grown.back run there)) grown.back
-          (All-contains_itself grown.back))))
+      (All-contains_itself grown.back))))
     where
       P : LegRun → Type 0
       P run = LiesWithin next run.on (run.first + run.count)
@@ -138,7 +139,7 @@ module _ (group : Group) (lvs : List Row) (grown : IsGrown group lvs) (accepted 
       old run there =
           lies_within run.on (run.first + run.count)
           (All-contains (λ (run : LegRun). LiesWithin group run.on (run.first + run.count)) (runs_of group) run (accepted Within)
-              (subst (λ (runs : List LegRun). Contains runs run) (sym grown.was) there))
+          (subst (λ (runs : List LegRun). Contains runs run) (sym grown.was) there))
 
   -- ---- Apart
 
@@ -146,11 +147,11 @@ module _ (group : Group) (lvs : List Row) (grown : IsGrown group lvs) (accepted 
   apart_kept =
       subst (AllPairs LieApart) (sym grown.is)
       (pairs_between LieApart apart_turned grown.front grown.more grown.back (subst (AllPairs LieApart) grown.was (accepted Apart))
-          grown.apart
+      grown.apart
       (All-weaker (IsNewRun group) (λ run. All (LieApart run) (grown.front ++ grown.back))
       (λ run is. All-weaker (Contains (grown.front ++ grown.back)) (LieApart run)
       (λ other there on extent in_new in_old. is.unused on extent in_new
-          (other, subst (λ (runs : List LegRun). Contains runs other) (sym grown.was) there, in_old))
+      (other, subst (λ (runs : List LegRun). Contains runs other) (sym grown.was) there, in_old))
       (grown.front ++ grown.back) (All-contains_itself (grown.front ++ grown.back)))
       grown.more grown.new))
 
@@ -168,7 +169,7 @@ module _ (group : Group) (lvs : List Row) (grown : IsGrown group lvs) (accepted 
   lies_on_back lv below lies =
       ⊎_elim (λ old. (lies.0, old, lies.2, lies.3))
       (λ new. let is : IsNewRun group lies.0 = All-contains (IsNewRun group) grown.more lies.0 grown.new new in absurd
-          (pv_is_no_lv is.pv below (sym is.on_pv ∙ lies.3)))
+      (pv_is_no_lv is.pv below (sym is.on_pv ∙ lies.3)))
       (run_back lies.0 lies.1)
 
   way_there : (way : List ℕ) → IsWayDown group way → IsWayDown next way
@@ -195,7 +196,7 @@ module _ (group : Group) (lvs : List Row) (grown : IsGrown group lvs) (accepted 
   load_same lv (below ∷ way) down =
       let row = named lv below down.0 in
       ap (λ (b : Bool). cond b 0 1 + load (counts next) way) (grown.pvmove_is below row.0 row.1)
-          ∙ ap (λ (n : ℕ). counts group below + n) (load_same below way down.1)
+      ∙ ap (λ (n : ℕ). counts group below + n) (load_same below way down.1)
 
   depth_kept : Keeps next Depth
   depth_kept = record {
@@ -205,7 +206,7 @@ module _ (group : Group) (lvs : List Row) (grown : IsGrown group lvs) (accepted 
         let found = grown.stays below row.0 row.1 in
         let same : found.0 ≡ (is.0, volume) = same_Some found.0 (is.0, volume) (sym found.1 ∙ is.1) in
         ap (λ (r : Row). r.1.status.visible) (sym same) ∙ ap (λ (s : LvStatus). s.visible) found.2.status
-            ∙ (accepted Depth).hidden lv below row.0.1 old (row.0.0, row.1);
+        ∙ (accepted Depth).hidden lv below row.0.1 old (row.0.0, row.1);
     ends = λ lv way is. (accepted Depth).ends lv way (way_back (lv ∷ way) is);
     few = λ lv way is.
         let down : IsWayDown group (lv ∷ way) = way_back (lv ∷ way) is in
@@ -224,7 +225,7 @@ module _ (group : Group) (lvs : List Row) (grown : IsGrown group lvs) (accepted 
   is_pvmove_there : (n : ℕ) → IsPvmove group n → IsPvmove next n
   is_pvmove_there n is =
       let found = grown.stays n (is.1.0, is.0)
-          is.1.1 in (found.0.1, (found.0.0, found.1), ap (λ (s : LvStatus). s.pvmove) found.2.status ∙ is.2)
+      is.1.1 in (found.0.1, (found.0.0, found.1), ap (λ (s : LvStatus). s.pvmove) found.2.status ∙ is.2)
 
   move_kept : (n : ℕ) (name : List ℕ) (lv : Lv) → IsMove group n name lv → IsMove next n name lv
   move_kept n name lv move = record {
@@ -242,7 +243,7 @@ module _ (group : Group) (lvs : List Row) (grown : IsGrown group lvs) (accepted 
         ⊎_elim
         (λ old.
         let move : IsMove group n old.0.0 old.0.1 =
-            (accepted Pvmove).whole n old.0.0 old.0.1 old.1 (ap (λ (s : LvStatus). s.pvmove) (sym old.2.status) ∙ has) in
+        (accepted Pvmove).whole n old.0.0 old.0.1 old.1 (ap (λ (s : LvStatus). s.pvmove) (sym old.2.status) ∙ has) in
         subst (λ (row : Row). IsMove next n row.0 row.1) (sym (old.2.hidden move.hidden)) (move_kept n old.0.0 old.0.1 move))
         (λ plain. absurd (true≢false (sym has ∙ plain.pvmove)))
         (grown.came n (name, lv) is);
@@ -253,7 +254,7 @@ module _ (group : Group) (lvs : List Row) (grown : IsGrown group lvs) (accepted 
       ⊎_elim
       (λ old.
       let moving : IsMoving group n =
-          (accepted Locked) n old.0.1 (old.0.0, old.1) (ap (λ (s : LvStatus). s.locked) (sym old.2.status) ∙ has) in
+      (accepted Locked) n old.0.1 (old.0.0, old.1) (ap (λ (s : LvStatus). s.locked) (sym old.2.status) ∙ has) in
       (moving.0, way_there (n ∷ moving.0) moving.1, (moving.2.0, moving.2.1, is_pvmove_there moving.2.0 moving.2.2)))
       (λ plain. absurd (true≢false (sym has ∙ plain.locked)))
       (grown.came n (is.0, lv) is.1)

@@ -31,7 +31,7 @@ module _ {X : Type 0} (R : X → X → Type 0) where
   pairs_inserted (x ∷ xs) zs y pairs before behind =
       AllPairs-cons R x (xs ++ y ∷ zs)
       (All-from_recursion (R x) (xs ++ y ∷ zs)
-          (each_inserted (R x) xs zs y (recursion_from_All (R x) (xs ++ zs) (first_pairs x (xs ++ zs) pairs)) before.0))
+      (each_inserted (R x) xs zs y (recursion_from_All (R x) (xs ++ zs) (first_pairs x (xs ++ zs) pairs)) before.0))
       (pairs_inserted xs zs y (later_pairs x (xs ++ zs) pairs) before.1 behind)
 
 pub slice_get-pushed : {X : Type 0} (xs ys : List X) (k : ℕ) (x : X) → slice_get xs k ≡ Some x → slice_get (xs ++ ys) k ≡ Some x

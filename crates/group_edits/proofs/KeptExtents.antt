@@ -1,6 +1,6 @@
 -- How many extents of segments stay, and that the segment which is cut keeps whole stripes.
-use Rattle.std.proofs.Common.{◌≡◌, ◌≤◌, ◌<◌, ℕ, ◌+◌, ◌-◌, ◌*◌, ◌/◌, Bool, true, false, cond, List, [], ◌∷◌, length, inl, inr, refl, ap, ◌∙◌,
-    arith}
+use Rattle.std.proofs.Common.{◌≡◌, ◌≤◌, ◌<◌, ℕ, ◌+◌, ◌-◌, ◌*◌, ◌/◌, Bool, true, false, cond, List, [], ◌∷◌, length, inl, inr, refl, ap, ◌∙◌}
+use Rattle.std.proofs.Common.{arith}
 use Rattle.std.specs.Prelude.{◌%◌, min, nat_le, sum_by}
 use Rattle.std.specs.List.{AllByRecursion as Each}
 use Rattle.std.proofs.lemmas.Bool.{cases_lt}
@@ -81,33 +81,33 @@ pub kept_below : (size : ℕ) (segments : List Segment) (said : ℕ) → Each (I
 kept_below size [] said shared less = less
 kept_below size (segment ∷ segments) said shared less =
     by (nat_le said segment.count) refl (kept_below size segments (said - segment.count) shared.1) where
-  rest : ℕ
-  rest = sum_by (λ (s : Segment). s.count) segments
+      rest : ℕ
+      rest = sum_by (λ (s : Segment). s.count) segments
 
-  all : sum_by (λ (s : Segment). s.count) (segment ∷ segments) ≡ segment.count + rest
-  all = sum_by-cons (λ (s : Segment). s.count) segment segments
+      all : sum_by (λ (s : Segment). s.count) (segment ∷ segments) ≡ segment.count + rest
+      all = sum_by-cons (λ (s : Segment). s.count) segment segments
 
-  by : (b : Bool) → nat_le said segment.count ≡ b → (said - segment.count ≤ rest → kept_of segments (said - segment.count) ≤ rest)
-      → cond b (whole_stripes said segment.kind) (segment.count + kept_of segments (said - segment.count))
-      ≤ sum_by (λ (s : Segment). s.count) (segment ∷ segments)
-  by true within later =
-      let few : said ≤ segment.count = grind (arith, nat_tests, within) in
-      let own : whole_stripes said segment.kind ≤ segment.count =
+      by : (b : Bool) → nat_le said segment.count ≡ b → (said - segment.count ≤ rest → kept_of segments (said - segment.count) ≤ rest)
+          → cond b (whole_stripes said segment.kind) (segment.count + kept_of segments (said - segment.count))
+          ≤ sum_by (λ (s : Segment). s.count) (segment ∷ segments)
+      by true within later =
+          let few : said ≤ segment.count = grind (arith, nat_tests, within) in
+          let own : whole_stripes said segment.kind ≤ segment.count =
           whole_below size said segment.count segment.kind shared.0.0 shared.0.1 few in
-      omega (arith, own, all)
-  by false past later =
-      let more : kept_of segments (said - segment.count) ≤ rest = later (omega (arith, less, all)) in
-      omega (arith, more, all)
+          omega (arith, own, all)
+      by false past later =
+          let more : kept_of segments (said - segment.count) ≤ rest = later (omega (arith, less, all)) in
+          omega (arith, more, all)
 
 -- no fewer than said
 pub kept_more : (size : ℕ) (segments : List Segment) (said : ℕ) → Each (IsShared size) segments → said ≤ kept_of segments said
 kept_more size [] said shared = omega arith
 kept_more size (segment ∷ segments) said shared =
     by (nat_le said segment.count) refl (kept_more size segments (said - segment.count) shared.1) where
-  by : (b : Bool) → nat_le said segment.count ≡ b → said - segment.count ≤ kept_of segments (said - segment.count)
-      → said ≤ cond b (whole_stripes said segment.kind) (segment.count + kept_of segments (said - segment.count))
-  by true is later = whole_more said segment.kind shared.0.0
-  by false is later = omega (arith, later)
+      by : (b : Bool) → nat_le said segment.count ≡ b → said - segment.count ≤ kept_of segments (said - segment.count)
+          → said ≤ cond b (whole_stripes said segment.kind) (segment.count + kept_of segments (said - segment.count))
+      by true is later = whole_more said segment.kind shared.0.0
+      by false is later = omega (arith, later)
 
 -- they stay where they are said
 pub kept_again : (size : ℕ) (segments : List Segment) (said : ℕ) → Each (IsShared size) segments
@@ -115,7 +115,7 @@ pub kept_again : (size : ℕ) (segments : List Segment) (said : ℕ) → Each (I
 kept_again size [] said shared = refl
 kept_again size (segment ∷ segments) said shared =
     by (nat_le said segment.count) refl (kept_again size segments (said - segment.count) shared.1)
-        (kept_more size segments (said - segment.count) shared.1) where
+    (kept_more size segments (said - segment.count) shared.1) where
       by : (b : Bool) → nat_le said segment.count ≡ b
           → kept_of segments (kept_of segments (said - segment.count)) ≡ kept_of segments (said - segment.count)
           → said - segment.count ≤ kept_of segments (said - segment.count)
@@ -128,7 +128,7 @@ kept_again size (segment ∷ segments) said shared =
           let below : n ≤ segment.count = whole_below size said segment.count segment.kind shared.0.0 shared.0.1 less in
           let test : nat_le n segment.count ≡ true = grind (arith, nat_tests, below) in
           ap (λ (b : Bool). cond b (whole_stripes n segment.kind) (segment.count + kept_of segments (n - segment.count))) test
-              ∙ whole_again said segment.kind shared.0.0
+          ∙ whole_again said segment.kind shared.0.0
       by false is again more =
           let k : ℕ = kept_of segments (said - segment.count) in
           let n : ℕ = segment.count + k in

@@ -58,7 +58,7 @@ pub record IsTaken (new : Group) (pv_number number : ℕ → ℕ) (PvStays Stays
 abbrev pub TakesSteps : Group → Group → (ℕ → ℕ) → (ℕ → ℕ) → (ℕ → Type 0) → (ℕ → Type 0) → Type 0
 TakesSteps group new pv_number number PvStays Stays =
     (lv sector : ℕ) (m : Met) (spot : Spot) → Stays lv → met group lv sector ≡ Some m → primary_spot group.extent_size m ≡ Some spot
-        → IsTaken new pv_number number PvStays Stays lv sector spot
+    → IsTaken new pv_number number PvStays Stays lv sector spot
 
 -- ---- places
 
@@ -70,7 +70,7 @@ module _ (group new : Group) (pv_number number : ℕ → ℕ) (PvStays Stays : �
   pv_kept pv sector at stays None there is = absurd cc
   pv_kept pv sector at stays (Some row) there is =
       ap (λ (o : Option (List ℕ × Pv)). option_map (λ (p : List ℕ × Pv). record { pv = pv_number pv; sector = p.1.pe_start + sector }) o)
-          (kept pv row stays there)
+      (kept pv row stays there)
       ∙ ap (λ (a : At). Some (at_by pv_number a)) (same_Some (record { pv = pv; sector = row.1.pe_start + sector }) at is)
 
   pub down_kept : (steps : ℕ) (is_on : On) (sector : ℕ) (at : At) → OnStays PvStays Stays is_on → down group is_on steps sector ≡ Some at
@@ -82,7 +82,7 @@ module _ (group new : Group) (pv_number number : ℕ → ℕ) (PvStays Stays : �
       let g : GoesDown group lv sector steps at = goes_down group lv sector steps at is in
       let t : IsTaken new pv_number number PvStays Stays lv sector g.spot = taken lv sector g.m g.spot stays g.meets g.is_spot in
       step_down new (number lv) sector steps t.m (spot_by (on_by pv_number number) g.spot) (at_by pv_number at) t.meets t.is_spot
-          (down_kept steps g.spot.on g.spot.sector at t.stays g.rest)
+      (down_kept steps g.spot.on g.spot.sector at t.stays g.rest)
 
   -- a volume that stays has the primary place of each sector
   pub primary_by : (lv sector : ℕ) (at : At) → Stays lv → primary group lv sector ≡ Some at

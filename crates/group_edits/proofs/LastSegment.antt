@@ -1,6 +1,6 @@
 -- The last segment of a volume, and those behind it.
-use Rattle.std.proofs.Common.{◌≡◌, ◌<◌, ℕ, zero, suc, ◌+◌, ◌-◌, ◌^◌, List, [], ◌∷◌, ◌++◌, length, map, take, Some, None, inl, inr, sym, ap,
-    subst, ◌∙◌, arith}
+use Rattle.std.proofs.Common.{◌≡◌, ◌<◌, ℕ, zero, suc, ◌+◌, ◌-◌, ◌^◌, List, [], ◌∷◌, ◌++◌, length, map, take, Some, None, inl, inr, sym, ap}
+use Rattle.std.proofs.Common.{subst, ◌∙◌, arith}
 use Rattle.std.specs.Prelude.{slice_get}
 use Rattle.std.proofs.lemmas.List.{map-append}
 use Rattle.std.proofs.lemmas.Option.{same_Some, slice_get_cases, slice_get_within}
@@ -29,7 +29,7 @@ module _ (lv : Lv) (given : List Part) (can : CanBeLonger given lv) (found : Lis
   kind_is : last_kind lv.segments ≡ last.kind
   kind_is =
       let there : slice_get lv.segments (length lv.segments - 1) ≡ Some last =
-          subst (λ (xs : List Segment). slice_get xs (length xs - 1) ≡ Some last) same at in
+      subst (λ (xs : List Segment). slice_get xs (length xs - 1) ≡ Some last) same at in
       let within : length lv.segments - 1 < length lv.segments = slice_get_within lv.segments (length lv.segments - 1) last there in
       kind_at lv.segments (length lv.segments - 1) last (omega (arith, within)) there
 

@@ -1,6 +1,6 @@
 -- A group in which a visible volume has more segments on free extents keeps all rules, and a tree stands for it.
-use Rattle.std.proofs.Common.{◌≡◌, ◌≢◌, ◌<◌, ℕ, ◌^◌, true, false, List, [], ◌∷◌, ◌++◌, length, map, Option, Some, None, refl, sym, ap,
-    subst, ◌∙◌, append-nil, true≢false, arith}
+use Rattle.std.proofs.Common.{◌≡◌, ◌≢◌, ◌<◌, ℕ, ◌^◌, true, false, List, [], ◌∷◌, ◌++◌, length, map, Option, Some, None, refl, sym, ap}
+use Rattle.std.proofs.Common.{subst, ◌∙◌, append-nil, true≢false, arith}
 use Rattle.std.specs.Prelude.{All, IsSomeAnd}
 use Rattle.std.specs.List.{AllByRecursion as Each}
 use Rattle.std.proofs.lemmas.List.Elements.{All-from_recursion}
@@ -58,7 +58,7 @@ module _ (group : Group) (before after : List Row) (row : Row) (given : List Par
   printable_longer below can =
       version_printable group (before ++ longer_row given row ∷ after) below can (subst (AreNames []) (sym names_same) can.lv_names)
       (each_replaced (λ (r : Row). IsLv next r.1) before after row (longer_row given row) olds
-          (longer_lv (each_between (λ (r : Row). IsLv next r.1) before after row olds))) where
+      (longer_lv (each_between (λ (r : Row). IsLv next r.1) before after row olds))) where
         olds : Each (λ (r : Row). IsLv next r.1) (before ++ row ∷ after)
         olds =
             subst (Each (λ (r : Row). IsLv next r.1)) rows
@@ -73,7 +73,7 @@ module _ (group : Group) (before after : List Row) (row : Row) (given : List Par
           each =
               join_all (IsSegment next) row.1.segments added is.each
               (parts_print (last_kind row.1.segments) group next _ given (legs_may group before after row rows accepted) may.laid
-                  (accepted Numbers).pvs refl can.pv_names (extents_of row.1)
+              (accepted Numbers).pvs refl can.pv_names (extents_of row.1)
               (ends group before after row rows accepted given seen may));
         }
 
@@ -124,7 +124,7 @@ module _ (group : Group) (name : List ℕ) (given : List Part) where
   longer_whole grows other accepted tree =
       let f : IsFound = found_by tree grows in
       subst IsWhole (sym (changed_is f)) (whole_around group f.place.before f.place.after f.place.row given f.place.rows_is f.place.seen
-          f.may accepted (seqno_below group accepted other) tree)
+      f.may accepted (seqno_below group accepted other) tree)
 
   others_can : (rows : List Row) → Each (λ (row : Row). same_bytes row.0 name ≡ false) rows → Each (CanBeLongerIf name given) rows
   others_can [] others = tt
@@ -135,9 +135,10 @@ module _ (group : Group) (name : List ℕ) (given : List Part) where
       let f : IsFound = found_by tree grows in
       subst (All (CanBeLongerIf name given)) (sym f.place.rows_is)
       (All-from_recursion (CanBeLongerIf name given) (f.place.before ++ f.place.row ∷ f.place.after)
-      (join_all (CanBeLongerIf name given) f.place.before (f.place.row ∷ f.place.after) (others_can f.place.before f.place.earlier)
-      (λ named. can_be group f.place.before f.place.after f.place.row given f.place.rows_is f.place.seen f.may accepted,
-          others_can f.place.after f.place.later)))
+      (join_all (CanBeLongerIf name given) f.place.before (f.place.row ∷ f.place.after) (others_can f.place.before f.place.earlier) (
+        λ named. can_be group f.place.before f.place.after f.place.row given f.place.rows_is f.place.seen f.may accepted,
+        others_can f.place.after f.place.later,
+      )))
 
 -- ---- as it is made
 
@@ -146,7 +147,7 @@ module _ (group found : Group) (name : List ℕ) (given parts : List Part) (same
   can_made grows accepted tree =
       subst (λ (ps : List Part). All (CanBeLongerIf name ps) found.lvs) (sym slice)
       (subst (λ (g : Group). All (CanBeLongerIf name given) g.lvs) (sym same)
-          (can_lengthen group name given grows (subst IsAccepted same accepted) (subst HasTree same tree)))
+      (can_lengthen group name given grows (subst IsAccepted same accepted) (subst HasTree same tree)))
 
   pub longer_made : (lvs : List Row) (later : Group) → lvs ≡ map (changed_if name (longer_row parts)) found.lvs → later ≡ with_lvs found lvs
       → later ≡ longer_volume name given group

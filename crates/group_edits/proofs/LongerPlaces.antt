@@ -29,11 +29,11 @@ front_found : (extent sector number : ℕ) (xs ys : List Segment) (f : ℕ × Se
 front_found extent sector number [] ys f is = absurd cc
 front_found extent sector number (x ∷ xs) ys f is =
     by (has_sector extent sector x) is (front_found extent sector (number + 1) xs ys f) where
-  by : (b : Bool) → cond b (Some (number, x)) (segment_from extent sector (number + 1) xs) ≡ Some f
-      → (segment_from extent sector (number + 1) xs ≡ Some f → segment_from extent sector (number + 1) (xs ++ ys) ≡ Some f)
-      → cond b (Some (number, x)) (segment_from extent sector (number + 1) (xs ++ ys)) ≡ Some f
-  by true is later = is
-  by false is later = later is
+      by : (b : Bool) → cond b (Some (number, x)) (segment_from extent sector (number + 1) xs) ≡ Some f
+          → (segment_from extent sector (number + 1) xs ≡ Some f → segment_from extent sector (number + 1) (xs ++ ys) ≡ Some f)
+          → cond b (Some (number, x)) (segment_from extent sector (number + 1) (xs ++ ys)) ≡ Some f
+      by true is later = is
+      by false is later = later is
 
 -- ---- a longer volume
 
@@ -50,7 +50,7 @@ module _ (name : List ℕ) (given : List Part) (group : Group) where
   met_front lv sector m row None found is = absurd cc
   met_front lv sector m row (Some f) found is =
       ap (option_map (make group lv sector)) (front_found group.extent_size sector 0 row.1.segments
-          (segments_of (last_kind row.1.segments) (extents_of row.1) given) f found) ∙ is
+      (segments_of (last_kind row.1.segments) (extents_of row.1) given) f found) ∙ is
 
   met_grown : (lv sector : ℕ) (m : Met) (row : Row) → met_in lv sector row ≡ Some m → met_in lv sector (grown row) ≡ Some m
   met_grown lv sector m row is = by (same_bytes row.0 name) where

@@ -1,6 +1,6 @@
 -- A group in which one volume has more segments on free extents keeps all rules.
-use Rattle.std.proofs.Common.{◌≡◌, ◌≤◌, ◌<◌, ℕ, zero, suc, ◌+◌, ◌*◌, ◌^◌, true, cond, List, [], ◌∷◌, ◌++◌, length, map, Some, None, inl,
-    refl, sym, ap, subst, ◌∙◌, append_assoc, true≢false, arith}
+use Rattle.std.proofs.Common.{◌≡◌, ◌≤◌, ◌<◌, ℕ, zero, suc, ◌+◌, ◌*◌, ◌^◌, true, cond, List, [], ◌∷◌, ◌++◌, length, map, Some, None, inl}
+use Rattle.std.proofs.Common.{refl, sym, ap, subst, ◌∙◌, append_assoc, true≢false, arith}
 use Rattle.std.specs.Prelude.{◌≢◌, nat_eq, slice_get, sum_by, All, AllPairs}
 use Rattle.std.proofs.lemmas.List.{length-append}
 use Rattle.std.proofs.lemmas.List.Elements.{All-append, All-from_recursion, All-head, All-tail, recursion_from_All}
@@ -14,11 +14,11 @@ use Rattle.meta_model.specs.declared.segment.Segment.{Segment}
 use Rattle.extent_alloc.specs.declared.part.Part.{Part}
 use Rattle.volume_rules.specs.Extents.{extents_of, leg_share}
 use Rattle.volume_rules.specs.Legs.{LegRun, runs_of, runs_of_legs, runs_of_segments, runs_of_volumes}
-use Rattle.volume_rules.specs.Rules.{Follow, IsAccepted, IsWholeMirror, IsWholeStriped, Keeps, KindIsSmall, LvIsSmall, MovedIsAllowed,
-    SegmentIsSmall, pvmove_number}
+use Rattle.volume_rules.specs.Rules.{Follow, IsAccepted, IsWholeMirror, IsWholeStriped, Keeps, KindIsSmall, LvIsSmall, MovedIsAllowed}
+use Rattle.volume_rules.specs.Rules.{SegmentIsSmall, pvmove_number}
 use Rattle.volume_rules.specs.declared.rule.Rule.TheVariants.{Numbers, Ids, Volumes, Segments, Follows, Stripes, Mirrors, Moved}
-use Rattle.group_edits.proofs.GivenRules.{extents_both, follow_both, legs_some, parts_follow, parts_mirror, parts_moved, parts_small,
-    parts_striped, segments_count}
+use Rattle.group_edits.proofs.GivenRules.{extents_both, follow_both, legs_some, parts_follow, parts_mirror, parts_moved, parts_small}
+use Rattle.group_edits.proofs.GivenRules.{parts_striped, segments_count}
 use Rattle.group_edits.proofs.GivenRuns.{runs_apart, runs_new}
 use Rattle.group_edits.proofs.GrownRules.{GrowsTo, IsGrown, grown_accepted}
 use Rattle.group_edits.proofs.Split.{at_replaced, each_between, each_replaced, length_replaced, map_replaced, sum_replaced}
@@ -73,201 +73,215 @@ below_sectors group accepted n below = by group.extent_size (accepted Numbers).e
 -- ---- the group
 
 module _ (group : Group) (before after : List Row) (row : Row) (rows : group.lvs ≡ before ++ row ∷ after) (accepted : IsAccepted group)
-    where
-  abbrev kind : SegKind
-  kind = last_kind row.1.segments
+  where
+    abbrev kind : SegKind
+    kind = last_kind row.1.segments
 
-  abbrev count : ℕ
-  count = length (legs_of kind)
+    abbrev count : ℕ
+    count = length (legs_of kind)
 
-  -- a rule that asks something of each volume asks it of this one
-  pub its : (P : Row → Type 0) → All P group.lvs → P row
-  its P all = each_between P before after row (recursion_from_All P (before ++ row ∷ after) (subst (All P) rows all))
+    -- a rule that asks something of each volume asks it of this one
+    pub its : (P : Row → Type 0) → All P group.lvs → P row
+    its P all = each_between P before after row (recursion_from_All P (before ++ row ∷ after) (subst (All P) rows all))
 
-  pub its_some : 1 ≤ length row.1.segments
-  its_some = its (λ (r : Row). 1 ≤ length r.1.segments) (accepted Segments).some
+    pub its_some : 1 ≤ length row.1.segments
+    its_some = its (λ (r : Row). 1 ≤ length r.1.segments) (accepted Segments).some
 
-  pub follows : Follow 0 row.1.segments × (extents_of row.1 * group.extent_size < 2 ^ 48)
-  follows = its (λ (r : Row). Follow 0 r.1.segments × (extents_of r.1 * group.extent_size < 2 ^ 48)) (accepted Follows)
+    pub follows : Follow 0 row.1.segments × (extents_of row.1 * group.extent_size < 2 ^ 48)
+    follows = its (λ (r : Row). Follow 0 r.1.segments × (extents_of r.1 * group.extent_size < 2 ^ 48)) (accepted Follows)
 
-  -- ---- its last segment's kind
+    -- ---- its last segment's kind
 
-  pub legs_may : MayHaveLegs group.extent_size count kind
-  legs_may =
-      by kind
-      (last_is SegmentIsSmall KindIsSmall (λ segment small. small.2) row.1.segments its_some
-          (its (λ (r : Row). LvIsSmall r.1) (accepted Numbers).lvs).1)
-      (last_is (λ (s : Segment). IsWholeStriped group.extent_size s.count s.kind)
-          (λ (k : SegKind). (n : ℕ) × IsWholeStriped group.extent_size n k) (λ segment whole. (segment.count, whole)) row.1.segments
-          its_some
-      (its (λ (r : Row). All (λ segment. IsWholeStriped group.extent_size segment.count segment.kind) r.1.segments) (accepted Stripes)))
-      (last_is (λ (s : Segment). IsWholeMirror s.kind) IsWholeMirror (λ segment whole. whole) row.1.segments its_some
-          (its (λ (r : Row). All (λ segment. IsWholeMirror segment.kind) r.1.segments) (accepted Mirrors)))
-    where
-      by : (k : SegKind) → KindIsSmall k → (n : ℕ) × IsWholeStriped group.extent_size n k → IsWholeMirror k
-          → MayHaveLegs group.extent_size (length (legs_of k)) k
-      by (Striped stripe legs) small striped mirror = (small.0, striped.1.0, striped.1.1, striped.1.3)
-      by (Mirror region None legs) small striped mirror = (small.0, mirror.0, mirror.1, mirror.2, mirror.3)
-      by (Mirror region (Some moved) legs) small striped mirror = (small.0, mirror.0, mirror.1, mirror.2, mirror.3)
+    pub legs_may : MayHaveLegs group.extent_size count kind
+    legs_may =
+        by kind
+        (last_is SegmentIsSmall KindIsSmall (λ segment small. small.2) row.1.segments its_some
+        (its (λ (r : Row). LvIsSmall r.1) (accepted Numbers).lvs).1)
+        (last_is (λ (s : Segment). IsWholeStriped group.extent_size s.count s.kind)
+        (λ (k : SegKind). (n : ℕ) × IsWholeStriped group.extent_size n k) (λ segment whole. (segment.count, whole)) row.1.segments
+        its_some
+        (its (λ (r : Row). All (λ segment. IsWholeStriped group.extent_size segment.count segment.kind) r.1.segments) (accepted Stripes)))
+        (last_is (λ (s : Segment). IsWholeMirror s.kind) IsWholeMirror (λ segment whole. whole) row.1.segments its_some
+        (its (λ (r : Row). All (λ segment. IsWholeMirror segment.kind) r.1.segments) (accepted Mirrors)))
+      where
+        by : (k : SegKind) → KindIsSmall k → (n : ℕ) × IsWholeStriped group.extent_size n k → IsWholeMirror k
+            → MayHaveLegs group.extent_size (length (legs_of k)) k
+        by (Striped stripe legs) small striped mirror = (small.0, striped.1.0, striped.1.1, striped.1.3)
+        by (Mirror region None legs) small striped mirror = (small.0, mirror.0, mirror.1, mirror.2, mirror.3)
+        by (Mirror region (Some moved) legs) small striped mirror = (small.0, mirror.0, mirror.1, mirror.2, mirror.3)
 
-  pub some_legs : 1 ≤ count
-  some_legs = legs_some kind group.extent_size count legs_may
+    pub some_legs : 1 ≤ count
+    some_legs = legs_some kind group.extent_size count legs_may
 
-  -- ---- it is longer
+    -- ---- it is longer
 
-  module _ (given : List Part) (seen : row.1.status.visible ≡ true) (may : MayGrow group row.1 given) where
-    abbrev lvs : List Row
-    lvs = before ++ longer_row given row ∷ after
+    module _ (given : List Part) (seen : row.1.status.visible ≡ true) (may : MayGrow group row.1 given) where
+      abbrev lvs : List Row
+      lvs = before ++ longer_row given row ∷ after
 
-    abbrev next : Group
-    next = with_lvs group lvs
+      abbrev next : Group
+      next = with_lvs group lvs
 
-    -- and all of them are as it asks, where the longer one is
-    all_next : (P : Row → Type 0) → All P group.lvs → P (longer_row given row) → All P lvs
-    all_next P all here =
-        All-from_recursion P lvs (each_replaced P before after row (longer_row given row)
-            (recursion_from_All P (before ++ row ∷ after) (subst (All P) rows all)) here)
+      -- and all of them are as it asks, where the longer one is
+      all_next : (P : Row → Type 0) → All P group.lvs → P (longer_row given row) → All P lvs
+      all_next P all here =
+          All-from_recursion P lvs (each_replaced P before after row (longer_row given row)
+          (recursion_from_All P (before ++ row ∷ after) (subst (All P) rows all)) here)
 
-    abbrev added : List Segment
-    added = segments_of kind (extents_of row.1) given
+      abbrev added : List Segment
+      added = segments_of kind (extents_of row.1) given
 
-    -- ---- the rules on segments
+      -- ---- the rules on segments
 
-    longer_extents : extents_of (longer given row.1) ≡ extents_of row.1 + extents_in added
-    longer_extents = extents_both row.1.segments added
+      longer_extents : extents_of (longer given row.1) ≡ extents_of row.1 + extents_in added
+      longer_extents = extents_both row.1.segments added
 
-    pub ends : extents_of row.1 + extents_in added < 2 ^ 48
-    ends = subst (λ (n : ℕ). n < 2 ^ 48) longer_extents (below_sectors group accepted (extents_of (longer given row.1)) may.sectors)
+      pub ends : extents_of row.1 + extents_in added < 2 ^ 48
+      ends = subst (λ (n : ℕ). n < 2 ^ 48) longer_extents (below_sectors group accepted (extents_of (longer given row.1)) may.sectors)
 
-    small_kept : All (λ (r : Row). LvIsSmall r.1) lvs
-    small_kept =
-        let small : LvIsSmall row.1 = its (λ (r : Row). LvIsSmall r.1) (accepted Numbers).lvs in
-        all_next (λ (r : Row). LvIsSmall r.1) (accepted Numbers).lvs
-        (small.0, All-append SegmentIsSmall row.1.segments added small.1
-            (parts_small kind group count given legs_may may.laid (accepted Numbers).pvs (extents_of row.1) ends))
+      small_kept : All (λ (r : Row). LvIsSmall r.1) lvs
+      small_kept =
+          let small : LvIsSmall row.1 = its (λ (r : Row). LvIsSmall r.1) (accepted Numbers).lvs in
+          all_next (λ (r : Row). LvIsSmall r.1) (accepted Numbers).lvs (
+            small.0,
+            All-append SegmentIsSmall row.1.segments added small.1
+                (parts_small kind group count given legs_may may.laid (accepted Numbers).pvs (extents_of row.1) ends),
+          )
 
-    ids_kept : Keeps next Ids
-    ids_kept =
-        subst (λ (ids : List (List ℕ)). AllPairs (λ (a b : List ℕ). a ≢ b)
-            (group.id ∷ (map (λ (pv : List ℕ × Pv). pv.1.id) group.pvs ++ ids)))
-        (ap (map (λ (lv : Row). lv.1.id)) rows ∙ map_replaced (λ (lv : Row). lv.1.id) before after row (longer_row given row) refl)
-            (accepted Ids)
+      ids_kept : Keeps next Ids
+      ids_kept =
+          subst (λ (ids : List (List ℕ)). AllPairs (λ (a b : List ℕ). a ≢ b)
+          (group.id ∷ (map (λ (pv : List ℕ × Pv). pv.1.id) group.pvs ++ ids)))
+          (ap (map (λ (lv : Row). lv.1.id)) rows ∙ map_replaced (λ (lv : Row). lv.1.id) before after row (longer_row given row) refl)
+          (accepted Ids)
 
-    count_same : length lvs ≡ length group.lvs
-    count_same = sym (ap (λ (rs : List Row). length rs) rows ∙ length_replaced before after row (longer_row given row))
+      count_same : length lvs ≡ length group.lvs
+      count_same = sym (ap (λ (rs : List Row). length rs) rows ∙ length_replaced before after row (longer_row given row))
 
-    volumes_kept : Keeps next Volumes
-    volumes_kept = record {
-      pvs = (accepted Volumes).pvs;
-      lvs = let few = (accepted Volumes).lvs in omega (arith, count_same, few);
-      max_pv = (accepted Volumes).max_pv;
-      max_lv = λ limit. let most = (accepted Volumes).max_lv limit in omega (arith, count_same, most);
-    }
+      volumes_kept : Keeps next Volumes
+      volumes_kept = record {
+        pvs = (accepted Volumes).pvs;
+        lvs = let few = (accepted Volumes).lvs in omega (arith, count_same, few);
+        max_pv = (accepted Volumes).max_pv;
+        max_lv = λ limit. let most = (accepted Volumes).max_lv limit in omega (arith, count_same, most);
+      }
 
-    abbrev segments_of_row : Row → ℕ
-    segments_of_row r = length r.1.segments
+      abbrev segments_of_row : Row → ℕ
+      segments_of_row r = length r.1.segments
 
-    segments_kept : Keeps next Segments
-    segments_kept = record {
-      few =
-          let more : length (row.1.segments ++ added) ≡ length row.1.segments + length given =
-              length-append row.1.segments added ∙ ap (λ (n : ℕ). length row.1.segments + n)
-                  (segments_count kind (extents_of row.1) given) in
-          let replaced : sum_by segments_of_row lvs + length row.1.segments
-              ≡ sum_by segments_of_row (before ++ row ∷ after) + length (row.1.segments ++ added) =
-          sum_replaced segments_of_row before after row (longer_row given row)
-          in
-          let was : segments_in group ≡ sum_by segments_of_row (before ++ row ∷ after) = ap (sum_by segments_of_row) rows in
-          let most = may.segments in
-          omega (arith, more, replaced, was, most);
-      some = all_next (λ (r : Row). 1 ≤ length r.1.segments) (accepted Segments).some
-          (let more : length (row.1.segments ++ added)
-              ≡ length row.1.segments + length added = length-append row.1.segments added in let some = its_some in omega
-              (arith, more, some));
-    }
+      segments_kept : Keeps next Segments
+      segments_kept = record {
+        few =
+            let more : length (row.1.segments ++ added) ≡ length row.1.segments + length given =
+            length-append row.1.segments added ∙ ap (λ (n : ℕ). length row.1.segments + n)
+            (segments_count kind (extents_of row.1) given) in
+            let replaced : sum_by segments_of_row lvs + length row.1.segments
+            ≡ sum_by segments_of_row (before ++ row ∷ after) + length (row.1.segments ++ added) =
+            sum_replaced segments_of_row before after row (longer_row given row)
+            in
+            let was : segments_in group ≡ sum_by segments_of_row (before ++ row ∷ after) = ap (sum_by segments_of_row) rows in
+            let most = may.segments in
+            omega (arith, more, replaced, was, most);
+        some = all_next (λ (r : Row). 1 ≤ length r.1.segments) (accepted Segments).some
+            (let more : length (row.1.segments ++ added)
+            ≡ length row.1.segments + length added = length-append row.1.segments added in let some = its_some in omega
+            (arith, more, some));
+      }
 
-    follows_kept : Keeps next Follows
-    follows_kept =
-        all_next (λ (r : Row). Follow 0 r.1.segments × (extents_of r.1 * group.extent_size < 2 ^ 48)) (accepted Follows) (
-          follow_both 0 row.1.segments added follows.0
-              (subst (λ (n : ℕ). Follow n added) (let e : extents_of row.1 ≡ 0 + extents_of row.1 = omega arith in e)
-              (parts_follow kind group count given legs_may may.laid (extents_of row.1))),
-          may.sectors,
-        )
+      follows_kept : Keeps next Follows
+      follows_kept =
+          all_next (λ (r : Row). Follow 0 r.1.segments × (extents_of r.1 * group.extent_size < 2 ^ 48)) (accepted Follows) (
+            follow_both 0 row.1.segments added follows.0
+                (subst (λ (n : ℕ). Follow n added) (let e : extents_of row.1 ≡ 0 + extents_of row.1 = omega arith in e)
+                (parts_follow kind group count given legs_may may.laid (extents_of row.1))),
+            may.sectors,
+          )
 
-    stripes_kept : Keeps next Stripes
-    stripes_kept =
-        all_next (λ (r : Row). All (λ segment. IsWholeStriped group.extent_size segment.count segment.kind) r.1.segments) (accepted Stripes)
-        (All-append (λ (s : Segment). IsWholeStriped group.extent_size s.count s.kind) row.1.segments added
-        (its (λ (r : Row). All (λ segment. IsWholeStriped group.extent_size segment.count segment.kind) r.1.segments) (accepted Stripes))
-        (parts_striped kind group count given legs_may may.laid (extents_of row.1)))
+      stripes_kept : Keeps next Stripes
+      stripes_kept =
+          all_next (λ (r : Row). All (λ segment. IsWholeStriped group.extent_size segment.count segment.kind) r.1.segments)
+          (accepted Stripes)
+          (All-append (λ (s : Segment). IsWholeStriped group.extent_size s.count s.kind) row.1.segments added
+          (its (λ (r : Row). All (λ segment. IsWholeStriped group.extent_size segment.count segment.kind) r.1.segments) (accepted Stripes))
+          (parts_striped kind group count given legs_may may.laid (extents_of row.1)))
 
-    mirrors_kept : Keeps next Mirrors
-    mirrors_kept =
-        all_next (λ (r : Row). All (λ segment. IsWholeMirror segment.kind) r.1.segments) (accepted Mirrors)
-        (All-append (λ (s : Segment). IsWholeMirror s.kind) row.1.segments added
-        (its (λ (r : Row). All (λ segment. IsWholeMirror segment.kind) r.1.segments) (accepted Mirrors))
-        (parts_mirror kind group count given legs_may may.laid (extents_of row.1)))
+      mirrors_kept : Keeps next Mirrors
+      mirrors_kept =
+          all_next (λ (r : Row). All (λ segment. IsWholeMirror segment.kind) r.1.segments) (accepted Mirrors)
+          (All-append (λ (s : Segment). IsWholeMirror s.kind) row.1.segments added
+          (its (λ (r : Row). All (λ segment. IsWholeMirror segment.kind) r.1.segments) (accepted Mirrors))
+          (parts_mirror kind group count given legs_may may.laid (extents_of row.1)))
 
-    moved_kept : Keeps next Moved
-    moved_kept =
-        all_next (λ (r : Row). All (λ segment. MovedIsAllowed r.1.status.pvmove segment.count segment.kind) r.1.segments) (accepted Moved)
-        (All-append (λ (s : Segment). MovedIsAllowed row.1.status.pvmove s.count s.kind) row.1.segments added
-        (its (λ (r : Row). All (λ segment. MovedIsAllowed r.1.status.pvmove segment.count segment.kind) r.1.segments) (accepted Moved))
-        (parts_moved kind row.1.status.pvmove (extents_of row.1) given))
+      moved_kept : Keeps next Moved
+      moved_kept =
+          all_next (λ (r : Row). All (λ segment. MovedIsAllowed r.1.status.pvmove segment.count segment.kind) r.1.segments) (accepted Moved)
+          (All-append (λ (s : Segment). MovedIsAllowed row.1.status.pvmove s.count s.kind) row.1.segments added
+          (its (λ (r : Row). All (λ segment. MovedIsAllowed r.1.status.pvmove segment.count segment.kind) r.1.segments) (accepted Moved))
+          (parts_moved kind row.1.status.pvmove (extents_of row.1) given))
 
-    -- ---- the rules on legs
+      -- ---- the rules on legs
 
-    abbrev number : ℕ
-    number = 0 + length before
+      abbrev number : ℕ
+      number = 0 + length before
 
-    abbrev front : List LegRun
-    front = runs_of_volumes 0 before ++ runs_of_segments number 0 row.1.segments
+      abbrev front : List LegRun
+      front = runs_of_volumes 0 before ++ runs_of_segments number 0 row.1.segments
 
-    abbrev back : List LegRun
-    back = runs_of_volumes (number + 1) after
+      abbrev back : List LegRun
+      back = runs_of_volumes (number + 1) after
 
-    abbrev more : List LegRun
-    more = runs_of_segments number (0 + length row.1.segments) added
+      abbrev more : List LegRun
+      more = runs_of_segments number (0 + length row.1.segments) added
 
-    grows : GrowsTo row (longer_row given row)
-    grows =
-        record { status = refl; extents = (let e = longer_extents in omega (arith, e));
-            hidden = λ none. absurd (true≢false (sym seen ∙ none)) }
+      grows : GrowsTo row (longer_row given row)
+      grows =
+          record {
+            status = refl;
+            extents = (let e = longer_extents in omega (arith, e));
+            hidden = λ none. absurd (true≢false (sym seen ∙ none));
+          }
 
-    pvmove_same : (rows : List Row) → pvmove_number (rows ++ longer_row given row ∷ after) ≡ pvmove_number (rows ++ row ∷ after)
-    pvmove_same [] = refl
-    pvmove_same (r ∷ rows) = ap (λ (n : ℕ). cond r.1.status.pvmove 0 (n + 1)) (pvmove_same rows)
+      pvmove_same : (rows : List Row) → pvmove_number (rows ++ longer_row given row ∷ after) ≡ pvmove_number (rows ++ row ∷ after)
+      pvmove_same [] = refl
+      pvmove_same (r ∷ rows) = ap (λ (n : ℕ). cond r.1.status.pvmove 0 (n + 1)) (pvmove_same rows)
 
-    is_grown : IsGrown group lvs
-    unfolding runs_of
-    is_grown = record {
-      front = front;
-      more = more;
-      back = back;
-      was =
-          ap (runs_of_volumes 0) rows ∙ volumes_both 0 before (row ∷ after)
-              ∙ sym (append_assoc (runs_of_volumes 0 before) (runs_of_segments number 0 row.1.segments) back);
-      is = volumes_both 0 before (longer_row given row ∷ after)
-          ∙ ap (λ (runs : List LegRun). runs_of_volumes 0 before ++ (runs ++ back)) (segments_both number 0 row.1.segments added)
-          ∙ ap (λ (runs : List LegRun). runs_of_volumes 0 before ++ runs)
-          (append_assoc (runs_of_segments number 0 row.1.segments) more back)
-          ∙ sym (append_assoc (runs_of_volumes 0 before) (runs_of_segments number 0 row.1.segments) (more ++ back));
-      new = runs_new group count given may.laid some_legs kind number (0 + length row.1.segments) (extents_of row.1);
-      apart = runs_apart group count given may.laid some_legs kind number (0 + length row.1.segments) (extents_of row.1);
-      stays =
-          λ n r there. at_replaced GrowsTo (λ r. record { status = refl; extents = omega arith; hidden = λ none. refl }) before after row
-              (longer_row given row) grows n r (ap (λ (rs : List Row). slice_get rs n) (sym rows) ∙ there);
-      came = λ n later there.
-          let found =
-              at_replaced (λ (r s : Row). GrowsTo s r) (λ r. record { status = refl; extents = omega arith; hidden = λ none. refl }) before
-                  after (longer_row given row) row grows n later there in
-          inl (found.0, ap (λ (rs : List Row). slice_get rs n) rows ∙ found.1, found.2);
-      pvmove_is = λ n r there. ap (nat_eq n) (pvmove_same before) ∙ ap (λ (rs : List Row). nat_eq n (pvmove_number rs)) (sym rows);
-    }
+      is_grown : IsGrown group lvs
+      unfolding runs_of
+      is_grown = record {
+        front = front;
+        more = more;
+        back = back;
+        was =
+            ap (runs_of_volumes 0) rows ∙ volumes_both 0 before (row ∷ after)
+            ∙ sym (append_assoc (runs_of_volumes 0 before) (runs_of_segments number 0 row.1.segments) back);
+        is = volumes_both 0 before (longer_row given row ∷ after)
+            ∙ ap (λ (runs : List LegRun). runs_of_volumes 0 before ++ (runs ++ back)) (segments_both number 0 row.1.segments added)
+            ∙ ap (λ (runs : List LegRun). runs_of_volumes 0 before ++ runs)
+            (append_assoc (runs_of_segments number 0 row.1.segments) more back)
+            ∙ sym (append_assoc (runs_of_volumes 0 before) (runs_of_segments number 0 row.1.segments) (more ++ back));
+        new = runs_new group count given may.laid some_legs kind number (0 + length row.1.segments) (extents_of row.1);
+        apart = runs_apart group count given may.laid some_legs kind number (0 + length row.1.segments) (extents_of row.1);
+        stays =
+            λ n r there. at_replaced GrowsTo (λ r. record { status = refl; extents = omega arith; hidden = λ none. refl }) before after row
+            (longer_row given row) grows n r (ap (λ (rs : List Row). slice_get rs n) (sym rows) ∙ there);
+        came = λ n later there.
+            let found =
+            at_replaced (λ (r s : Row). GrowsTo s r) (λ r. record { status = refl; extents = omega arith; hidden = λ none. refl }) before
+            after (longer_row given row) row grows n later there in
+            inl (found.0, ap (λ (rs : List Row). slice_get rs n) rows ∙ found.1, found.2);
+        pvmove_is = λ n r there. ap (nat_eq n) (pvmove_same before) ∙ ap (λ (rs : List Row). nat_eq n (pvmove_number rs)) (sym rows);
+      }
 
-    pub longer_accepted : group.seqno < 4294967295 → IsAccepted next
-    longer_accepted below =
-        grown_accepted group lvs is_grown accepted below
-        (record { small = small_kept; ids = ids_kept; volumes = volumes_kept; segments = segments_kept; follows = follows_kept;
-            stripes = stripes_kept; mirrors = mirrors_kept; moved = moved_kept })
+      pub longer_accepted : group.seqno < 4294967295 → IsAccepted next
+      longer_accepted below =
+          grown_accepted group lvs is_grown accepted below
+          (record {
+            small = small_kept;
+            ids = ids_kept;
+            volumes = volumes_kept;
+            segments = segments_kept;
+            follows = follows_kept;
+            stripes = stripes_kept;
+            mirrors = mirrors_kept;
+            moved = moved_kept;
+          })

@@ -24,52 +24,55 @@ use Rattle.group_edits.specs.GivenSegments.{IsFreeRun, MayBeLaid, MayHaveLegs, e
 segment_prints : (group : Group) (segment : Segment) → SegmentIsSmall segment → IsLegs group (legs_of segment.kind)
     → IsSegment group segment
 segment_prints group segment small legs =
-    record { start_fits = (let s = small.0 in omega (arith, s)); count_fits = (let s = small.1 in omega (arith, s));
-        kind_is = by segment.kind small.2 legs } where
-  by : (kind : SegKind) → KindIsSmall kind → IsLegs group (legs_of kind) → IsKind group kind
-  by (Striped stripe legs) small are = ((let s = small.0 in omega (arith, s)), are)
-  by (Mirror region None legs) small are = ((let s = small.0 in omega (arith, s)), tt, are)
-  by (Mirror region (Some moved) legs) small are = ((let s = small.0 in omega (arith, s)), (let s = small.1 in omega (arith, s)), are)
+    record {
+      start_fits = (let s = small.0 in omega (arith, s));
+      count_fits = (let s = small.1 in omega (arith, s));
+      kind_is = by segment.kind small.2 legs;
+    } where
+      by : (kind : SegKind) → KindIsSmall kind → IsLegs group (legs_of kind) → IsKind group kind
+      by (Striped stripe legs) small are = ((let s = small.0 in omega (arith, s)), are)
+      by (Mirror region None legs) small are = ((let s = small.0 in omega (arith, s)), tt, are)
+      by (Mirror region (Some moved) legs) small are = ((let s = small.0 in omega (arith, s)), (let s = small.1 in omega (arith, s)), are)
 
 -- a version of the group with the same physical volumes, to which the parts belong
 module _ (kind : SegKind) (group other : Group) (count : ℕ) (parts : List Part) (kinds : MayHaveLegs group.extent_size count kind)
     (may : MayBeLaid group count parts)
     (small : All (λ (pv : List ℕ × Pv). PvIsSmall pv.1) group.pvs) (pvs : other.pvs ≡ group.pvs) (names : AreNames [] (pv_names other))
-        where
-  leg_prints : (run : PartRun) (n : ℕ) → (1 ≤ n) × IsFreeRun group (record { pv = run.pv; first = run.first; count = n })
-      → IsLeg other (leg_at run)
-  leg_prints run n free =
-      let covers : PvRun = record { pv = run.pv; first = run.first; count = n } in
-      let inside = free_within group count parts may (legs_some kind group.extent_size count kinds) covers free.0 free.1 in
-      let first : IsSmall run.first = first_small kind group count parts kinds may small covers free in
-      new_leg other names (leg_at run) run.pv inside.0 refl (ap (λ (rows : List (List ℕ × Pv)). slice_get rows run.pv) pvs ∙ inside.1)
-          (omega (arith, first))
+  where
+    leg_prints : (run : PartRun) (n : ℕ) → (1 ≤ n) × IsFreeRun group (record { pv = run.pv; first = run.first; count = n })
+        → IsLeg other (leg_at run)
+    leg_prints run n free =
+        let covers : PvRun = record { pv = run.pv; first = run.first; count = n } in
+        let inside = free_within group count parts may (legs_some kind group.extent_size count kinds) covers free.0 free.1 in
+        let first : IsSmall run.first = first_small kind group count parts kinds may small covers free in
+        new_leg other names (leg_at run) run.pv inside.0 refl (ap (λ (rows : List (List ℕ × Pv)). slice_get rows run.pv) pvs ∙ inside.1)
+        (omega (arith, first))
 
-  abbrev IsPrinted : Part → Type 0
-  IsPrinted part = (length part.runs ≡ count) × All (IsLeg other) (legs_in part)
+    abbrev IsPrinted : Part → Type 0
+    IsPrinted part = (length part.runs ≡ count) × All (IsLeg other) (legs_in part)
 
-  each_printed : All IsPrinted parts
-  each_printed k d within = (
-    (may.legs k d within).1,
-    legs_by (λ (run : PvRun). (1 ≤ run.count) × IsFreeRun group run) (IsLeg other) leg_prints parts
-        (each_free group count parts may (legs_some kind group.extent_size count kinds)) k d within,
-  )
+    each_printed : All IsPrinted parts
+    each_printed k d within = (
+      (may.legs k d within).1,
+      legs_by (λ (run : PvRun). (1 ≤ run.count) × IsFreeRun group run) (IsLeg other) leg_prints parts
+          (each_free group count parts may (legs_some kind group.extent_size count kinds)) k d within,
+    )
 
-  legs_print : (start : ℕ) (part : Part) → IsPrinted part → IsLegs other (legs_of (segment_of kind start part).kind)
-  legs_print start part is =
-      subst (IsLegs other) (sym (legs_on (legs_in part) kind))
-      (record {
-        count_fits =
-            (let same = legs_count part in let as_many = is.0 in let few = legs_few kind group.extent_size count kinds in omega
-                (arith, same, as_many, few));
-        each = recursion_from_All (IsLeg other) (legs_in part) is.1;
-      })
+    legs_print : (start : ℕ) (part : Part) → IsPrinted part → IsLegs other (legs_of (segment_of kind start part).kind)
+    legs_print start part is =
+        subst (IsLegs other) (sym (legs_on (legs_in part) kind))
+        (record {
+          count_fits =
+              (let same = legs_count part in let as_many = is.0 in let few = legs_few kind group.extent_size count kinds in omega
+              (arith, same, as_many, few));
+          each = recursion_from_All (IsLeg other) (legs_in part) is.1;
+        })
 
-  -- where they end below 2^48
-  pub parts_print : (start : ℕ) → start + extents_in (segments_of kind start parts) < 2 ^ 48
-      → Each (IsSegment other) (segments_of kind start parts)
-  parts_print start ends =
-      recursion_from_All (IsSegment other) (segments_of kind start parts)
-      (λ k d within. segment_prints other _ (parts_small kind group count parts kinds may small start ends k d within)
-      (each_part kind IsPrinted (λ (segment : Segment). IsLegs other (legs_of segment.kind)) legs_print start parts each_printed k d
-          within))
+    -- where they end below 2^48
+    pub parts_print : (start : ℕ) → start + extents_in (segments_of kind start parts) < 2 ^ 48
+        → Each (IsSegment other) (segments_of kind start parts)
+    parts_print start ends =
+        recursion_from_All (IsSegment other) (segments_of kind start parts)
+        (λ k d within. segment_prints other _ (parts_small kind group count parts kinds may small start ends k d within)
+        (each_part kind IsPrinted (λ (segment : Segment). IsLegs other (legs_of segment.kind)) legs_print start parts each_printed k d
+        within))

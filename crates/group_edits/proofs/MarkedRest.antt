@@ -30,7 +30,7 @@ module _ (group : Group) (accepted : IsAccepted group) where
   named_below n m lies =
       let inside : LiesWithin group (on.Lv m) (lies.0.first + lies.0.count) =
       subst (λ (o : On). LiesWithin group o (lies.0.first + lies.0.count)) lies.3
-          (All-contains (λ (run : LegRun). LiesWithin group run.on (run.first + run.count)) (runs_of group) lies.0 (accepted Within) lies.1)
+      (All-contains (λ (run : LegRun). LiesWithin group run.on (run.first + run.count)) (runs_of group) lies.0 (accepted Within) lies.1)
       in
       slice_get_within group.lvs m (inside.1.0, inside.0) inside.1.1
 
@@ -50,7 +50,7 @@ module _ (group : Group) (accepted : IsAccepted group) where
         absurd (omega (arith, within, past))
     by false same false any =
         ap (λ (a : Bool). a || (list_any (has_leg_on group lv) (lv_numbers group)
-            && list_all (λ upper. not (has_leg_on group lv upper) || goes_with group removed 3 upper) (lv_numbers group))) same
+        && list_all (λ upper. not (has_leg_on group lv upper) || goes_with group removed 3 upper) (lv_numbers group))) same
         ∙ ap (λ (b : Bool). b && list_all (λ upper. not (has_leg_on group lv upper) || goes_with group removed 3 upper) (lv_numbers group))
         any
 
@@ -73,7 +73,7 @@ pub without_is : (group next : Group) (removed : ℕ) (goes : List Bool) (lvs : 
     → next ≡ without_volume group removed
 without_is group next removed goes lvs accepted stands told past rows made =
     made ∙ ap (with_lvs group) (rows ∙ ap (λ (s : ℕ → Bool). map (renumbered_row (on_after s)) (that_stay s 0 group.lvs))
-        (same_stays group accepted removed goes stands told past))
+    (same_stays group accepted removed goes stands told past))
 
 pub rows_by : (group : Group) (numbers goes : List Bool) (lvs : List (List ℕ × Lv)) → numbers ≡ goes
     → lvs ≡ map (renumbered_row (on_after (unmarked numbers))) (that_stay (unmarked numbers) 0 group.lvs)
@@ -89,7 +89,7 @@ pub rest_is : (group found next : Group) (removed : ℕ) (goes : List Bool) (lvs
     → next ≡ without_volume group removed
 rest_is group found next removed goes lvs same accepted visible told past rows made =
     without_is found next removed goes lvs accepted
-        (subst (λ (g : Group). removed < length g.lvs) (sym same) (visible_stands group removed visible)) told past rows made
+    (subst (λ (g : Group). removed < length g.lvs) (sym same) (visible_stands group removed visible)) told past rows made
     ∙ ap (λ (g : Group). without_volume g removed) same
 
 pub rest_whole : (group found next : Group) (removed : ℕ) → found ≡ group → next ≡ without_volume group removed → IsVisible group removed

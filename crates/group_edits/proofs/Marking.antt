@@ -1,6 +1,6 @@
 -- Marks of the volumes that go, round by round, and the volumes that aren't marked.
-use Rattle.std.proofs.Common.{◌≡◌, ◌≤◌, ◌<◌, ℕ, zero, suc, ◌+◌, ◌-◌, Bool, true, false, not, ◌||◌, ◌&&◌, List, [], ◌∷◌, ◌++◌, length, drop,
-    Option, Some, inl, inr, refl, sym, ap, ◌∙◌, append_assoc, arith, length-set}
+use Rattle.std.proofs.Common.{◌≡◌, ◌≤◌, ◌<◌, ℕ, zero, suc, ◌+◌, ◌-◌, Bool, true, false, not, ◌||◌, ◌&&◌, List, [], ◌∷◌, ◌++◌, length, drop}
+use Rattle.std.proofs.Common.{Option, Some, inl, inr, refl, sym, ap, ◌∙◌, append_assoc, arith, length-set}
 use Rattle.std.specs.Prelude.{◌==◌, filter_map, flat_map, option_map, replicate, slice_get, slice_set, unwrap_or}
 use Rattle.std.specs.List.{cons_option, list_all, list_any, range_with_len}
 use Rattle.std.proofs.lemmas.Bool.{cases_eq}
@@ -34,12 +34,12 @@ or_assoc false b c = refl
 set_there : (marks : List Bool) (n lv : ℕ) (mark : Bool) → n < length marks → lv ≡ n → is_marked (slice_set marks n mark) lv ≡ mark
 set_there marks n lv mark lt same =
     ap (is_marked (slice_set marks n mark)) same ∙ unwrap_or-slice_get (slice_set marks n mark) n false
-        ∙ get_or-set_same marks n mark false lt
+    ∙ get_or-set_same marks n mark false lt
 
 set_beside : (marks : List Bool) (n lv : ℕ) (mark : Bool) → (lv ≡ n → ⊥) → is_marked (slice_set marks n mark) lv ≡ is_marked marks lv
 set_beside marks n lv mark other =
     unwrap_or-slice_get (slice_set marks n mark) lv false ∙ get_or-set_other marks n lv mark false other
-        ∙ sym (unwrap_or-slice_get marks lv false)
+    ∙ sym (unwrap_or-slice_get marks lv false)
 
 -- ---- one round
 
@@ -78,7 +78,7 @@ next_past named held removed goes n is = is.past
 pub first_round : (none : List Bool) → none ≡ replicate 1024 false → (removed lv : ℕ) → goes_by none none removed lv ≡ (lv == removed)
 first_round none is removed lv =
     ap (λ (b : Bool). (lv == removed) || (b && not (is_marked none lv))) (ap (λ (l : List Bool). is_marked l lv) is ∙ none_marked 1024 lv)
-        ∙ or_false (lv == removed)
+    ∙ or_false (lv == removed)
 
 same_any : (p q : ℕ → Bool) → ((x : ℕ) → p x ≡ q x) → (xs : List ℕ) → list_any p xs ≡ list_any q xs
 same_any p q same [] = refl
@@ -89,7 +89,7 @@ none_or_all : (p q : ℕ → Bool) (a n : ℕ) → ((x : ℕ) → x < a + n → 
 none_or_all p q a zero same = refl
 none_or_all p q a (suc n) same =
     neither (p a) (list_any p (range_with_len (a + 1) n))
-        ∙ ap (λ (b : Bool). b && not (list_any p (range_with_len (a + 1) n))) (same a (omega arith))
+    ∙ ap (λ (b : Bool). b && not (list_any p (range_with_len (a + 1) n))) (same a (omega arith))
     ∙ ap (λ (b : Bool). q a && b) (none_or_all p q (a + 1) n (λ x below. same x (omega (arith, below))))
   where
     neither : (b c : Bool) → not (b || c) ≡ (not b && not c)
@@ -111,14 +111,14 @@ pub next_round : (group : Group) (removed round : ℕ) (none goes named held : L
 next_round group removed round none goes named held is few old lv named_is held_is =
     ap (λ (b : Bool). (lv == removed) || (b && not (is_marked held lv)))
     (named_is ∙ same_any (holds group none lv) (has_leg_on group lv)
-        (λ upper. ap (λ (b : Bool). not b && has_leg_on group lv upper)
-        (ap (λ (l : List Bool). is_marked l upper) is ∙ none_marked 1024 upper)) (lv_numbers group))
+    (λ upper. ap (λ (b : Bool). not b && has_leg_on group lv upper)
+    (ap (λ (l : List Bool). is_marked l upper) is ∙ none_marked 1024 upper)) (lv_numbers group))
     ∙ ap (λ (b : Bool). (lv == removed) || (list_any (has_leg_on group lv) (lv_numbers group) && b))
     (ap not held_is
     ∙ none_or_all (holds group goes lv) (λ upper. not (has_leg_on group lv upper) || goes_with group removed round upper) 0
     (length group.lvs)
     (λ upper below. turned (is_marked goes upper) (has_leg_on group lv upper)
-        ∙ ap (λ (b : Bool). not (has_leg_on group lv upper) || b) (old upper (omega (arith, below, few)))))
+    ∙ ap (λ (b : Bool). not (has_leg_on group lv upper) || b) (old upper (omega (arith, below, few)))))
     ∙ ap (λ (n : ℕ). goes_with group removed n lv) (let e : suc round ≡ round + 1 = omega arith in e)
 
 -- ---- what legs lie on
@@ -141,7 +141,7 @@ segments_named : (x : ℕ) (segments : List Segment)
 segments_named x [] = refl
 segments_named x (segment ∷ segments) =
     list_any-append (λ (below : ℕ). below == x) (filter_map (λ (leg : Leg). lv_number leg.on) (legs_of segment.kind))
-        (flat_map (λ (s : Segment). filter_map (λ (leg : Leg). lv_number leg.on) (legs_of s.kind)) segments)
+    (flat_map (λ (s : Segment). filter_map (λ (leg : Leg). lv_number leg.on) (legs_of s.kind)) segments)
     ∙ ap (λ (b : Bool). b || list_any (λ (below : ℕ). below == x)
     (flat_map (λ (s : Segment). filter_map (λ (leg : Leg). lv_number leg.on) (legs_of s.kind)) segments))
     (legs_named x (legs_of segment.kind))
@@ -151,8 +151,8 @@ named_at : (group : Group) (n x : ℕ) (row : List ℕ × Lv) → slice_get grou
     → has_leg_on group x n ≡ list_any (segment_names x) row.1.segments
 named_at group n x row there =
     ap (λ (o : Option (List ℕ × Lv)). list_any (λ (below : ℕ). below == x)
-        (flat_map (λ (s : Segment). filter_map (λ (leg : Leg). lv_number leg.on) (legs_of s.kind))
-        (unwrap_or (option_map (λ (r : List ℕ × Lv). r.1.segments) o) []))) there
+    (flat_map (λ (s : Segment). filter_map (λ (leg : Leg). lv_number leg.on) (legs_of s.kind))
+    (unwrap_or (option_map (λ (r : List ℕ × Lv). r.1.segments) o) []))) there
     ∙ segments_named x row.1.segments
 
 pub below_first : (group : Group) (skipped all : List Bool) → all ≡ replicate 1024 false → (lv : ℕ) → lv < 1024
@@ -160,7 +160,7 @@ pub below_first : (group : Group) (skipped all : List Bool) → all ≡ replicat
     ≡ list_any (holds group skipped lv) (lv_numbers group)
 below_first group skipped all none lv below =
     ap (λ (b : Bool). b || list_any (holds group skipped lv) (range_with_len 0 (length group.lvs - 0)))
-        (ap (λ (l : List Bool). is_marked l lv) none ∙ none_marked 1024 lv)
+    (ap (λ (l : List Bool). is_marked l lv) none ∙ none_marked 1024 lv)
     ∙ ap (λ (n : ℕ). list_any (holds group skipped lv) (range_with_len 0 n))
     (let e : length group.lvs - 0 ≡ length group.lvs = omega arith in e)
 
@@ -193,16 +193,17 @@ pub below_marked : (group : Group) (skipped all later : List Bool) (n : ℕ) →
     → is_marked later lv ≡ (is_marked all lv || holds group skipped lv n)
 below_marked group skipped all later n taken is lv below =
     ap (λ (l : List Bool). is_marked l lv) is ∙ sym (or_false (is_marked all lv))
-        ∙ ap (λ (b : Bool). is_marked all lv || (not b && has_leg_on group lv n)) (sym taken)
+    ∙ ap (λ (b : Bool). is_marked all lv || (not b && has_leg_on group lv n)) (sym taken)
 
 -- ---- new numbers
 
 pub count_more : (marks : List Bool) (n number later : ℕ) → (number ≡ number_after (unmarked marks) n) × (number ≤ n)
     → unmarked marks n ≡ true → later ≡ number + 1 → (later ≡ number_after (unmarked marks) (n + 1)) × (later ≤ n + 1)
 count_more marks n number later old is made =
-    let step : number_after (unmarked marks) (suc n) ≡ number_after (unmarked marks) n + 1 = next_staying (unmarked marks) n is in
-    (made ∙ ap (λ (m : ℕ). m + 1) old.0 ∙ sym step ∙ ap (number_after (unmarked marks)) (let e : suc n ≡ n + 1 = omega arith in e),
-        omega (arith, made, old.1))
+    let step : number_after (unmarked marks) (suc n) ≡ number_after (unmarked marks) n + 1 = next_staying (unmarked marks) n is in (
+      made ∙ ap (λ (m : ℕ). m + 1) old.0 ∙ sym step ∙ ap (number_after (unmarked marks)) (let e : suc n ≡ n + 1 = omega arith in e),
+      omega (arith, made, old.1),
+    )
 
 pub count_same : (marks : List Bool) (n number later : ℕ) → (number ≡ number_after (unmarked marks) n) × (number ≤ n)
     → unmarked marks n ≡ false → later ≡ number → (later ≡ number_after (unmarked marks) (n + 1)) × (later ≤ n + 1)

@@ -53,9 +53,9 @@ module _ (group : Group) (name id : List ℕ) (made : SegKind) (given : List Par
       → IsPrintable group → IsPrintable next
   printable_new free valid is_id below can =
       version_printable group (group.lvs ++ row ∷ []) below can
-          (subst (AreNames []) (sym names_more) (names_pushed [] (lv_names group) name (given_named name valid) refl free can.lv_names))
+      (subst (AreNames []) (sym names_more) (names_pushed [] (lv_names group) name (given_named name valid) refl free can.lv_names))
       (each_pushed (λ (r : Row). IsLv next r.1) group.lvs row
-          (each_lv group next (again_more group next (name ∷ []) refl names_more) group.lvs can.each_lv) is_new) where
+      (each_lv group next (again_more group next (name ∷ []) refl names_more) group.lvs can.each_lv) is_new) where
         is_new : IsLv next (new_lv id made given now)
         is_new = record {
           id_again = id_again id is_id;
@@ -64,7 +64,7 @@ module _ (group : Group) (name id : List ℕ) (made : SegKind) (given : List Par
           count_fits = (let few = may.segments in let same = segments_count made 0 given in omega (arith, few, same));
           each =
               parts_print made group next may.count given may.legs may.laid (accepted Numbers).pvs refl can.pv_names 0
-                  (ends group name id made given now may accepted);
+              (ends group name id made given now may accepted);
         }
 
   pub new_whole : is_among (names_of group.lvs) name ≡ false → volume_name_refusal name ≡ None → IsId id → group.seqno ≢ 4294967295
@@ -95,8 +95,8 @@ module _ (group found : Group) (name id : List ℕ) (made : SegKind) (given part
       → record before { lvs = lvs } ≡ with_volume (name, new_lv id made given now) group
   new_made before lv own lvs is lv_is own_is pushed =
       ap (λ (rows : List Row). record before { lvs = rows })
-          (pushed ∙ ap (λ (l : Lv). before.lvs ++ (own, l) ∷ []) (lv_is ∙ ap (λ (ps : List Part). new_lv id made ps now) slice)
-          ∙ ap (λ (n : List ℕ). before.lvs ++ (n, new_lv id made given now) ∷ []) own_is)
+      (pushed ∙ ap (λ (l : Lv). before.lvs ++ (own, l) ∷ []) (lv_is ∙ ap (λ (ps : List Part). new_lv id made ps now) slice)
+      ∙ ap (λ (n : List ℕ). before.lvs ++ (n, new_lv id made given now) ∷ []) own_is)
       ∙ ap (λ (g : Group). record g { lvs = g.lvs ++ (name, new_lv id made given now) ∷ [] }) is
       ∙ ap (with_volume (name, new_lv id made given now)) same
 
@@ -105,4 +105,4 @@ module _ (group found : Group) (name id : List ℕ) (made : SegKind) (given part
       → IsAccepted found → HasTree found → IsWhole later
   made_whole later is free valid is_id may other accepted tree =
       subst IsWhole (sym is) (new_whole group name id made given now may (subst IsAccepted same accepted) free valid is_id other
-          (subst HasTree same tree))
+      (subst HasTree same tree))

@@ -1,6 +1,6 @@
 -- A group with one more volume on free extents keeps all rules.
-use Rattle.std.proofs.Common.{◌≡◌, ◌≢◌, ◌≤◌, ◌<◌, ◌⊎◌, ℕ, zero, suc, ◌+◌, ◌*◌, ◌^◌, Bool, true, false, cond, List, [], ◌∷◌, ◌++◌, length,
-    map, Some, inl, inr, refl, sym, ap, subst, ◌∙◌, append-nil, append_assoc, arith}
+use Rattle.std.proofs.Common.{◌≡◌, ◌≢◌, ◌≤◌, ◌<◌, ◌⊎◌, ℕ, zero, suc, ◌+◌, ◌*◌, ◌^◌, Bool, true, false, cond, List, [], ◌∷◌, ◌++◌, length}
+use Rattle.std.proofs.Common.{map, Some, inl, inr, refl, sym, ap, subst, ◌∙◌, append-nil, append_assoc, arith}
 use Rattle.std.specs.Prelude.{nat_eq, slice_get, sum_by, All, AllPairs}
 use Rattle.std.proofs.lemmas.Bool.{eq-eqb, false≢true}
 use Rattle.std.proofs.lemmas.Bool.Decides.{nat_tests}
@@ -15,8 +15,8 @@ use Rattle.meta_model.specs.declared.segment.SegKind.{SegKind}
 use Rattle.extent_alloc.specs.declared.part.Part.{Part}
 use Rattle.volume_rules.specs.Extents.{extents_of}
 use Rattle.volume_rules.specs.Legs.{runs_of, runs_of_segments, runs_of_volumes}
-use Rattle.volume_rules.specs.Rules.{Follow, IsAccepted, IsWholeMirror, IsWholeStriped, Keeps, LvIsSmall, MovedIsAllowed, ids_of,
-    pvmove_number}
+use Rattle.volume_rules.specs.Rules.{Follow, IsAccepted, IsWholeMirror, IsWholeStriped, Keeps, LvIsSmall, MovedIsAllowed, ids_of}
+use Rattle.volume_rules.specs.Rules.{pvmove_number}
 use Rattle.volume_rules.specs.declared.rule.Rule.TheVariants.{Numbers, Ids, Volumes, Segments, Follows, Stripes, Mirrors, Moved}
 use Rattle.group_edits.proofs.GivenRules.{legs_some, parts_follow, parts_mirror, parts_moved, parts_small, parts_striped, segments_count}
 use Rattle.group_edits.proofs.GivenRuns.{runs_apart, runs_new}
@@ -90,7 +90,7 @@ module _ (group : Group) (name id : List ℕ) (kind : SegKind) (given : List Par
   small_kept : All (λ (r : Row). LvIsSmall r.1) lvs
   small_kept =
       all_pushed (λ (r : Row). LvIsSmall r.1) group.lvs row (accepted Numbers).lvs
-          (may.created, parts_small kind group may.count given may.legs may.laid (accepted Numbers).pvs 0 ends)
+      (may.created, parts_small kind group may.count given may.legs may.laid (accepted Numbers).pvs 0 ends)
 
   abbrev Differ : List ℕ → List ℕ → Type 0
   Differ a b = a ≢ b
@@ -122,12 +122,12 @@ module _ (group : Group) (name id : List ℕ) (kind : SegKind) (given : List Par
   segments_kept = record {
     few =
         let whole : sum_by (λ (r : Row). length r.1.segments) lvs ≡ segments_in group + length (segments_of kind 0 given) =
-            sum_by_push (λ (r : Row). length r.1.segments) group.lvs row in
+        sum_by_push (λ (r : Row). length r.1.segments) group.lvs row in
         let most = may.segments in
         omega (arith, whole, made, most);
     some =
         all_pushed (λ (r : Row). 1 ≤ length r.1.segments) group.lvs row (accepted Segments).some
-            (let some = may.some in omega (arith, some, made));
+        (let some = may.some in omega (arith, some, made));
   }
 
   follows_kept : Keeps next Follows
@@ -138,18 +138,18 @@ module _ (group : Group) (name id : List ℕ) (kind : SegKind) (given : List Par
   stripes_kept : Keeps next Stripes
   stripes_kept =
       all_pushed (λ (r : Row). All (λ segment. IsWholeStriped group.extent_size segment.count segment.kind) r.1.segments) group.lvs row
-          (accepted Stripes)
+      (accepted Stripes)
       (parts_striped kind group may.count given may.legs may.laid 0)
 
   mirrors_kept : Keeps next Mirrors
   mirrors_kept =
       all_pushed (λ (r : Row). All (λ segment. IsWholeMirror segment.kind) r.1.segments) group.lvs row (accepted Mirrors)
-          (parts_mirror kind group may.count given may.legs may.laid 0)
+      (parts_mirror kind group may.count given may.legs may.laid 0)
 
   moved_kept : Keeps next Moved
   moved_kept =
       all_pushed (λ (r : Row). All (λ segment. MovedIsAllowed r.1.status.pvmove segment.count segment.kind) r.1.segments) group.lvs row
-          (accepted Moved) (parts_moved kind false 0 given)
+      (accepted Moved) (parts_moved kind false 0 given)
 
   -- ---- the rules on legs
 
@@ -167,8 +167,11 @@ module _ (group : Group) (name id : List ℕ) (kind : SegKind) (given : List Par
     new = runs_new group may.count given may.laid (legs_some kind group.extent_size may.count may.legs) kind number 0 0;
     apart = runs_apart group may.count given may.laid (legs_some kind group.extent_size may.count may.legs) kind number 0 0;
     stays =
-        λ n r there. (r, slice_get-pushed group.lvs (row ∷ []) n r there,
-            record { status = refl; extents = omega arith; hidden = λ none. refl });
+        λ n r there. (
+          r,
+          slice_get-pushed group.lvs (row ∷ []) n r there,
+          record { status = refl; extents = omega arith; hidden = λ none. refl },
+        );
     came = λ n later there.
         elim (pushed_at group.lvs row n later there) [
           | inl old ↦ inl (later, old, record { status = refl; extents = omega arith; hidden = λ none. refl })
@@ -180,5 +183,13 @@ module _ (group : Group) (name id : List ℕ) (kind : SegKind) (given : List Par
   pub new_accepted : group.seqno < 4294967295 → IsAccepted next
   new_accepted below =
       grown_accepted group lvs is_grown accepted below
-      (record { small = small_kept; ids = ids_kept; volumes = volumes_kept; segments = segments_kept; follows = follows_kept;
-          stripes = stripes_kept; mirrors = mirrors_kept; moved = moved_kept })
+      (record {
+        small = small_kept;
+        ids = ids_kept;
+        volumes = volumes_kept;
+        segments = segments_kept;
+        follows = follows_kept;
+        stripes = stripes_kept;
+        mirrors = mirrors_kept;
+        moved = moved_kept;
+      })

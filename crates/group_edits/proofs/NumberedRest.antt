@@ -1,6 +1,6 @@
 -- The table of new numbers, as it is filled.
-use Rattle.std.proofs.Common.{◌≡◌, ◌≤◌, ◌<◌, ℕ, ◌+◌, Bool, List, length, get_or, Option, Some, None, inl, inr, refl, sym, ap, ◌∙◌, arith,
-    length-set}
+use Rattle.std.proofs.Common.{◌≡◌, ◌≤◌, ◌<◌, ℕ, ◌+◌, Bool, List, length, get_or, Option, Some, None, inl, inr, refl, sym, ap, ◌∙◌, arith}
+use Rattle.std.proofs.Common.{length-set}
 use Rattle.std.specs.Prelude.{replicate, slice_get, slice_set, IfSome}
 use Rattle.std.proofs.lemmas.Bool.{cases_eq}
 use Rattle.std.proofs.lemmas.List.{get_or-set_other, get_or-set_same, length-replicate}
@@ -37,5 +37,5 @@ filled_all goes table n filled all lv = by (slice_get table lv) refl where
   by None there = tt
   by (Some number) there =
       sym (get_or_from_slice_get table lv number 0 there)
-          ∙ filled.told lv (let long = filled.long in let within = slice_get_within table lv number there in omega
-          (arith, all, long, within))
+      ∙ filled.told lv (let long = filled.long in let within = slice_get_within table lv number there in omega
+      (arith, all, long, within))

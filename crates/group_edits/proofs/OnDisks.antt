@@ -1,10 +1,10 @@
 -- What may be laid may grow a volume, or be a new one, where the physical volumes have at most 2^40 sectors each.
-use Rattle.std.proofs.Common.{◌≡◌, ◌≤◌, ◌<◌, ℕ, ◌+◌, ◌*◌, ◌^◌, Bool, false, List, [], ◌∷◌, ◌++◌, length, Some, refl, sym, ap, subst, ◌∙◌,
-    append-nil, arith}
+use Rattle.std.proofs.Common.{◌≡◌, ◌≤◌, ◌<◌, ℕ, ◌+◌, ◌*◌, ◌^◌, Bool, false, List, [], ◌∷◌, ◌++◌, length, Some, refl, sym, ap, subst, ◌∙◌}
+use Rattle.std.proofs.Common.{append-nil, arith}
 use Rattle.std.specs.Prelude.{is_some, slice_get, All, AllPairs, Contains}
 use Rattle.std.specs.List.{AllByRecursion as Each, list_any}
-use Rattle.std.proofs.lemmas.List.Elements.{All-append, All-cons, All-contains_itself, All-from_recursion, All-head, All-nil, All-tail,
-    All-weaker}
+use Rattle.std.proofs.lemmas.List.Elements.{All-append, All-cons, All-contains_itself, All-from_recursion, All-head, All-nil, All-tail}
+use Rattle.std.proofs.lemmas.List.Elements.{All-weaker}
 use Rattle.std.proofs.lemmas.List.Kept.{AllPairs-cons}
 use Rattle.meta_model.specs.Runs.{legs_of}
 use Rattle.meta_model.specs.Standing.{HasTree}
@@ -53,7 +53,7 @@ module _ {X : Type 0} where
   pairs_front R [] ys pairs = λ i j d before within. absurd (omega (arith, before, within))
   pairs_front R (x ∷ xs) ys pairs =
       AllPairs-cons R x xs (all_front (R x) xs ys (first_pairs R x (xs ++ ys) pairs))
-          (pairs_front R xs ys (later_pairs R x (xs ++ ys) pairs))
+      (pairs_front R xs ys (later_pairs R x (xs ++ ys) pairs))
 
   pairs_back : (R : X → X → Type 0) (xs ys : List X) → AllPairs R (xs ++ ys) → AllPairs R ys
   pairs_back R [] ys pairs = pairs
@@ -72,12 +72,12 @@ pub lie_on_pvs : (segments : List Segment)
 lie_on_pvs segments none =
     All-from_recursion (λ (segment : Segment). All (λ (leg : Leg). (pv : ℕ) × (leg.on ≡ on.Pv pv)) (legs_of segment.kind)) segments
     (each_by (λ (segment : Segment). list_any (λ (leg : Leg). is_some (lv_number leg.on)) (legs_of segment.kind))
-        (λ (segment : Segment). All (λ (leg : Leg). (pv : ℕ) × (leg.on ≡ on.Pv pv)) (legs_of segment.kind))
+    (λ (segment : Segment). All (λ (leg : Leg). (pv : ℕ) × (leg.on ≡ on.Pv pv)) (legs_of segment.kind))
     (λ segment few. All-from_recursion (λ (leg : Leg). (pv : ℕ) × (leg.on ≡ on.Pv pv)) (legs_of segment.kind)
     (each_by (λ (leg : Leg). is_some (lv_number leg.on)) (λ (leg : Leg). (pv : ℕ) × (leg.on ≡ on.Pv pv)) (λ leg fails. on_pv leg.on fails)
-        (legs_of segment.kind) (none_passes (λ (leg : Leg). is_some (lv_number leg.on)) (legs_of segment.kind) few)))
+    (legs_of segment.kind) (none_passes (λ (leg : Leg). is_some (lv_number leg.on)) (legs_of segment.kind) few)))
     segments (none_passes (λ (segment : Segment). list_any (λ (leg : Leg). is_some (lv_number leg.on)) (legs_of segment.kind)) segments
-        none))
+    none))
   where
     on_pv : (is : On) → is_some (lv_number is) ≡ false → (pv : ℕ) × (is ≡ on.Pv pv)
     on_pv (on.Pv pv) fails = (pv, refl)
@@ -97,7 +97,7 @@ legs_on_pvs : (lv segment share number : ℕ) (legs : List Leg) → 1 ≤ share 
 legs_on_pvs lv segment share number [] some all = All-nil IsRunOnPv
 legs_on_pvs lv segment share number (leg ∷ legs) some all =
     All-cons IsRunOnPv (record { lv = lv; segment = segment; leg = number; on = leg.on; first = leg.first; count = share })
-        (runs_of_legs lv segment share (number + 1) legs)
+    (runs_of_legs lv segment share (number + 1) legs)
     (All-head (λ (leg : Leg). (pv : ℕ) × (leg.on ≡ on.Pv pv)) leg legs all, some)
     (legs_on_pvs lv segment share (number + 1) legs some (All-tail (λ (leg : Leg). (pv : ℕ) × (leg.on ≡ on.Pv pv)) leg legs all))
 
@@ -106,12 +106,12 @@ segments_on_pvs : (lv number : ℕ) (segments : List Segment) → All SegmentIsW
 segments_on_pvs lv number [] whole all = All-nil IsRunOnPv
 segments_on_pvs lv number (segment ∷ segments) whole all =
     All-append IsRunOnPv (runs_of_legs lv number (leg_share segment.count segment.kind) 0 (legs_of segment.kind))
-        (runs_of_segments lv (number + 1) segments)
+    (runs_of_segments lv (number + 1) segments)
     (legs_on_pvs lv number (leg_share segment.count segment.kind) 0 (legs_of segment.kind)
-        (All-head SegmentIsWhole segment segments whole).covers
+    (All-head SegmentIsWhole segment segments whole).covers
     (All-head (λ (segment : Segment). All (λ (leg : Leg). (pv : ℕ) × (leg.on ≡ on.Pv pv)) (legs_of segment.kind)) segment segments all))
     (segments_on_pvs lv (number + 1) segments (All-tail SegmentIsWhole segment segments whole)
-        (All-tail (λ (segment : Segment). All (λ (leg : Leg). (pv : ℕ) × (leg.on ≡ on.Pv pv)) (legs_of segment.kind)) segment segments all))
+    (All-tail (λ (segment : Segment). All (λ (leg : Leg). (pv : ℕ) × (leg.on ≡ on.Pv pv)) (legs_of segment.kind)) segment segments all))
 
 between_at : {X : Type 0} (before after : List X) (x : X) → slice_get (before ++ x ∷ after) (length before) ≡ Some x
 between_at [] after x = refl
@@ -120,7 +120,7 @@ between_at (y ∷ before) after x = between_at before after x
 new_on_volumes : (group : Group) (runs : List LegRun) → All (IsNewRun group) runs → All (IsOnVolume group) runs
 new_on_volumes group runs new =
     All-weaker (IsNewRun group) (IsOnVolume group) (λ run is. record { pv = is.pv; on_pv = is.on_pv; some = is.some; within = is.within })
-        runs new
+    runs new
 
 -- ---- a volume that grows
 
@@ -155,13 +155,17 @@ module _ (group : Group) (before after : List Row) (row : Row) (rows : group.lvs
   whole : All SegmentIsWhole row.1.segments
   whole =
       lvs_whole group (length before) row (λ rule early. accepted rule)
-          (ap (λ (rs : List Row). slice_get rs (length before)) rows ∙ between_at before after row)
+      (ap (λ (rs : List Row). slice_get rs (length before)) rows ∙ between_at before after row)
 
   old_on_volumes : All (IsOnVolume group) old
   old_on_volumes k d within =
       let here = segments_on_pvs number 0 row.1.segments whole on_pvs k d within in
-      record { pv = here.0.0; on_pv = here.0.1; some = here.1;
-          within = its_own (λ (run : LegRun). LiesWithin group run.on (run.first + run.count)) (accepted Within) k d within }
+      record {
+        pv = here.0.0;
+        on_pv = here.0.1;
+        some = here.1;
+        within = its_own (λ (run : LegRun). LiesWithin group run.on (run.first + run.count)) (accepted Within) k d within;
+      }
 
   may_legs : MayHaveLegs group.extent_size (length (legs_of kind)) kind
   may_legs = legs_may group before after row rows accepted
@@ -172,29 +176,29 @@ module _ (group : Group) (before after : List Row) (row : Row) (rows : group.lvs
   all_apart : AllPairs LieApart (old ++ (more ++ []))
   all_apart =
       pairs_between LieApart apart_turned old more []
-          (subst (AllPairs LieApart) (sym (append-nil old))
-          (pairs_front LieApart old back (pairs_back LieApart (runs_of_volumes 0 before) (old ++ back)
-          (subst (AllPairs LieApart) all_runs (accepted Apart)))))
+      (subst (AllPairs LieApart) (sym (append-nil old))
+      (pairs_front LieApart old back (pairs_back LieApart (runs_of_volumes 0 before) (old ++ back)
+      (subst (AllPairs LieApart) all_runs (accepted Apart)))))
       (runs_apart group (length (legs_of kind)) given laid (some_legs group before after row rows accepted) kind number 0
-          (extents_of row.1))
+      (extents_of row.1))
       (All-weaker (IsNewRun group) (λ run. All (LieApart run) (old ++ []))
       (λ run is. subst (All (LieApart run)) (sym (append-nil old))
       (All-weaker (Contains (runs_of group)) (LieApart run)
-          (λ other there on extent in_new in_old. is.unused on extent in_new (other, there, in_old)) old
-          (its_own (Contains (runs_of group)) (All-contains_itself (runs_of group)))))
+      (λ other there on extent in_new in_old. is.unused on extent in_new (other, there, in_old)) old
+      (its_own (Contains (runs_of group)) (All-contains_itself (runs_of group)))))
       more new)
 
   fewer : extents_of row.1 + extents_in added ≤ total (old ++ (more ++ []))
   fewer =
       let first = segments_covered group.extent_size number 0 row.1.segments
       (its group before after row rows accepted
-          (λ (r : Row). All (λ segment. IsWholeStriped group.extent_size segment.count segment.kind) r.1.segments) (accepted Stripes))
+      (λ (r : Row). All (λ segment. IsWholeStriped group.extent_size segment.count segment.kind) r.1.segments) (accepted Stripes))
       (its group before after row rows accepted (λ (r : Row). All (λ segment. IsWholeMirror segment.kind) r.1.segments) (accepted Mirrors))
       in
       let last =
-          segments_covered group.extent_size number 0 added
-              (parts_striped kind group (length (legs_of kind)) given may_legs laid (extents_of row.1))
-              (parts_mirror kind group (length (legs_of kind)) given may_legs laid (extents_of row.1)) in
+      segments_covered group.extent_size number 0 added
+      (parts_striped kind group (length (legs_of kind)) given may_legs laid (extents_of row.1))
+      (parts_mirror kind group (length (legs_of kind)) given may_legs laid (extents_of row.1)) in
       let both = total_both old (more ++ []) in
       let ends = ap total (append-nil more) in
       omega (arith, first, last, both, ends)
@@ -202,10 +206,10 @@ module _ (group : Group) (before after : List Row) (row : Row) (rows : group.lvs
   longer_sectors : extents_of (longer given row.1) * group.extent_size < 2 ^ 48
   longer_sectors =
       few_sectors group disks (old ++ (more ++ []))
-          (All-append (IsOnVolume group) old (more ++ []) old_on_volumes
-          (subst (All (IsOnVolume group)) (sym (append-nil more)) (new_on_volumes group more new))) all_apart
+      (All-append (IsOnVolume group) old (more ++ []) old_on_volumes
+      (subst (All (IsOnVolume group)) (sym (append-nil more)) (new_on_volumes group more new))) all_apart
       (accepted Volumes).pvs.1 (extents_of (longer given row.1))
-          (subst (λ (n : ℕ). n ≤ total (old ++ (more ++ []))) (sym (extents_both row.1.segments added)) fewer)
+      (subst (λ (n : ℕ). n ≤ total (old ++ (more ++ []))) (sym (extents_both row.1.segments added)) fewer)
 
 -- the volume of a name may grow by what may be laid
 pub may_grow : (group : Group) (name : List ℕ) (given : List Part) (v : ℕ × Lv) → IsAccepted group → HasTree group → LieOnDisks group
@@ -231,8 +235,8 @@ pub new_sectors : (group : Group) (kind : SegKind) (count : ℕ) (given : List P
 new_sectors group kind count given accepted disks legs laid =
     let runs : List LegRun = runs_of_segments 0 0 (segments_of kind 0 given) in
     few_sectors group disks runs (new_on_volumes group runs
-        (runs_new group count given laid (legs_some kind group.extent_size count legs) kind 0 0 0))
+    (runs_new group count given laid (legs_some kind group.extent_size count legs) kind 0 0 0))
     (runs_apart group count given laid (legs_some kind group.extent_size count legs) kind 0 0 0) (accepted Volumes).pvs.1
-        (extents_in (segments_of kind 0 given))
+    (extents_in (segments_of kind 0 given))
     (segments_covered group.extent_size 0 0 (segments_of kind 0 given) (parts_striped kind group count given legs laid 0)
-        (parts_mirror kind group count given legs laid 0))
+    (parts_mirror kind group count given legs laid 0))

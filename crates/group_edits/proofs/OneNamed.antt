@@ -1,6 +1,6 @@
 -- The visible volume of a name, where it stands, and that no other volume has its name.
-use Rattle.std.proofs.Common.{◌≡◌, ℕ, suc, ◌+◌, Bool, true, false, ◌||◌, ◌&&◌, cond, List, [], ◌∷◌, map, Option, Some, None, refl, sym, ap,
-    ◌∙◌, arith}
+use Rattle.std.proofs.Common.{◌≡◌, ℕ, suc, ◌+◌, Bool, true, false, ◌||◌, ◌&&◌, cond, List, [], ◌∷◌, map, Option, Some, None, refl, sym, ap}
+use Rattle.std.proofs.Common.{◌∙◌, arith}
 use Rattle.std.specs.Prelude.{nat_eq, option_map, slice_get, Contains}
 use Rattle.std.specs.List.{AllByRecursion as Each}
 use Rattle.std.specs.Cmp.Lexicographic.{pointwise}
@@ -37,23 +37,29 @@ module _ (name : List ℕ) where
   visible_at_from number [] v found = absurd cc
   visible_at_from number (row ∷ rows) v found =
       by (row.1.status.visible && same_bytes row.0 name) refl found (λ made. visible_at_from (number + 1) rows v made) where
-    by : (b : Bool) → (row.1.status.visible && same_bytes row.0 name) ≡ b
-        → cond b (Some (number, row.1)) (visible_from (number + 1) name rows) ≡ Some v
-        → (visible_from (number + 1) name rows ≡ Some v → IsVisibleAt (number + 1) name rows v) → IsVisibleAt number name (row ∷ rows) v
-    by true is made later =
-        let same : (number, row.1) ≡ v = same_Some (number, row.1) v made in
-        record {
-          k = 0;
-          row = row;
-          place = sym (ap (λ (x : ℕ × Lv). x.0) same) ∙ (let e : number ≡ number + 0 = omega arith in e);
-          there = refl;
-          volume = ap (λ (x : ℕ × Lv). x.1) same;
-          visible = (both_true row.1.status.visible (same_bytes row.0 name) is).0;
-        }
-    by false is made later =
-        let rest : IsVisibleAt (number + 1) name rows v = later made in
-        record { k = suc rest.k; row = rest.row; place = omega (arith, rest.place); there = rest.there; volume = rest.volume;
-            visible = rest.visible }
+        by : (b : Bool) → (row.1.status.visible && same_bytes row.0 name) ≡ b
+            → cond b (Some (number, row.1)) (visible_from (number + 1) name rows) ≡ Some v
+            → (visible_from (number + 1) name rows ≡ Some v → IsVisibleAt (number + 1) name rows v) → IsVisibleAt number name (row ∷ rows) v
+        by true is made later =
+            let same : (number, row.1) ≡ v = same_Some (number, row.1) v made in
+            record {
+              k = 0;
+              row = row;
+              place = sym (ap (λ (x : ℕ × Lv). x.0) same) ∙ (let e : number ≡ number + 0 = omega arith in e);
+              there = refl;
+              volume = ap (λ (x : ℕ × Lv). x.1) same;
+              visible = (both_true row.1.status.visible (same_bytes row.0 name) is).0;
+            }
+        by false is made later =
+            let rest : IsVisibleAt (number + 1) name rows v = later made in
+            record {
+              k = suc rest.k;
+              row = rest.row;
+              place = omega (arith, rest.place);
+              there = rest.there;
+              volume = rest.volume;
+              visible = rest.visible;
+            }
 
   -- ---- no other has the name
 
@@ -71,9 +77,11 @@ module _ (name : List ℕ) where
   others : (rows : List Row) (taken : List (List ℕ)) → AreNames taken (map (λ (row : Row). row.0) rows) → is_among taken name ≡ true
       → Each HasOther rows
   others [] taken are among = tt
-  others (row ∷ rows) taken are among =
-      (by (same_bytes row.0 name) refl, others rows (row.0 ∷ taken) are.2
-          (or_right (pointwise nat_eq name row.0) (is_among taken name) among)) where
+  others (row ∷ rows) taken are among = (
+    by (same_bytes row.0 name) refl,
+    others rows (row.0 ∷ taken) are.2
+        (or_right (pointwise nat_eq name row.0) (is_among taken name) among),
+  ) where
     by : (b : Bool) → same_bytes row.0 name ≡ b → b ≡ false
     by true is = absurd (true≢false (sym among ∙ ap (is_among taken) (sym (same_bytes_tells row.0 name is)) ∙ are.1))
     by false is = refl
@@ -125,7 +133,7 @@ pub is_this : (group : Group) (name : List ℕ) (v : ℕ × Lv) → IsPrintable 
 unfolding visible_named
 is_this group name v can found row within =
     All-contains (IsThis name v.1) group.lvs row
-        (All-from_recursion (IsThis name v.1) group.lvs (each_this name 0 group.lvs [] v found can.lv_names)) within
+    (All-from_recursion (IsThis name v.1) group.lvs (each_this name 0 group.lvs [] v found can.lv_names)) within
 
 -- the volume with this number is the one that was found with it
 pub named_is : (group : Group) (name : List ℕ) (number : ℕ) (row : Row)

@@ -1,6 +1,6 @@
 -- The next version of a group, in which volumes have other names, keeps all rules.
-use Rattle.std.proofs.Common.{◌≡◌, ◌≢◌, ◌≤◌, ◌<◌, ℕ, zero, suc, ◌+◌, false, cond, List, [], ◌∷◌, ◌++◌, length, map, Option, Some, None,
-    refl, sym, ap, subst, ◌∙◌, arith}
+use Rattle.std.proofs.Common.{◌≡◌, ◌≢◌, ◌≤◌, ◌<◌, ℕ, zero, suc, ◌+◌, false, cond, List, [], ◌∷◌, ◌++◌, length, map, Option, Some, None}
+use Rattle.std.proofs.Common.{refl, sym, ap, subst, ◌∙◌, arith}
 use Rattle.std.specs.Prelude.{◌*◌, ◌^◌, nat_eq, slice_get, sum_by, option_map, All, AllPairs, Contains}
 use Rattle.std.proofs.lemmas.List.Elements.{All-map, All-weaker}
 use Rattle.std.proofs.lemmas.List.Sums.{sum_by-cons}
@@ -14,10 +14,10 @@ use Rattle.volume_rules.specs.Depths.{load}
 use Rattle.volume_rules.specs.Legs.{IsUsed, IsWayDown, LegRun, LieApart, LiesOn, runs_of, runs_of_segments, runs_of_volumes}
 use Rattle.volume_rules.specs.Extents.{extents_of}
 use Rattle.volume_rules.proofs.LegRuns.{contains_later}
-use Rattle.volume_rules.specs.Rules.{Follow, IsAccepted, IsLv, IsWholeMirror, IsWholeStriped, LvIsSmall, MovedIsAllowed, IsMove, IsMoving,
-    IsPvmove, Keeps, LiesWithin, counts, ids_of, pvmove_number}
-use Rattle.volume_rules.specs.declared.rule.Rule.TheVariants.{Numbers, Ids, Volumes, Segments, Extents, Follows, Stripes, Mirrors, Within,
-    Apart, Depth, Moved, Pvmove, Locked}
+use Rattle.volume_rules.specs.Rules.{Follow, IsAccepted, IsLv, IsWholeMirror, IsWholeStriped, LvIsSmall, MovedIsAllowed, IsMove, IsMoving}
+use Rattle.volume_rules.specs.Rules.{IsPvmove, Keeps, LiesWithin, counts, ids_of, pvmove_number}
+use Rattle.volume_rules.specs.declared.rule.Rule.TheVariants.{Numbers, Ids, Volumes, Segments, Extents, Follows, Stripes, Mirrors, Within}
+use Rattle.volume_rules.specs.declared.rule.Rule.TheVariants.{Apart, Depth, Moved, Pvmove, Locked}
 use Rattle.group_edits.specs.NextVersion.{with_lvs}
 
 abbrev Row : Type 0
@@ -88,9 +88,11 @@ module _ (f : Row → Row) (same : (row : Row) → (f row).1 ≡ row.1) where
       by_row None there made = absurd cc
       by_row (Some row) there made =
           let is_row : f row ≡ (name, lv) = same_Some (f row) (name, lv) made in
-          let volume : row.1 ≡ lv = sym (same row) ∙ ap (λ (r : Row). r.1) is_row in
-          (row.0, there ∙ ap (λ (v : Lv). Some (row.0, v)) volume,
-              sym (ap (λ (r : Row). r.0) is_row) ∙ ap (λ (v : Lv). (f (row.0, v)).0) volume)
+          let volume : row.1 ≡ lv = sym (same row) ∙ ap (λ (r : Row). r.1) is_row in (
+            row.0,
+            there ∙ ap (λ (v : Lv). Some (row.0, v)) volume,
+            sym (ap (λ (r : Row). r.0) is_row) ∙ ap (λ (v : Lv). (f (row.0, v)).0) volume,
+          )
 
     lv_back : (n : ℕ) (lv : Lv) → IsLv other n lv → IsLv group n lv
     lv_back n lv is = let row = row_back n is.0 lv is.1 in (row.0, row.1)
@@ -121,7 +123,7 @@ module _ (f : Row → Row) (same : (row : Row) → (f row).1 ≡ row.1) where
     within_kept within =
         subst (All (λ (run : LegRun). LiesWithin other run.on (run.first + run.count))) (sym other_runs)
         (All-weaker (λ (run : LegRun). LiesWithin group run.on (run.first + run.count))
-            (λ (run : LegRun). LiesWithin other run.on (run.first + run.count))
+        (λ (run : LegRun). LiesWithin other run.on (run.first + run.count))
         (λ (run : LegRun) lies. lies_within run.on (run.first + run.count) lies) (runs_of group) within)
 
     apart_kept : Keeps group Apart → Keeps other Apart
@@ -139,7 +141,7 @@ module _ (f : Row → Row) (same : (row : Row) → (f row).1 ≡ row.1) where
     ids_same : ids_of other ≡ ids_of group
     ids_same =
         ap (λ (ids : List (List ℕ)). group.id ∷ (map (λ (pv : List ℕ × Pv). pv.1.id) group.pvs ++ ids))
-            (map_same (λ (lv : Lv). lv.id) group.lvs)
+        (map_same (λ (lv : Lv). lv.id) group.lvs)
 
     ids_kept : Keeps group Ids → Keeps other Ids
     ids_kept differ = subst (AllPairs (λ (a b : List ℕ). a ≢ b)) (sym ids_same) differ
@@ -222,13 +224,13 @@ module _ (f : Row → Row) (same : (row : Row) → (f row).1 ≡ row.1) where
       keeps Follows = all_same (λ lv. Follow 0 lv.segments × (extents_of lv * group.extent_size < 2 ^ 48)) group.lvs (accepted Follows)
       keeps Stripes =
           all_same (λ lv. All (λ segment. IsWholeStriped group.extent_size segment.count segment.kind) lv.segments) group.lvs
-              (accepted Stripes)
+          (accepted Stripes)
       keeps Mirrors = all_same (λ lv. All (λ segment. IsWholeMirror segment.kind) lv.segments) group.lvs (accepted Mirrors)
       keeps Within = within_kept (accepted Within)
       keeps Apart = apart_kept (accepted Apart)
       keeps Depth = depth_kept (accepted Depth)
       keeps Moved =
           all_same (λ lv. All (λ segment. MovedIsAllowed lv.status.pvmove segment.count segment.kind) lv.segments) group.lvs
-              (accepted Moved)
+          (accepted Moved)
       keeps Pvmove = pvmove_kept (accepted Pvmove)
       keeps Locked = locked_kept (accepted Locked)

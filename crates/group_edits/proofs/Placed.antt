@@ -1,6 +1,6 @@
 -- Physical volumes that lie well on disks of at most 2^40 sectors.
-use Rattle.std.proofs.Common.{◌≡◌, ◌≤◌, ◌⊎◌, ℕ, ◌+◌, ◌*◌, ◌^◌, Bool, true, false, ◌||◌, ◌&&◌, cond, List, [], ◌∷◌, get_or, Option, Some,
-    None, inl, inr, ⊎_elim, refl, sym, ap, ◌∙◌, arith}
+use Rattle.std.proofs.Common.{◌≡◌, ◌≤◌, ◌⊎◌, ℕ, ◌+◌, ◌*◌, ◌^◌, Bool, true, false, ◌||◌, ◌&&◌, cond, List, [], ◌∷◌, get_or, Option, Some}
+use Rattle.std.proofs.Common.{None, inl, inr, ⊎_elim, refl, sym, ap, ◌∙◌, arith}
 use Rattle.std.specs.Prelude.{find, nat_lt, option_map, unwrap_or, All}
 use Rattle.std.specs.List.{AllByRecursion as Each, enumerate_from, list_any}
 use Rattle.std.proofs.lemmas.Bool.{false≢true, or_cases}
@@ -51,15 +51,15 @@ module _ (group : Group) where
     on_it disk found most same none =
         let e = same_bytes_tells found.id pv.1.id same in
         let turned : same_bytes pv.1.id found.id ≡ true =
-            ap (same_bytes pv.1.id) e ∙ sym (ap (λ (id : List ℕ). same_bytes id pv.1.id) e) ∙ same in
+        ap (same_bytes pv.1.id) e ∙ sym (ap (λ (id : List ℕ). same_bytes id pv.1.id) e) ∙ same in
         let well : is_misplaced pv.1.pe_start (pv.1.pe_start + sectors) disk found ≡ false =
-            second_false (same_bytes pv.1.id found.id) (is_misplaced pv.1.pe_start (pv.1.pe_start + sectors) disk found) turned
-                (passes disk found none) in
+        second_false (same_bytes pv.1.id found.id) (is_misplaced pv.1.pe_start (pv.1.pe_start + sectors) disk found) turned
+        (passes disk found none) in
         ⊎_elim
         (λ empty. let less = no_less pv.1.pe_start (pv.1.pe_start + sectors) empty in omega (arith, less))
         (λ within. let less = no_less disk.sectors (pv.1.pe_start + sectors) within in omega (arith, less, most))
         (either_false (nat_lt pv.1.pe_start (pv.1.pe_start + sectors)) (nat_lt disk.sectors (pv.1.pe_start + sectors))
-            (nat_lt pv.1.pe_start 8 || list_any (meets_area pv.1.pe_start (pv.1.pe_start + sectors)) found.areas) well)
+        (nat_lt pv.1.pe_start 8 || list_any (meets_area pv.1.pe_start (pv.1.pe_start + sectors)) found.areas) well)
 
     on_disk : (disk : Reading) → disk.sectors ≤ 2 ^ 40 → has_id pv.1.id disk ≡ true → has_misplaced group disk ≡ false → sectors ≤ 2 ^ 40
     on_disk disk most has none = by disk.pv refl has where
@@ -68,14 +68,14 @@ module _ (group : Group) where
       by None is has = absurd (false≢true has)
       by (Some found) is has =
           on_it disk found most has (sym (ap (λ (o : Option Found). unwrap_or
-              (option_map (λ (x : Found). list_any (is_this_misplaced group.extent_size disk x) group.pvs) o) false) is) ∙ none)
+          (option_map (λ (x : Found). list_any (is_this_misplaced group.extent_size disk x) group.pvs) o) false) is) ∙ none)
 
     on_some : (disks : List Reading) → Each (λ (disk : Reading). has_misplaced group disk ≡ false) disks
         → Each (λ (disk : Reading). disk.sectors ≤ 2 ^ 40) disks → list_any (has_id pv.1.id) disks ≡ true → sectors ≤ 2 ^ 40
     on_some [] well few any = absurd (false≢true any)
     on_some (disk ∷ disks) well few any =
         ⊎_elim (λ here. on_disk disk few.0 here well.0) (λ later. on_some disks well.1 few.1 later)
-            (or_cases (has_id pv.1.id disk) (list_any (has_id pv.1.id) disks) any)
+        (or_cases (has_id pv.1.id disk) (list_any (has_id pv.1.id) disks) any)
 
   -- each physical volume of the group that lies well on one of these
   pub placed_on_disks : (disks : List Reading) → first_misplaced group disks ≡ None → Each (λ (disk : Reading). disk.sectors ≤ 2 ^ 40) disks
@@ -83,5 +83,5 @@ module _ (group : Group) where
   placed_on_disks disks none few found k d within =
       on_some (get_or group.pvs k d)
       (λ disk pv fails. All-from_recursion (λ (x : List ℕ × Pv). is_this_misplaced group.extent_size disk pv x ≡ false) group.pvs
-          (none_passes (is_this_misplaced group.extent_size disk pv) group.pvs fails) k d within)
+      (none_passes (is_this_misplaced group.extent_size disk pv) group.pvs fails) k d within)
       disks (each_placed 0 disks none) few (found k d within)

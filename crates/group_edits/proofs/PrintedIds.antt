@@ -1,6 +1,6 @@
 -- Ids can be printed.
-use Rattle.std.proofs.Common.{◌≡◌, ℕ, ◌≤◌, Bool, true, false, ◌&&◌, ◌==◌, List, [], ◌∷◌, take, drop, refl, sym, ap, ◌∙◌, arith,
-    if◌then◌else◌}
+use Rattle.std.proofs.Common.{◌≡◌, ℕ, ◌≤◌, Bool, true, false, ◌&&◌, ◌==◌, List, [], ◌∷◌, take, drop, refl, sym, ap, ◌∙◌, arith}
+use Rattle.std.proofs.Common.{if◌then◌else◌}
 use Rattle.std.proofs.lemmas.Bool.{and_parts, ne_eqb}
 use Rattle.std.proofs.lemmas.Bool.Decides.{nat_tests}
 use Rattle.std.proofs.lemmas.List.{take-append-drop}
@@ -11,8 +11,8 @@ use Rattle.std.specs.List.{list_all, join_with_byte}
 use Rattle.conf_text.specs.Bytes.{is_letter, kind, mark}
 use Rattle.conf_text.specs.Grammar.{IsContent, is_allowed}
 use Rattle.conf_text.specs.declared.kind.Kind.{Kind}
-use Rattle.conf_text.specs.declared.kind.Kind.TheVariants.{Digit, Letter, Blank, LineFeed, Hash, Quote, Backslash, OpenBrace, CloseBrace,
-    OpenBracket, CloseBracket, Equals, Comma, Zero, Other}
+use Rattle.conf_text.specs.declared.kind.Kind.TheVariants.{Digit, Letter, Blank, LineFeed, Hash, Quote, Backslash, OpenBrace, CloseBrace}
+use Rattle.conf_text.specs.declared.kind.Kind.TheVariants.{OpenBracket, CloseBracket, Equals, Comma, Zero, Other}
 use Rattle.lvm_id.specs.LvmId.{IsId, hyphen_form, is_id_char, pieces}
 use Rattle.meta_print.proofs.Printable.{IsIdAgain}
 use Rattle.meta_read.proofs.PrintedIds.{id_printed-is}
@@ -70,12 +70,12 @@ all_allowed p one (b ∷ bs) all =
 front_allowed : (n : ℕ) (bs : List ℕ) → list_all allows bs ≡ true → list_all allows (take n bs) ≡ true
 front_allowed n bs all =
     (and_parts (list_all allows (take n bs)) (list_all allows (drop n bs))
-        (sym (list_all-append allows (take n bs) (drop n bs)) ∙ ap (list_all allows) (take-append-drop n bs) ∙ all)).0
+    (sym (list_all-append allows (take n bs) (drop n bs)) ∙ ap (list_all allows) (take-append-drop n bs) ∙ all)).0
 
 back_allowed : (n : ℕ) (bs : List ℕ) → list_all allows bs ≡ true → list_all allows (drop n bs) ≡ true
 back_allowed n bs all =
     (and_parts (list_all allows (take n bs)) (list_all allows (drop n bs))
-        (sym (list_all-append allows (take n bs) (drop n bs)) ∙ ap (list_all allows) (take-append-drop n bs) ∙ all)).1
+    (sym (list_all-append allows (take n bs) (drop n bs)) ∙ ap (list_all allows) (take-append-drop n bs) ∙ all)).1
 
 hyphen_allowed : allows 45 ≡ true
 unfolding kind
@@ -86,7 +86,7 @@ pieces_allowed [] bs all = refl
 pieces_allowed (n ∷ []) bs all = front_allowed n bs all
 pieces_allowed (n ∷ m ∷ lengths) bs all =
     let rest : list_all allows (join_with_byte 45 (pieces (m ∷ lengths) (drop n bs))) ≡ true =
-        pieces_allowed (m ∷ lengths) (drop n bs) (back_allowed n bs all) in
+    pieces_allowed (m ∷ lengths) (drop n bs) (back_allowed n bs all) in
     list_all-append allows (take n bs) (45 ∷ join_with_byte 45 (pieces (m ∷ lengths) (drop n bs)))
     ∙ ap (λ (t : Bool). t && (allows 45 && list_all allows (join_with_byte 45 (pieces (m ∷ lengths) (drop n bs))))) (front_allowed n bs all)
     ∙ ap (λ (t : Bool). t && list_all allows (join_with_byte 45 (pieces (m ∷ lengths) (drop n bs)))) hyphen_allowed
@@ -96,7 +96,7 @@ hyphen_form-content : (id : List ℕ) → IsId id → IsContent (hyphen_form id)
 unfolding hyphen_form
 hyphen_form-content id is =
     pieces_allowed (6 ∷ 4 ∷ 4 ∷ 4 ∷ 4 ∷ 4 ∷ 6 ∷ []) id
-        (all_allowed is_id_char id_char_allowed id (list_all-from_AllPass is_id_char id is.in_alphabet))
+    (all_allowed is_id_char id_char_allowed id (list_all-from_AllPass is_id_char id is.in_alphabet))
 
 pub id_again : (id : List ℕ) → IsId id → IsIdAgain id
 id_again id is = record { again = id_printed-is id (hyphen_form id) is refl; content = hyphen_form-content id is }

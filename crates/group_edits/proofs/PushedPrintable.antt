@@ -1,6 +1,6 @@
 -- A group with one more physical volume can be printed, where it could before.
-use Rattle.std.proofs.Common.{◌≡◌, ◌<◌, ℕ, ◌+◌, ◌^◌, Bool, true, false, ◌||◌, cond, List, [], ◌∷◌, ◌++◌, length, get_or, map, Option, Some,
-    None, refl, sym, ap, subst, ◌∙◌}
+use Rattle.std.proofs.Common.{◌≡◌, ◌<◌, ℕ, ◌+◌, ◌^◌, Bool, true, false, ◌||◌, cond, List, [], ◌∷◌, ◌++◌, length, get_or, map, Option, Some}
+use Rattle.std.proofs.Common.{None, refl, sym, ap, subst, ◌∙◌}
 use Rattle.std.specs.Prelude.{nat_eq, is_none, option_map}
 use Rattle.std.specs.Option.{option_or}
 use Rattle.std.specs.List.{AllByRecursion as Each, position, position_from}
@@ -34,9 +34,12 @@ pub names_pushed : (taken names : List (List ℕ)) (name : List ℕ) → is_none
 names_pushed taken [] name named other free are = (named, other, tt)
 names_pushed taken (first ∷ names) name named other free are =
     let parts : (pointwise nat_eq name first ≡ false) × (is_among names name ≡ false) =
-        both_false (pointwise nat_eq name first) (is_among names name) free in
-    (are.0, are.1, names_pushed (first ∷ taken) names name named (or_from (pointwise nat_eq name first) (is_among taken name) parts.0 other)
-        parts.1 are.2)
+    both_false (pointwise nat_eq name first) (is_among names name) free in (
+      are.0,
+      are.1,
+      names_pushed (first ∷ taken) names name named (or_from (pointwise nat_eq name first) (is_among taken name) parts.0 other)
+          parts.1 are.2,
+    )
   where
     both_false : (a b : Bool) → (a || b) ≡ false → (a ≡ false) × (b ≡ false)
     both_false true b none = absurd cc
@@ -108,15 +111,14 @@ found_again : (group : Group) (row : List ℕ × Pv) → is_among (lv_names grou
 found_again group row free (on.Pv n) found =
     let name : List ℕ = get_or (pv_names group) n [] in
     let place : position (pointwise nat_eq name) (pv_names group) ≡ Some n =
-        first_of (position (pointwise nat_eq name) (pv_names group)) (position (pointwise nat_eq name) (lv_names group)) n found in
+    first_of (position (pointwise nat_eq name) (pv_names group)) (position (pointwise nat_eq name) (lv_names group)) n found in
     let within : n < length (pv_names group) = (position-Some (pointwise nat_eq name) (pv_names group) n [] place).0 in
     let same : get_or (pv_names (pushed group row)) n [] ≡ name =
-        ap (λ (l : List (List ℕ)). get_or l n []) (pv_names-pushed group row)
-            ∙ get_or_append_left (pv_names group) (row.0 ∷ []) [] n within in
+    ap (λ (l : List (List ℕ)). get_or l n []) (pv_names-pushed group row)
+    ∙ get_or_append_left (pv_names group) (row.0 ∷ []) [] n within in
     let again : position (pointwise nat_eq name) (pv_names (pushed group row)) ≡ Some n =
-        ap (position (pointwise nat_eq name)) (pv_names-pushed group row)
-            ∙ position_kept (pointwise nat_eq name) (pv_names group) (row.0 ∷ []) n place in
-    (
+    ap (position (pointwise nat_eq name)) (pv_names-pushed group row)
+    ∙ position_kept (pointwise nat_eq name) (pv_names group) (row.0 ∷ []) n place in (
       ap (on_named (names_of (pushed group row))) same
           ∙ ap (λ (o : Option ℕ). option_or (on_pv o) (on_lv (position (pointwise nat_eq name) (lv_names group)))) again,
       same,
@@ -128,50 +130,57 @@ found_again group row free (on.Lv n) found =
     in
     let within : n < length (lv_names group) = (position-Some (pointwise nat_eq name) (lv_names group) n [] places.1).0 in
     let other : pointwise nat_eq name row.0 ≡ false =
-        differ_back row.0 name (none_at (pointwise nat_eq row.0) (lv_names group) n [] free within) in
+    differ_back row.0 name (none_at (pointwise nat_eq row.0) (lv_names group) n [] free within) in
     let none : position (pointwise nat_eq name) (pv_names (pushed group row)) ≡ None =
     ap (position (pointwise nat_eq name)) (pv_names-pushed group row)
-        ∙ no_position_kept (pointwise nat_eq name) (pv_names group) row.0 other places.0
-    in
-    (ap (λ (o : Option ℕ). option_or (on_pv o) (on_lv (position (pointwise nat_eq name) (lv_names group)))) none
-        ∙ ap (λ (o : Option ℕ). on_lv o) places.1, refl)
+    ∙ no_position_kept (pointwise nat_eq name) (pv_names group) row.0 other places.0
+    in (
+      ap (λ (o : Option ℕ). option_or (on_pv o) (on_lv (position (pointwise nat_eq name) (lv_names group)))) none
+          ∙ ap (λ (o : Option ℕ). on_lv o) places.1,
+      refl,
+    )
 
 -- ---- volumes
 
 module _ (group other : Group) (again : (is : On) → on_named (names_of group) (name_of group is) ≡ Some is → IsFoundAgain group other is)
-    where
-  leg_kept : (leg : Leg) → IsLeg group leg → IsLeg other leg
-  leg_kept leg is =
-      let found : IsFoundAgain group other leg.on = again leg.on is.found in
-      record { found = found.0; content = subst IsContent (sym found.1) is.content; first_fits = is.first_fits }
+  where
+    leg_kept : (leg : Leg) → IsLeg group leg → IsLeg other leg
+    leg_kept leg is =
+        let found : IsFoundAgain group other leg.on = again leg.on is.found in
+        record { found = found.0; content = subst IsContent (sym found.1) is.content; first_fits = is.first_fits }
 
-  each_leg : (legs : List Leg) → Each (IsLeg group) legs → Each (IsLeg other) legs
-  each_leg [] are = tt
-  each_leg (leg ∷ legs) are = (leg_kept leg are.0, each_leg legs are.1)
+    each_leg : (legs : List Leg) → Each (IsLeg group) legs → Each (IsLeg other) legs
+    each_leg [] are = tt
+    each_leg (leg ∷ legs) are = (leg_kept leg are.0, each_leg legs are.1)
 
-  legs_kept : (legs : List Leg) → IsLegs group legs → IsLegs other legs
-  legs_kept legs are = record { count_fits = are.count_fits; each = each_leg legs are.each }
+    legs_kept : (legs : List Leg) → IsLegs group legs → IsLegs other legs
+    legs_kept legs are = record { count_fits = are.count_fits; each = each_leg legs are.each }
 
-  kind_kept : (kind : SegKind) → IsKind group kind → IsKind other kind
-  kind_kept (Striped stripe legs) is = (is.0, legs_kept legs is.1)
-  kind_kept (Mirror region moved legs) is = (is.0, is.1, legs_kept legs is.2)
+    kind_kept : (kind : SegKind) → IsKind group kind → IsKind other kind
+    kind_kept (Striped stripe legs) is = (is.0, legs_kept legs is.1)
+    kind_kept (Mirror region moved legs) is = (is.0, is.1, legs_kept legs is.2)
 
-  segment_kept : (segment : Segment) → IsSegment group segment → IsSegment other segment
-  segment_kept segment is = record { start_fits = is.start_fits; count_fits = is.count_fits; kind_is = kind_kept segment.kind is.kind_is }
+    segment_kept : (segment : Segment) → IsSegment group segment → IsSegment other segment
+    segment_kept segment is = record { start_fits = is.start_fits; count_fits = is.count_fits; kind_is = kind_kept segment.kind is.kind_is }
 
-  each_segment : (segments : List Segment) → Each (IsSegment group) segments → Each (IsSegment other) segments
-  each_segment [] are = tt
-  each_segment (segment ∷ segments) are = (segment_kept segment are.0, each_segment segments are.1)
+    each_segment : (segments : List Segment) → Each (IsSegment group) segments → Each (IsSegment other) segments
+    each_segment [] are = tt
+    each_segment (segment ∷ segments) are = (segment_kept segment are.0, each_segment segments are.1)
 
-  lv_kept : (lv : Lv) → IsLv group lv → IsLv other lv
-  lv_kept lv is =
-      record { id_again = is.id_again; created_fits = is.created_fits; host_content = is.host_content; count_fits = is.count_fits;
-          each = each_segment lv.segments is.each }
+    lv_kept : (lv : Lv) → IsLv group lv → IsLv other lv
+    lv_kept lv is =
+        record {
+          id_again = is.id_again;
+          created_fits = is.created_fits;
+          host_content = is.host_content;
+          count_fits = is.count_fits;
+          each = each_segment lv.segments is.each;
+        }
 
-  pub each_lv : (lvs : List (List ℕ × Lv)) → Each (λ (lv : List ℕ × Lv). IsLv group lv.1) lvs
-      → Each (λ (lv : List ℕ × Lv). IsLv other lv.1) lvs
-  each_lv [] are = tt
-  each_lv (lv ∷ lvs) are = (lv_kept lv.1 are.0, each_lv lvs are.1)
+    pub each_lv : (lvs : List (List ℕ × Lv)) → Each (λ (lv : List ℕ × Lv). IsLv group lv.1) lvs
+        → Each (λ (lv : List ℕ × Lv). IsLv other lv.1) lvs
+    each_lv [] are = tt
+    each_lv (lv ∷ lvs) are = (lv_kept lv.1 are.0, each_lv lvs are.1)
 
 -- ---- the group
 
@@ -188,7 +197,7 @@ printable_pushed group row can pv named free_pv free_lv = record {
   copies_fits = can.copies_fits;
   pv_names =
       subst (AreNames []) (sym (pv_names-pushed group row))
-          (names_pushed [] (pv_names group) row.0 (ap is_none named) refl free_pv can.pv_names);
+      (names_pushed [] (pv_names group) row.0 (ap is_none named) refl free_pv can.pv_names);
   lv_names = can.lv_names;
   each_pv = each_pushed (λ (pv : List ℕ × Pv). IsPv pv.1) group.pvs row can.each_pv pv;
   each_lv = each_lv group (pushed group row) (found_again group row free_lv) group.lvs can.each_lv;

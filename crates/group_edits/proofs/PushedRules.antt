@@ -1,6 +1,6 @@
 -- A group with one more physical volume keeps the rules that it kept.
-use Rattle.std.proofs.Common.{◌≡◌, ◌≢◌, ◌≤◌, ℕ, suc, ◌+◌, List, [], ◌∷◌, ◌++◌, length, map, Some, refl, sym, ap, subst, ◌∙◌, append_assoc,
-    arith}
+use Rattle.std.proofs.Common.{◌≡◌, ◌≢◌, ◌≤◌, ℕ, suc, ◌+◌, List, [], ◌∷◌, ◌++◌, length, map, Some, refl, sym, ap, subst, ◌∙◌, append_assoc}
+use Rattle.std.proofs.Common.{arith}
 use Rattle.std.specs.Prelude.{slice_get, All, AllPairs}
 use Rattle.std.specs.List.{AllByRecursion as Each}
 use Rattle.std.proofs.lemmas.List.{map-append}
@@ -11,11 +11,11 @@ use Rattle.meta_model.specs.declared.pv.Pv.{Pv}
 use Rattle.meta_model.specs.declared.segment.On.{On}
 use Rattle.meta_model.specs.declared.segment.On.TheVariants as on
 use Rattle.volume_rules.specs.Legs.{IsWayDown, LegRun, runs_of}
-use Rattle.volume_rules.specs.Rules.{FitsDevice, IsAccepted, IsMove, IsMoving, Keeps, LiesWithin, PvIsSmall, VolumesAreFew, ids_of,
-    number_of}
+use Rattle.volume_rules.specs.Rules.{FitsDevice, IsAccepted, IsMove, IsMoving, Keeps, LiesWithin, PvIsSmall, VolumesAreFew, ids_of}
+use Rattle.volume_rules.specs.Rules.{number_of}
 use Rattle.volume_rules.specs.declared.rule.Rule.{Rule}
-use Rattle.volume_rules.specs.declared.rule.Rule.TheVariants.{Numbers, Ids, Volumes, Segments, Extents, Follows, Stripes, Mirrors, Within,
-    Apart, Depth, Moved, Pvmove, Locked}
+use Rattle.volume_rules.specs.declared.rule.Rule.TheVariants.{Numbers, Ids, Volumes, Segments, Extents, Follows, Stripes, Mirrors, Within}
+use Rattle.volume_rules.specs.declared.rule.Rule.TheVariants.{Apart, Depth, Moved, Pvmove, Locked}
 use Rattle.group_edits.proofs.Inserted.{all_pushed, pairs_inserted, slice_get-pushed}
 use Rattle.group_edits.proofs.Pushed.{pushed}
 
@@ -68,7 +68,7 @@ ids_pushed : (id new : List ℕ) (pvs lvs : List (List ℕ)) → AllPairs Differ
     → All (λ other. other ≢ new) (id ∷ (pvs ++ lvs)) → AllPairs Differ (id ∷ (pvs ++ new ∷ lvs))
 ids_pushed id new pvs lvs differ fresh =
     pairs_inserted Differ (id ∷ pvs) lvs new differ
-        (front new (id ∷ pvs) lvs (recursion_from_All (λ other. other ≢ new) (id ∷ (pvs ++ lvs)) fresh))
+    (front new (id ∷ pvs) lvs (recursion_from_All (λ other. other ≢ new) (id ∷ (pvs ++ lvs)) fresh))
     (All-weaker (λ other. other ≢ new) (Differ new) (λ other apart same. apart (sym same)) lvs (back new (id ∷ pvs) lvs fresh))
 
 pub ids_of-pushed : (group : Group) (row : List ℕ × Pv)
@@ -76,15 +76,15 @@ pub ids_of-pushed : (group : Group) (row : List ℕ × Pv)
     ∷ map (λ (lv : List ℕ × Lv). lv.1.id) group.lvs)
 ids_of-pushed group row =
     ap (λ (ids : List (List ℕ)). group.id ∷ (ids ++ map (λ (lv : List ℕ × Lv). lv.1.id) group.lvs))
-        (map-append (λ (pv : List ℕ × Pv). pv.1.id) group.pvs (row ∷ []))
+    (map-append (λ (pv : List ℕ × Pv). pv.1.id) group.pvs (row ∷ []))
     ∙ ap (λ (ids : List (List ℕ)). group.id ∷ ids)
     (append_assoc (map (λ (pv : List ℕ × Pv). pv.1.id) group.pvs) (row.1.id ∷ []) (map (λ (lv : List ℕ × Lv). lv.1.id) group.lvs))
 
 ids_kept : (group : Group) (row : List ℕ × Pv) → Keeps group Ids → All (λ id. id ≢ row.1.id) (ids_of group) → Keeps (pushed group row) Ids
 ids_kept group row differ fresh =
     subst (AllPairs Differ) (sym (ids_of-pushed group row))
-        (ids_pushed group.id row.1.id (map (λ (pv : List ℕ × Pv). pv.1.id) group.pvs) (map (λ (lv : List ℕ × Lv). lv.1.id) group.lvs) differ
-        fresh)
+    (ids_pushed group.id row.1.id (map (λ (pv : List ℕ × Pv). pv.1.id) group.pvs) (map (λ (lv : List ℕ × Lv). lv.1.id) group.lvs) differ
+    fresh)
 
 -- ---- legs
 
@@ -108,7 +108,7 @@ module _ (group : Group) (new : List ℕ) (seqno : ℕ) (pvs : List (List ℕ ×
   unfolding runs_of
   within_kept within =
       All-weaker (λ (run : LegRun). LiesWithin group run.on (run.first + run.count))
-          (λ (run : LegRun). LiesWithin other run.on (run.first + run.count))
+      (λ (run : LegRun). LiesWithin other run.on (run.first + run.count))
       (λ (run : LegRun) lies. lies_within run.on (run.first + run.count) lies) (runs_of group) within
 
   apart_kept : Keeps group Apart → Keeps other Apart
@@ -192,7 +192,7 @@ base_pushed group row base may = record {
       (numbers_kept group row may.small (base.kept Numbers (λ e. omega (arith, e))))
       (ids_kept group row (base.kept Ids (λ e. omega (arith, e))) may.fresh)
       (all_pushed (λ (pv : List ℕ × Pv). FitsDevice group.extent_size pv.1) group.pvs row (base.kept Extents (λ e. omega (arith, e)))
-          may.fits)
+      may.fits)
       rule apart (base.kept rule apart);
   lvs = base.lvs;
   max_lv = base.max_lv;

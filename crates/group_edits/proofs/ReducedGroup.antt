@@ -35,4 +35,4 @@ pub made_whole : (group found next : Group) (number : ℕ) → found ≡ group �
     → IsAccepted found → HasTree found → IsWhole next
 made_whole group found next number same is within unused more other accepted tree =
     subst IsWhole (sym (is ∙ ap (λ (g : Group). reduced_group g number) same))
-        (reduced_whole group number within unused more other (subst IsAccepted same accepted) (subst HasTree same tree))
+    (reduced_whole group number within unused more other (subst IsAccepted same accepted) (subst HasTree same tree))

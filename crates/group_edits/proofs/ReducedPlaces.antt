@@ -40,7 +40,7 @@ module _ (group : Group) (removed : ℕ) (unused : has_leg_on_pv group removed �
   met_there lv sector m meets =
       ap (option_and_then (λ (r : List ℕ × Lv). option_map (make rest lv sector) (segment_from group.extent_size sector 0 r.1.segments)))
       (slice_get-map (renumbered_row (on_without_pv removed)) group.lvs lv
-          ∙ ap (option_map (renumbered_row (on_without_pv removed))) meets.is_volume)
+      ∙ ap (option_map (renumbered_row (on_without_pv removed))) meets.is_volume)
       ∙ met_renumbered (on_without_pv removed) rest lv group lv sector m refl meets
 
   on_other : (o : On) → o ≢ on.Pv removed → OnStays IsOther Any o
@@ -58,11 +58,11 @@ module _ (group : Group) (removed : ℕ) (unused : has_leg_on_pv group removed �
         meets = met_there lv sector m meets;
         is_spot =
             spot_renumbered (on_without_pv removed) group.extent_size lv m spot is_spot
-                ∙ ap (λ (o : On). Some (record { on = o; sector = spot.sector })) (on_new removed spot.on);
+            ∙ ap (λ (o : On). Some (record { on = o; sector = spot.sector })) (on_new removed spot.on);
         stays =
             subst (OnStays IsOther Any) leg.on (on_other leg.it.on
-                (leg_elsewhere removed group unused lv meets.volume m.number m.segment j leg.it meets.is_volume meets.is_segment
-                leg.is_leg));
+            (leg_elsewhere removed group unused lv meets.volume m.number m.segment j leg.it meets.is_volume meets.is_segment
+            leg.is_leg));
       }
 
   pub primary_reduced : (lv sector : ℕ) (at : At) → primary group lv sector ≡ Some at

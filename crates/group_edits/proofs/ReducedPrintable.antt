@@ -1,6 +1,6 @@
 -- A group without a physical volume on which no leg lies can be printed, where it could before.
-use Rattle.std.proofs.Common.{◌≡◌, ◌≢◌, ◌≤◌, ◌<◌, ℕ, zero, suc, ◌+◌, ◌^◌, Bool, true, false, ◌||◌, cond, List, [], ◌∷◌, get_or, map, Option,
-    Some, None, refl, sym, ap, subst, ◌∙◌, arith}
+use Rattle.std.proofs.Common.{◌≡◌, ◌≢◌, ◌≤◌, ◌<◌, ℕ, zero, suc, ◌+◌, ◌^◌, Bool, true, false, ◌||◌, cond, List, [], ◌∷◌, get_or, map, Option}
+use Rattle.std.proofs.Common.{Some, None, refl, sym, ap, subst, ◌∙◌, arith}
 use Rattle.std.specs.Prelude.{nat_eq}
 use Rattle.std.specs.Option.{option_or}
 use Rattle.std.specs.List.{list_any, position, position_from, remove}
@@ -36,7 +36,7 @@ fewer_taken taken fewer (name ∷ names) free are = (
   free name are.1,
   fewer_taken (name ∷ taken) (name ∷ fewer) names
       (λ other none. let parts = none_by (pointwise nat_eq other name) (is_among taken other) none in or_from (pointwise nat_eq other name)
-          (is_among fewer other) parts.0 (free other parts.1)) are.2,
+      (is_among fewer other) parts.0 (free other parts.1)) are.2,
 )
 
 names_without : (taken names : List (List ℕ)) (removed : ℕ) → AreNames taken names → AreNames taken (remove names removed)
@@ -57,7 +57,7 @@ read_without (x ∷ xs) zero (suc n) d other = ap (λ (m : ℕ). get_or xs m d) 
 read_without (x ∷ xs) (suc removed) zero d other = ap (λ (m : ℕ). get_or (remove (x ∷ xs) (suc removed)) m d) (number_below removed)
 read_without (x ∷ xs) (suc removed) (suc n) d other =
     ap (λ (m : ℕ). get_or (remove (x ∷ xs) (suc removed)) m d) (number_suc removed n)
-        ∙ read_without xs removed n d (λ same. other (ap suc same))
+    ∙ read_without xs removed n d (λ same. other (ap suc same))
 
 -- the item with this number is the first that passes
 abbrev IsFirst : {X : Type 0} (p : X → Bool) → List X → ℕ → Type 0
@@ -89,7 +89,7 @@ first_to p i [] n is = absurd is
 first_to p i (x ∷ xs) zero is = ap (λ (b : Bool). cond b (Some i) (position_from p (i + 1) xs)) is ∙ ap (λ (m : ℕ). Some m) (omega arith)
 first_to p i (x ∷ xs) (suc n) is =
     ap (λ (b : Bool). cond b (Some i) (position_from p (i + 1) xs)) is.0 ∙ first_to p (i + 1) xs n is.1
-        ∙ ap (λ (m : ℕ). Some m) (omega arith)
+    ∙ ap (λ (m : ℕ). Some m) (omega arith)
 
 first_without : {X : Type 0} (p : X → Bool) (xs : List X) (removed n : ℕ) → n ≢ removed → IsFirst p xs n
     → IsFirst p (remove xs removed) (number_without removed n)
@@ -99,15 +99,15 @@ first_without p (x ∷ xs) zero (suc n) other is = subst (IsFirst p xs) (sym (nu
 first_without p (x ∷ xs) (suc removed) zero other is = subst (IsFirst p (remove (x ∷ xs) (suc removed))) (sym (number_below removed)) is
 first_without p (x ∷ xs) (suc removed) (suc n) other is =
     subst (IsFirst p (remove (x ∷ xs) (suc removed))) (sym (number_suc removed n))
-        (is.0, first_without p xs removed n (λ same. other (ap suc same)) is.1)
+    (is.0, first_without p xs removed n (λ same. other (ap suc same)) is.1)
 
 place_without : {X : Type 0} (p : X → Bool) (xs : List X) (removed n : ℕ) → n ≢ removed → position p xs ≡ Some n
     → position p (remove xs removed) ≡ Some (number_without removed n)
 place_without p xs removed n other is =
     let first : IsFirst p xs n = first_from p 0 xs n (sym (position_from-zero p xs) ∙ is ∙ ap (λ (m : ℕ). Some m) (omega arith)) in
     position_from-zero p (remove xs removed)
-        ∙ first_to p 0 (remove xs removed) (number_without removed n) (first_without p xs removed n other first)
-        ∙ ap (λ (m : ℕ). Some m) (omega arith)
+    ∙ first_to p 0 (remove xs removed) (number_without removed n) (first_without p xs removed n other first)
+    ∙ ap (λ (m : ℕ). Some m) (omega arith)
 
 no_place : (b : Bool) (i : ℕ) (later : Option ℕ) (any : Bool) → (later ≡ None → any ≡ false) → cond b (Some i) later ≡ None
     → (b || any) ≡ false
@@ -127,7 +127,7 @@ none_to p i (x ∷ xs) none =
 no_place_without : {X : Type 0} (p : X → Bool) (xs : List X) (removed : ℕ) → position p xs ≡ None → position p (remove xs removed) ≡ None
 no_place_without p xs removed none =
     position_from-zero p (remove xs removed)
-        ∙ none_to p 0 (remove xs removed) (none_without p xs removed (none_from p 0 xs (sym (position_from-zero p xs) ∙ none)))
+    ∙ none_to p 0 (remove xs removed) (none_without p xs removed (none_from p 0 xs (sym (position_from-zero p xs) ∙ none)))
 
 -- ---- what legs lie on
 
@@ -149,24 +149,26 @@ module _ (group : Group) (removed seqno : ℕ) where
       let name : List ℕ = get_or (pv_names group) n [] in
       let apart : n ≢ removed = λ same. away (ap on.Pv same) in
       let place : position (pointwise nat_eq name) (pv_names group) ≡ Some n =
-          first_of (position (pointwise nat_eq name) (pv_names group)) (position (pointwise nat_eq name) (lv_names group)) n found in
+      first_of (position (pointwise nat_eq name) (pv_names group)) (position (pointwise nat_eq name) (lv_names group)) n found in
       let same : get_or (pv_names other) (number_without removed n) [] ≡ name =
       ap (λ (l : List (List ℕ)). get_or l (number_without removed n) []) pv_same ∙ read_without (pv_names group) removed n [] apart
       in
       let again : position (pointwise nat_eq name) (pv_names other) ≡ Some (number_without removed n) =
       ap (position (pointwise nat_eq name)) pv_same ∙ place_without (pointwise nat_eq name) (pv_names group) removed n apart place
-      in
-      (ap (on_named (names_of other)) same ∙ ap
-          (λ (o : Option ℕ). option_or (on_pv o) (on_lv (position (pointwise nat_eq name) (lv_names other)))) again, same)
+      in (
+        ap (on_named (names_of other)) same ∙ ap
+            (λ (o : Option ℕ). option_or (on_pv o) (on_lv (position (pointwise nat_eq name) (lv_names other)))) again,
+        same,
+      )
   found_as (on.Lv n) away found =
       let name : List ℕ = get_or (lv_names group) n [] in
       let places : (position (pointwise nat_eq name) (pv_names group) ≡ None)
-          × (position (pointwise nat_eq name) (lv_names group) ≡ Some n) =
+      × (position (pointwise nat_eq name) (lv_names group) ≡ Some n) =
       second_of (position (pointwise nat_eq name) (pv_names group)) (position (pointwise nat_eq name) (lv_names group)) n found
       in
       let same : get_or (lv_names other) n [] ≡ name = ap (λ (l : List (List ℕ)). get_or l n []) lv_same in
       let none : position (pointwise nat_eq name) (pv_names other) ≡ None =
-          ap (position (pointwise nat_eq name)) pv_same ∙ no_place_without (pointwise nat_eq name) (pv_names group) removed places.0 in
+      ap (position (pointwise nat_eq name)) pv_same ∙ no_place_without (pointwise nat_eq name) (pv_names group) removed places.0 in
       let there : position (pointwise nat_eq name) (lv_names other) ≡ Some n = ap (position (pointwise nat_eq name)) lv_same ∙ places.1 in (
         ap (on_named (names_of other)) same
             ∙ ap (λ (o : Option ℕ). option_or (on_pv o) (on_lv (position (pointwise nat_eq name) (lv_names other)))) none
@@ -188,7 +190,7 @@ module _ (group : Group) (removed seqno : ℕ) where
     each_pv = each_without (λ (pv : List ℕ × Pv). IsPv pv.1) group.pvs removed can.each_pv;
     each_lv =
         each_lv group other number (λ (o : On). o ≢ on.Pv removed) found_as group.lvs
-            (λ k row there s segment stands j leg is. leg_elsewhere removed group unused k row s segment j leg there stands is) can.each_lv;
+        (λ k row there s segment stands j leg is. leg_elsewhere removed group unused k row s segment j leg there stands is) can.each_lv;
   }
 
 -- the group without it can be printed

@@ -1,6 +1,6 @@
 -- A group without a physical volume on which no leg lies keeps all rules, where it has another one.
-use Rattle.std.proofs.Common.{◌≡◌, ◌≢◌, ◌≤◌, ◌<◌, ℕ, zero, suc, ◌+◌, ◌-◌, Bool, true, false, cond, List, [], ◌∷◌, ◌++◌, length, get_or, map,
-    Option, Some, None, refl, sym, ap, subst, ◌∙◌, length-append, arith}
+use Rattle.std.proofs.Common.{◌≡◌, ◌≢◌, ◌≤◌, ◌<◌, ℕ, zero, suc, ◌+◌, ◌-◌, Bool, true, false, cond, List, [], ◌∷◌, ◌++◌, length, get_or, map}
+use Rattle.std.proofs.Common.{Option, Some, None, refl, sym, ap, subst, ◌∙◌, length-append, arith}
 use Rattle.std.specs.Prelude.{All, AllPairs, Contains, IsTrue, nat_eq, nat_lt, option_map, slice_get, sum_by}
 use Rattle.std.specs.List.{AllByRecursion as Each, remove}
 use Rattle.std.proofs.lemmas.Bool.{ltb-false, ltb-true}
@@ -23,12 +23,12 @@ use Rattle.meta_model.specs.declared.segment.Segment.{Segment}
 use Rattle.meta_model.specs.Runs.{legs_of}
 use Rattle.volume_rules.specs.Depths.{load}
 use Rattle.volume_rules.specs.Legs.{IsUsed, IsWayDown, LegRun, LieApart, LiesOn, runs_of}
-use Rattle.volume_rules.specs.Rules.{FitsDevice, pvmove_number, IsAccepted, IsLv, IsMove, IsMoveFrom, IsMoving, IsPvmove, Keeps, LiesWithin,
-    LvIsSmall, PvIsSmall, ids_of}
-use Rattle.volume_rules.specs.declared.rule.Rule.TheVariants.{Numbers, Ids, Volumes, Segments, Extents, Follows, Stripes, Mirrors, Within,
-    Apart, Depth, Moved, Pvmove, Locked}
-use Rattle.group_edits.proofs.Renumbered.{AreMirrors, AreMoved, AreStriped, FollowTo, are_mirrors, are_moved, are_striped, extents_same,
-    follows, segments_count, small_lv}
+use Rattle.volume_rules.specs.Rules.{FitsDevice, pvmove_number, IsAccepted, IsLv, IsMove, IsMoveFrom, IsMoving, IsPvmove, Keeps, LiesWithin}
+use Rattle.volume_rules.specs.Rules.{LvIsSmall, PvIsSmall, ids_of}
+use Rattle.volume_rules.specs.declared.rule.Rule.TheVariants.{Numbers, Ids, Volumes, Segments, Extents, Follows, Stripes, Mirrors, Within}
+use Rattle.volume_rules.specs.declared.rule.Rule.TheVariants.{Apart, Depth, Moved, Pvmove, Locked}
+use Rattle.group_edits.proofs.Renumbered.{AreMirrors, AreMoved, AreStriped, FollowTo, are_mirrors, are_moved, are_striped, extents_same}
+use Rattle.group_edits.proofs.Renumbered.{follows, segments_count, small_lv}
 use Rattle.group_edits.proofs.ReducedRuns.{IsElsewhere, get_without, leg_elsewhere, reduced_run, runs_elsewhere, runs_reduced}
 use Rattle.group_edits.proofs.StayingRules.{contains_map, map_pairs}
 use Rattle.group_edits.specs.ReducedGroup.{has_leg_on_pv, number_without, on_without_pv, reduced_group}
@@ -76,7 +76,7 @@ same_number false false removed m n above below above' below' same = same
 number_injective : (removed m n : ℕ) → m ≢ removed → n ≢ removed → number_without removed m ≡ number_without removed n → m ≡ n
 number_injective removed m n other other' same =
     same_number (nat_lt removed m) (nat_lt removed n) removed m n (ltb-true removed m)
-        (λ no_less. let most = ltb-false removed m no_less in omega (arith, most, other))
+    (λ no_less. let most = ltb-false removed m no_less in omega (arith, most, other))
     (ltb-true removed n) (λ no_less. let most = ltb-false removed n no_less in omega (arith, most, other')) same
 
 on_injective : (removed : ℕ) (a b : On) → a ≢ on.Pv removed → b ≢ on.Pv removed → on_without_pv removed a ≡ on_without_pv removed b → a ≡ b
@@ -128,7 +128,7 @@ module _ (group : Group) (removed seqno : ℕ) where
   each_volume P Q step all =
       All-map (λ (row : List ℕ × Lv). Q row.1) (renumbered_row number) group.lvs
       (All-weaker (λ (row : List ℕ × Lv). P row.1) (λ (row : List ℕ × Lv). Q (renumbered_lv number row.1)) (λ row is. step row.1 is)
-          group.lvs all)
+      group.lvs all)
 
   numbers_kept : 1 ≤ seqno → seqno ≤ 4294967295 → Keeps group Numbers → Keeps other Numbers
   numbers_kept some most numbers = record {
@@ -146,7 +146,7 @@ module _ (group : Group) (removed seqno : ℕ) where
       let pv_ids : List (List ℕ) = map (λ (pv : List ℕ × Pv). pv.1.id) group.pvs in
       let lv_ids : List (List ℕ) = map (λ (lv : List ℕ × Lv). lv.1.id) group.lvs in
       ap (λ (ids : List (List ℕ)). group.id ∷ (ids ++ map (λ (lv : List ℕ × Lv). lv.1.id) other.lvs))
-          (map-remove (λ (pv : List ℕ × Pv). pv.1.id) group.pvs removed)
+      (map-remove (λ (pv : List ℕ × Pv). pv.1.id) group.pvs removed)
       ∙ ap (λ (ids : List (List ℕ)). group.id ∷ (remove pv_ids removed ++ ids))
       (map-map (λ (lv : List ℕ × Lv). lv.1.id) (renumbered_row number) group.lvs)
       ∙ ap (λ (ids : List (List ℕ)). group.id ∷ ids)
@@ -184,7 +184,7 @@ module _ (group : Group) (removed seqno : ℕ) where
     few = subst (λ (n : ℕ). n ≤ 16384) (sym counted) few.few;
     some =
         each_volume (λ (lv : Lv). 1 ≤ length lv.segments) (λ (lv : Lv). 1 ≤ length lv.segments)
-            (λ lv some. omega (arith, some, segments_count number lv)) few.some;
+        (λ lv some. omega (arith, some, segments_count number lv)) few.some;
   }
     where
       counted : sum_by (λ (lv : List ℕ × Lv). length lv.1.segments) other.lvs
@@ -220,35 +220,41 @@ module _ (group : Group) (removed seqno : ℕ) where
       subst (All (λ (run : LegRun). LiesWithin other run.on (run.first + run.count))) (sym runs_are)
       (All-map (λ (run : LegRun). LiesWithin other run.on (run.first + run.count)) (reduced_run removed) (runs_of group)
       (all_both (IsElsewhere removed) (λ (run : LegRun). LiesWithin group run.on (run.first + run.count))
-          (λ (run : LegRun). LiesWithin other (number run.on) (run.first + run.count)) (runs_of group)
+      (λ (run : LegRun). LiesWithin other (number run.on) (run.first + run.count)) (runs_of group)
       (λ run away lies. lies_within run.on (run.first + run.count) away lies) elsewhere within))
 
   lie_apart : (a b : LegRun) → IsElsewhere removed a → IsElsewhere removed b → LieApart a b
       → LieApart (reduced_run removed a) (reduced_run removed b)
   lie_apart a b away away' apart is extent first second =
       apart a.on extent (refl, first.1, first.2)
-          (sym (on_injective removed a.on b.on away away' (first.0 ∙ sym second.0)), second.1, second.2)
+      (sym (on_injective removed a.on b.on away away' (first.0 ∙ sym second.0)), second.1, second.2)
 
   apart_kept : All (IsElsewhere removed) (runs_of group) → Keeps group Apart → Keeps other Apart
   apart_kept elsewhere apart =
       subst (AllPairs LieApart) (sym runs_are)
       (map_pairs LieApart LieApart (IsElsewhere removed) (reduced_run removed) lie_apart (runs_of group)
-          (recursion_from_All (IsElsewhere removed) (runs_of group) elsewhere) apart)
+      (recursion_from_All (IsElsewhere removed) (runs_of group) elsewhere) apart)
 
   -- ---- ways down
 
   on_back : (lv below : ℕ) → LiesOn other lv below → LiesOn group lv below
   on_back lv below lies =
       let there =
-          from_map (reduced_run removed) (runs_of group) lies.0 (subst (λ (runs : List LegRun). Contains runs lies.0) runs_are lies.1) in
-      (there.0, there.1, ap (λ (run : LegRun). run.lv) there.2 ∙ lies.2,
-          lv_back removed there.0.on below (ap (λ (run : LegRun). run.on) there.2 ∙ lies.3))
+      from_map (reduced_run removed) (runs_of group) lies.0 (subst (λ (runs : List LegRun). Contains runs lies.0) runs_are lies.1) in (
+        there.0,
+        there.1,
+        ap (λ (run : LegRun). run.lv) there.2 ∙ lies.2,
+        lv_back removed there.0.on below (ap (λ (run : LegRun). run.on) there.2 ∙ lies.3),
+      )
 
   on_again : (lv below : ℕ) → LiesOn group lv below → LiesOn other lv below
-  on_again lv below lies =
-      (reduced_run removed lies.0, subst (λ (runs : List LegRun). Contains runs (reduced_run removed lies.0)) (sym runs_are)
-          (contains_map (reduced_run removed) (runs_of group) lies.0 lies.1.0 lies.1.1 lies.1.2), lies.2,
-          lv_kept removed lies.0.on below lies.3)
+  on_again lv below lies = (
+    reduced_run removed lies.0,
+    subst (λ (runs : List LegRun). Contains runs (reduced_run removed lies.0)) (sym runs_are)
+        (contains_map (reduced_run removed) (runs_of group) lies.0 lies.1.0 lies.1.1 lies.1.2),
+    lies.2,
+    lv_kept removed lies.0.on below lies.3,
+  )
 
   way_back : (way : List ℕ) → IsWayDown other way → IsWayDown group way
   way_back [] is = tt
@@ -273,7 +279,7 @@ module _ (group : Group) (removed seqno : ℕ) where
     ends = λ lv way is. depth.ends lv way (way_back (lv ∷ way) is);
     few =
         λ lv way is. subst (λ (n : ℕ). load (λ (l : ℕ). cond (nat_eq l n) 0 1) way ≤ 3) (sym (pvmove_same group.lvs))
-            (depth.few lv way (way_back (lv ∷ way) is));
+        (depth.few lv way (way_back (lv ∷ way) is));
   }
 
   -- ---- the move
@@ -300,9 +306,14 @@ module _ (group : Group) (removed seqno : ℕ) where
   move_from source (Mirror region moved (a ∷ [])) away is = absurd is
   move_from source (Mirror region moved (a ∷ b ∷ [])) away is =
       let from : source ≢ removed = λ same. away 0 a (omega arith) (is.0 ∙ ap on.Pv same) in
-      let to : is.1.0 ≢ removed = λ same. away 1 a (omega arith) (is.1.1 ∙ ap on.Pv same) in
-      (ap number is.0, (number_without removed is.1.0, ap number is.1.1,
-          λ same. is.1.2 (number_injective removed is.1.0 source to from same)))
+      let to : is.1.0 ≢ removed = λ same. away 1 a (omega arith) (is.1.1 ∙ ap on.Pv same) in (
+        ap number is.0,
+        (
+          number_without removed is.1.0,
+          ap number is.1.1,
+          λ same. is.1.2 (number_injective removed is.1.0 source to from same),
+        ),
+      )
   move_from source (Mirror region moved (a ∷ b ∷ c ∷ legs)) away is = absurd is
 
   legs_away : has_leg_on_pv group removed ≡ false → (n : ℕ) (name : List ℕ) (lv : Lv) → slice_get group.lvs n ≡ Some (name, lv)
@@ -310,7 +321,7 @@ module _ (group : Group) (removed seqno : ℕ) where
   legs_away unused n name lv is s d within j e inside =
       let segment : Segment = get_or lv.segments s d in
       leg_elsewhere removed group unused n (name, lv) s segment j (get_or (legs_of segment.kind) j e) is
-          (slice_get-get_or lv.segments s d within) (slice_get-get_or (legs_of segment.kind) j e inside)
+      (slice_get-get_or lv.segments s d within) (slice_get-get_or (legs_of segment.kind) j e inside)
 
   move_kept : has_leg_on_pv group removed ≡ false → (n : ℕ) (name : List ℕ) (lv : Lv) → slice_get group.lvs n ≡ Some (name, lv)
       → IsMove group n name lv → IsMove other n name (renumbered_lv number lv)
@@ -323,7 +334,7 @@ module _ (group : Group) (removed seqno : ℕ) where
       All-map (λ (segment : Segment). IsMoveFrom (number_without removed move.from_one.0) segment.kind) (renumbered_segment number)
           lv.segments
           (all_both (λ (segment : Segment). All (λ (leg : Leg). leg.on ≢ on.Pv removed) (legs_of segment.kind))
-              (λ (segment : Segment). IsMoveFrom move.from_one.0 segment.kind)
+          (λ (segment : Segment). IsMoveFrom move.from_one.0 segment.kind)
           (λ (segment : Segment). IsMoveFrom (number_without removed move.from_one.0) (renumbered_kind number segment.kind)) lv.segments
           (λ segment away from. move_from move.from_one.0 segment.kind away from) (legs_away unused n name lv is) move.from_one.1),
     );
@@ -337,7 +348,7 @@ module _ (group : Group) (removed seqno : ℕ) where
     whole = λ n name lv is has.
         let old = row_of n name lv is in
         subst (IsMove other n name) old.2 (move_kept unused n name old.0 old.1
-            (allowed.whole n name old.0 old.1 (subst (λ (v : Lv). IsTrue v.status.pvmove) (sym old.2) has)));
+        (allowed.whole n name old.0 old.1 (subst (λ (v : Lv). IsTrue v.status.pvmove) (sym old.2) has)));
   }
 
   locked_kept : Keeps group Locked → Keeps other Locked

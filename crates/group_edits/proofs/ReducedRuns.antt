@@ -1,6 +1,6 @@
 -- What legs cover once a physical volume on which none of them lies was taken out.
-use Rattle.std.proofs.Common.{◌≡◌, ◌≢◌, ◌≤◌, ◌<◌, ℕ, zero, suc, ◌+◌, ◌-◌, Bool, true, false, ◌||◌, cond, List, [], ◌∷◌, ◌++◌, get_or, map,
-    Some, refl, sym, ap, subst, ◌∙◌, arith}
+use Rattle.std.proofs.Common.{◌≡◌, ◌≢◌, ◌≤◌, ◌<◌, ℕ, zero, suc, ◌+◌, ◌-◌, Bool, true, false, ◌||◌, cond, List, [], ◌∷◌, ◌++◌, get_or, map}
+use Rattle.std.proofs.Common.{Some, refl, sym, ap, subst, ◌∙◌, arith}
 use Rattle.std.specs.Prelude.{nat_lt, slice_get, All}
 use Rattle.std.specs.List.{list_any, remove}
 use Rattle.std.proofs.lemmas.Bool.{eq-eqb, ltb-false, ltb-true, true≢false}
@@ -18,8 +18,8 @@ use Rattle.volume_rules.proofs.LegRuns.{IsRunOf, run_is}
 use Rattle.volume_rules.specs.Legs.{LegRun, runs_of, runs_of_segments, runs_of_volumes}
 use Rattle.group_edits.proofs.Inserted.{none_at, none_by}
 use Rattle.group_edits.proofs.Renumbered.{run_by, segments_by, unchanged}
-use Rattle.group_edits.specs.ReducedGroup.{has_leg_on_pv, is_on_pv, leg_is_on_pv, lies_on_pv, number_without, on_without_pv,
-    segment_is_on_pv}
+use Rattle.group_edits.specs.ReducedGroup.{has_leg_on_pv, is_on_pv, leg_is_on_pv, lies_on_pv, number_without, on_without_pv}
+use Rattle.group_edits.specs.ReducedGroup.{segment_is_on_pv}
 use Rattle.group_edits.specs.Renumbered.{renumbered_row}
 
 -- a run on what has another number then
@@ -70,7 +70,7 @@ runs_elsewhere removed group unused k d within =
     let run : LegRun = get_or (runs_of group) k d in
     let is : IsRunOf group.lvs 0 run = run_is group run (All-contains_itself (runs_of group) k d within) in
     λ same. leg_elsewhere removed group unused is.nth is.volume run.segment is.segment run.leg is.leg is.is_volume is.is_segment is.is_leg
-        (sym is.on_is ∙ same)
+    (sym is.on_is ∙ same)
 
 -- ---- numbers
 
@@ -85,7 +85,7 @@ pub number_suc : (removed n : ℕ) → number_without (suc removed) (suc n) ≡ 
 number_suc removed n =
     by_tests (nat_lt (suc removed) (suc n)) (nat_lt removed n) removed n
     (λ test. let less : suc removed < suc n = ltb-true (suc removed) (suc n) test in omega (arith, less))
-        (λ test. let most : suc n ≤ suc removed = ltb-false (suc removed) (suc n) test in omega (arith, most))
+    (λ test. let most : suc n ≤ suc removed = ltb-false (suc removed) (suc n) test in omega (arith, most))
     (ltb-true removed n) (ltb-false removed n)
 
 above_test : (b : Bool) (n : ℕ) → (b ≡ false → suc n ≤ 0) → cond b (suc n - 1) (suc n) ≡ n

@@ -1,6 +1,6 @@
 -- A group without a visible volume that isn't moving, and without those that go with it, keeps all rules, and a tree stands for it.
-use Rattle.std.proofs.Common.{◌≡◌, ◌<◌, ℕ, zero, suc, ◌+◌, Bool, true, false, not, ◌||◌, ◌&&◌, List, [], ◌∷◌, ◌++◌, length, get_or, Option,
-    Some, None, refl, sym, ap, subst, ◌∙◌, arith}
+use Rattle.std.proofs.Common.{◌≡◌, ◌<◌, ℕ, zero, suc, ◌+◌, Bool, true, false, not, ◌||◌, ◌&&◌, List, [], ◌∷◌, ◌++◌, length, get_or, Option}
+use Rattle.std.proofs.Common.{Some, None, refl, sym, ap, subst, ◌∙◌, arith}
 use Rattle.std.specs.Prelude.{◌≢◌, ◌==◌, slice_get, Contains, IsSomeAnd}
 use Rattle.std.specs.List.{list_all, list_any, range_with_len}
 use Rattle.std.proofs.lemmas.Bool.{eq-eqb, false≢true, true≢false}
@@ -68,7 +68,7 @@ in_range a (suc n) zero below =
     subst (Contains (a ∷ range_with_len (a + 1) n)) (let e : a ≡ a + 0 = omega arith in e) (contains_first a (range_with_len (a + 1) n))
 in_range a (suc n) (suc k) below =
     subst (Contains (a ∷ range_with_len (a + 1) n)) (let e : a + 1 + k ≡ a + suc k = omega arith in e)
-        (contains_later a (a + 1 + k) (range_with_len (a + 1) n) (in_range (a + 1) n k (omega (arith, below))))
+    (contains_later a (a + 1 + k) (range_with_len (a + 1) n) (in_range (a + 1) n k (omega (arith, below))))
 
 pub same_number : (a b : ℕ) → (a == b) ≡ true → a ≡ b
 same_number a b is = grind (arith, nat_tests)
@@ -92,7 +92,7 @@ module _ (group : Group) where
   has_leg : (n m : ℕ) → LiesOn group n m → has_leg_on group m n ≡ true
   has_leg n m lies =
       let within = names_from group n m lies in any_there (λ (below : ℕ). below == m) (named_by group n) m within.0 within.1 within.2
-          (eq-eqb m m refl)
+      (eq-eqb m m refl)
 
   pub leg_lies : (n m : ℕ) → has_leg_on group m n ≡ true → LiesOn group n m
   leg_lies n m is =
@@ -130,23 +130,25 @@ module _ (group : Group) (removed : ℕ) where
     by true same made later = ([], tt, sym (same_number n removed same))
     by false same made later =
         let both =
-            both_true (list_any (has_leg_on group n) (lv_numbers group))
-                (list_all (λ upper. not (has_leg_on group n upper) || goes_with group removed steps upper) (lv_numbers group)) made in
+        both_true (list_any (has_leg_on group n) (lv_numbers group))
+        (list_all (λ upper. not (has_leg_on group n upper) || goes_with group removed steps upper) (lv_numbers group)) made in
         let found = any_found (has_leg_on group n) (lv_numbers group) both.0 in
         let goes : goes_with group removed steps found.0 ≡ true =
         the_rest (has_leg_on group n found.0) (goes_with group removed steps found.0) found.2
         (all_there (λ upper. not (has_leg_on group n upper) || goes_with group removed steps upper) (lv_numbers group) found.0 found.1.0
-            found.1.1 found.1.2 both.1)
+        found.1.1 found.1.2 both.1)
         in
-        let upper : Reaches found.0 = later found.0 goes in
-        (upper.0 ++ n ∷ [], longer group removed upper.0 found.0 n upper.1 upper.2 (leg_lies group found.0 n found.2),
-            last_longer group removed upper.0 n)
+        let upper : Reaches found.0 = later found.0 goes in (
+          upper.0 ++ n ∷ [],
+          longer group removed upper.0 found.0 n upper.1 upper.2 (leg_lies group found.0 n found.2),
+          last_longer group removed upper.0 n,
+        )
 
   -- what goes in some steps goes in one more
   goes_more : (steps n : ℕ) → goes_with group removed steps n ≡ true → goes_with group removed (suc steps) n ≡ true
   goes_more zero n is =
       ap (λ (b : Bool). b || (list_any (has_leg_on group n) (lv_numbers group)
-          && list_all (λ upper. not (has_leg_on group n upper) || goes_with group removed zero upper) (lv_numbers group))) is
+      && list_all (λ upper. not (has_leg_on group n upper) || goes_with group removed zero upper) (lv_numbers group))) is
   goes_more (suc steps) n is = by (n == removed) is (λ x goes. goes_more steps x goes) where
     by : (b : Bool) → (b || (list_any (has_leg_on group n) (lv_numbers group)
         && list_all (λ upper. not (has_leg_on group n upper) || goes_with group removed steps upper) (lv_numbers group))) ≡ true
@@ -156,14 +158,14 @@ module _ (group : Group) (removed : ℕ) where
     by true made later = refl
     by false made later =
         let both =
-            both_true (list_any (has_leg_on group n) (lv_numbers group))
-                (list_all (λ upper. not (has_leg_on group n upper) || goes_with group removed steps upper) (lv_numbers group)) made in
+        both_true (list_any (has_leg_on group n) (lv_numbers group))
+        (list_all (λ upper. not (has_leg_on group n upper) || goes_with group removed steps upper) (lv_numbers group)) made in
         ap (λ (b : Bool). b && list_all (λ upper. not (has_leg_on group n upper) || goes_with group removed (suc steps) upper)
-            (lv_numbers group)) both.0
+        (lv_numbers group)) both.0
         ∙ all_more (λ upper. not (has_leg_on group n upper) || goes_with group removed steps upper)
         (λ upper. not (has_leg_on group n upper) || goes_with group removed (suc steps) upper)
         (λ x passes. implied (has_leg_on group n x) (goes_with group removed steps x) (goes_with group removed (suc steps) x) (later x)
-            passes) (lv_numbers group) both.1
+        passes) (lv_numbers group) both.1
 
   module _ (accepted : IsAccepted group) (row : List ℕ × Lv) (there : slice_get group.lvs removed ≡ Some row)
       (seen : row.1.status.visible ≡ true) where
@@ -179,13 +181,13 @@ module _ (group : Group) (removed : ℕ) where
           absurd (true≢false (sym seen ∙ (accepted rule.Depth).hidden n removed row.1 (subst (LiesOn group n) at lies) (row.0, there)))
       by false same made =
           let both =
-              both_true (list_any (has_leg_on group m) (lv_numbers group))
-                  (list_all (λ upper. not (has_leg_on group m upper) || goes_with group removed 3 upper) (lv_numbers group)) made in
+          both_true (list_any (has_leg_on group m) (lv_numbers group))
+          (list_all (λ upper. not (has_leg_on group m upper) || goes_with group removed 3 upper) (lv_numbers group)) made in
           let within = numbered group n m lies in
           goes_more 3 n
           (the_rest (has_leg_on group m n) (goes_with group removed 3 n) (has_leg group n m lies)
           (all_there (λ upper. not (has_leg_on group m upper) || goes_with group removed 3 upper) (lv_numbers group) n within.0 within.1
-              within.2 both.1))
+          within.2 both.1))
 
     pub closed : (n m : ℕ) → stays group removed n ≡ true → LiesOn group n m → stays group removed m ≡ true
     unfolding stays
@@ -201,9 +203,11 @@ module _ (group : Group) (removed : ℕ) where
       by false goes = refl
       by true goes =
           let way : Reaches n = reaches 4 n goes in
-          let moving : IsMoving group removed =
-          (way.0 ++ m ∷ [], longer group removed way.0 n m way.1 way.2 lies,
-              (m, contains_later removed m (way.0 ++ m ∷ []) (Contains-push way.0 m), is))
+          let moving : IsMoving group removed = (
+            way.0 ++ m ∷ [],
+            longer group removed way.0 n m way.1 way.2 lies,
+            (m, contains_later removed m (way.0 ++ m ∷ []) (Contains-push way.0 m), is),
+          )
           in
           absurd (true≢false (sym ((moving_is group removed (accepted rule.Depth)).1 moving) ∙ still))
 
@@ -218,11 +222,12 @@ module _ (group : Group) (removed : ℕ) where
           let run_on : r.0.on ≡ on.Lv m = r.5 ∙ on_is in
           let inside : LiesWithin group (on.Lv m) (r.0.first + r.0.count) =
           subst (λ (o : On). LiesWithin group o (r.0.first + r.0.count)) run_on
-              (All-contains (λ (run : LegRun). LiesWithin group run.on (run.first + run.count)) (runs_of group) r.0 (accepted rule.Within)
-              r.1)
-          in
-          (closed k m (ap (stays group removed) (let e : k ≡ 0 + k = omega arith in e) ∙ stayed) (r.0, r.1, r.2, run_on),
-              ((inside.1.0, inside.0), inside.1.1))
+          (All-contains (λ (run : LegRun). LiesWithin group run.on (run.first + run.count)) (runs_of group) r.0 (accepted rule.Within)
+          r.1)
+          in (
+            closed k m (ap (stays group removed) (let e : k ≡ 0 + k = omega arith in e) ∙ stayed) (r.0, r.1, r.2, run_on),
+            ((inside.1.0, inside.0), inside.1.1),
+          )
 
     without_whole : HasTree group → leads_to_pvmove group 4 removed ≡ false → group.seqno < 4294967295
         → IsWhole (without_volume group removed)

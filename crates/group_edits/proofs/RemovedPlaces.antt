@@ -46,9 +46,9 @@ module _ (group : Group) (stays : ℕ → Bool) (closed : (n m : ℕ) → stays 
   unfolding met
   met_there lv sector m stayed meets =
       let row : IsLv (other group stays) (new stays lv) (renumbered_lv (on_after stays) meets.volume.1) =
-          lv_there group stays lv meets.volume.1 (meets.volume.0, meets.is_volume) stayed in
+      lv_there group stays lv meets.volume.1 (meets.volume.0, meets.is_volume) stayed in
       ap (option_and_then (λ (r : List ℕ × Lv). option_map (make (with_staying stays group) (new stays lv) sector)
-          (segment_from group.extent_size sector 0 r.1.segments))) row.1
+      (segment_from group.extent_size sector 0 r.1.segments))) row.1
       ∙ met_renumbered (on_after stays) (with_staying stays group) (new stays lv) group lv sector m refl meets
 
   taken : (lv sector : ℕ) (m : Met) (spot : Spot) → stays lv ≡ true → met group lv sector ≡ Some m
@@ -62,10 +62,10 @@ module _ (group : Group) (stays : ℕ → Bool) (closed : (n m : ℕ) → stays 
         meets = met_there lv sector m stayed meets;
         is_spot =
             spot_renumbered (on_after stays) group.extent_size (new stays lv) m spot is_spot
-                ∙ ap (λ (o : On). Some (record { on = o; sector = spot.sector })) (on_new stays spot.on);
+            ∙ ap (λ (o : On). Some (record { on = o; sector = spot.sector })) (on_new stays spot.on);
         stays =
             subst (OnStays Any Stays) leg.on (leads_where lv (spot_in group.extent_size (offset_in m.segment.kind m.at) leg.it) stayed
-                (leads_on group lv sector m j leg.it accepted meets leg.is_leg));
+            (leads_on group lv sector m j leg.it accepted meets leg.is_leg));
       }
 
   -- where what the volumes that stay lie on stays

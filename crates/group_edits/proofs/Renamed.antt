@@ -1,6 +1,6 @@
 -- A group in which a visible volume has a new name keeps all rules, and a tree stands for it.
-use Rattle.std.proofs.Common.{◌≡◌, ◌<◌, ℕ, ◌+◌, Bool, true, false, cond, List, [], get_or, map, Option, Some, None, refl, sym, ap, subst,
-    ◌∙◌}
+use Rattle.std.proofs.Common.{◌≡◌, ◌<◌, ℕ, ◌+◌, Bool, true, false, cond, List, [], get_or, map, Option, Some, None, refl, sym, ap, subst}
+use Rattle.std.proofs.Common.{◌∙◌}
 use Rattle.std.specs.Prelude.{◌≢◌, is_none, is_some, option_map, slice_get, Contains}
 use Rattle.std.proofs.lemmas.Bool.{false≢true, true≢false}
 use Rattle.std.proofs.lemmas.List.Elements.{All-contains}
@@ -70,7 +70,7 @@ module _ (group : Group) (old new : List ℕ) (v : ℕ × Lv) (accepted : IsAcce
     named : get_or (lv_names group) m [] ≡ row.0
     named =
         get_or_from_slice_get (lv_names group) m row.0 []
-            (slice_get-map (λ (x : List ℕ × Lv). x.0) group.lvs m ∙ ap (option_map (λ (x : List ℕ × Lv). x.0)) there)
+        (slice_get-map (λ (x : List ℕ × Lv). x.0) group.lvs m ∙ ap (option_map (λ (x : List ℕ × Lv). x.0)) there)
 
     by : (b : Bool) → same_bytes (get_or (lv_names group) m []) old ≡ b → b ≡ false
     by true same =
@@ -87,7 +87,7 @@ module _ (group : Group) (old new : List ℕ) (v : ℕ × Lv) (accepted : IsAcce
         let run_on : r.0.on ≡ on.Lv m = r.5 ∙ on_is in
         let inside : LiesWithin group (on.Lv m) (r.0.first + r.0.count) =
         subst (λ (o : On). LiesWithin group o (r.0.first + r.0.count)) run_on
-            (All-contains (λ (run : LegRun). LiesWithin group run.on (run.first + run.count)) (runs_of group) r.0 (accepted Within) r.1)
+        (All-contains (λ (run : LegRun). LiesWithin group run.on (run.first + run.count)) (runs_of group) r.0 (accepted Within) r.1)
         in
         not_named m (inside.1.0, inside.0) inside.1.1 ((accepted Depth).hidden n m inside.0 (r.0, r.1, r.2, run_on) inside.1)
 

@@ -23,11 +23,11 @@ renamed_whole group new named below accepted tree =
     record {
       accepted =
           base_accepted (renamed_group group new) (base_renamed group new (group.seqno + 1) (omega arith) (omega (arith, most, below))
-              (accepted_base group accepted))
+          (accepted_base group accepted))
           (record { pvs = volumes.pvs; lvs = volumes.lvs; max_pv = volumes.max_pv; max_lv = volumes.max_lv });
       tree =
           has_tree (renamed_group group new) (printable_renamed group new (group.seqno + 1) (ap is_none named) (omega (arith, most))
-              (printable group tree));
+          (printable group tree));
     }
 
 -- as it is made

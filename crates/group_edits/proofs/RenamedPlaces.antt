@@ -53,7 +53,7 @@ module _ (old new : List ℕ) (group : Group) where
   unfolding met
   met_renamed lv sector m is =
       ap (option_and_then (λ (row : List ℕ × Lv). met_in lv sector row.1)) (slice_get-map named group.lvs lv)
-          ∙ met_row lv sector m (slice_get group.lvs lv) is
+      ∙ met_row lv sector m (slice_get group.lvs lv) is
 
   pub primary_renamed : (lv sector : ℕ) (at : At) → primary group lv sector ≡ Some at
       → primary (renamed_volume old new group) lv sector ≡ Some at

@@ -1,6 +1,6 @@
 -- The next version of a group, in which a visible volume has another name, can be printed.
-use Rattle.std.proofs.Common.{◌≡◌, ◌<◌, ℕ, zero, suc, ◌+◌, Bool, true, false, ◌||◌, cond, List, [], ◌∷◌, length, get_or, map, Option, Some,
-    None, refl, sym, ap, subst, ◌∙◌, arith}
+use Rattle.std.proofs.Common.{◌≡◌, ◌<◌, ℕ, zero, suc, ◌+◌, Bool, true, false, ◌||◌, cond, List, [], ◌∷◌, length, get_or, map, Option, Some}
+use Rattle.std.proofs.Common.{None, refl, sym, ap, subst, ◌∙◌, arith}
 use Rattle.std.specs.Prelude.{nat_eq, is_none, slice_get, if◌then◌else◌}
 use Rattle.std.specs.Option.{option_or}
 use Rattle.std.specs.List.{AllByRecursion as Each, position, position_from}
@@ -63,9 +63,10 @@ module _ (group other : Group) (Good : On → Type 0)
       → slice_get (legs_of segment.kind) j ≡ Some leg → Good leg.on)
       → Each (IsSegment group) segments → Each (IsSegment other) segments
   each_segment [] good are = tt
-  each_segment (segment ∷ segments) good are =
-      (segment_kept segment (λ j leg at. good zero segment j leg refl at) are.0,
-          each_segment segments (λ k s j leg is at. good (suc k) s j leg is at) are.1)
+  each_segment (segment ∷ segments) good are = (
+    segment_kept segment (λ j leg at. good zero segment j leg refl at) are.0,
+    each_segment segments (λ k s j leg is at. good (suc k) s j leg is at) are.1,
+  )
 
   lv_kept : (lv : Lv) → ((k : ℕ) (segment : Segment) (j : ℕ) (leg : Leg) → slice_get lv.segments k ≡ Some segment
       → slice_get (legs_of segment.kind) j ≡ Some leg → Good leg.on) → IsLv group lv → IsLv other lv
@@ -82,9 +83,10 @@ module _ (group other : Group) (Good : On → Type 0)
       → slice_get lv.1.segments k ≡ Some segment → slice_get (legs_of segment.kind) j ≡ Some leg → Good leg.on)
       → Each (λ (lv : List ℕ × Lv). IsLv group lv.1) lvs → Each (λ (lv : List ℕ × Lv). IsLv other lv.1) lvs
   each_lv [] good are = tt
-  each_lv (lv ∷ lvs) good are =
-      (lv_kept lv.1 (λ k s j leg is at. good zero lv k s j leg refl is at) are.0,
-          each_lv lvs (λ n l k s j leg there is at. good (suc n) l k s j leg there is at) are.1)
+  each_lv (lv ∷ lvs) good are = (
+    lv_kept lv.1 (λ k s j leg is at. good zero lv k s j leg refl is at) are.0,
+    each_lv lvs (λ n l k s j leg there is at. good (suc n) l k s j leg there is at) are.1,
+  )
 
 both_false : (a b : Bool) → (a || b) ≡ false → (a ≡ false) × (b ≡ false)
 both_false true b none = absurd (true≢false none)
@@ -123,7 +125,7 @@ module _ (old new : List ℕ) where
       let frees = both_false (pointwise nat_eq new t) (is_among taken new) free_taken in
       let others = both_false (pointwise nat_eq name t) (is_among taken name) other in
       or_from (pointwise nat_eq (name_for name) (name_for t)) (is_among (map name_for taken) (name_for name))
-          (apart name t frees.0 free others.0) (all_apart taken name frees.1 free others.1)
+      (apart name t frees.0 free others.0) (all_apart taken name frees.1 free others.1)
 
   valid_for : (name : List ℕ) → is_none (any_name_refusal new) ≡ true → is_none (any_name_refusal name) ≡ true
       → is_none (any_name_refusal (name_for name)) ≡ true
@@ -172,7 +174,7 @@ module _ (old new : List ℕ) where
         → position (pointwise nat_eq name) (map name_for names) ≡ position (pointwise nat_eq name) names
     position_stays names =
         position_from-zero (pointwise nat_eq name) (map name_for names) ∙ place_stays 0 names
-            ∙ sym (position_from-zero (pointwise nat_eq name) names)
+        ∙ sym (position_from-zero (pointwise nat_eq name) names)
 
   -- ---- the group
 
@@ -188,7 +190,7 @@ module _ (old new : List ℕ) where
     names_by [] = refl
     names_by (row ∷ rows) =
         ap (λ (name : List ℕ). name ∷ map (λ (r : List ℕ × Lv). r.0) (map (changed_if old (λ (r : List ℕ × Lv). (new, r.1))) rows))
-            (name_by row) ∙ ap (λ (names : List (List ℕ)). name_for row.0 ∷ names) (names_by rows)
+        (name_by row) ∙ ap (λ (names : List (List ℕ)). name_for row.0 ∷ names) (names_by rows)
 
     lv_names-renamed : lv_names (renamed_volume old new group) ≡ map name_for (lv_names group)
     lv_names-renamed = names_by group.lvs
@@ -198,18 +200,20 @@ module _ (old new : List ℕ) where
     again (on.Pv n) other found =
         let name : List ℕ = get_or (pv_names group) n [] in
         let place : position (pointwise nat_eq name) (pv_names group) ≡ Some n =
-            first_of (position (pointwise nat_eq name) (pv_names group)) (position (pointwise nat_eq name) (lv_names group)) n found in
-        (ap (λ (o : Option ℕ). option_or (on_pv o) (on_lv (position (pointwise nat_eq name) (lv_names (renamed_volume old new group)))))
-            place, refl)
+        first_of (position (pointwise nat_eq name) (pv_names group)) (position (pointwise nat_eq name) (lv_names group)) n found in (
+          ap (λ (o : Option ℕ). option_or (on_pv o) (on_lv (position (pointwise nat_eq name) (lv_names (renamed_volume old new group)))))
+              place,
+          refl,
+        )
     again (on.Lv n) other found =
         let name : List ℕ = get_or (lv_names group) n [] in
         let places : (position (pointwise nat_eq name) (pv_names group) ≡ None)
-            × (position (pointwise nat_eq name) (lv_names group) ≡ Some n) =
+        × (position (pointwise nat_eq name) (lv_names group) ≡ Some n) =
         second_of (position (pointwise nat_eq name) (pv_names group)) (position (pointwise nat_eq name) (lv_names group)) n found
         in
         let within : n < length (lv_names group) = (position-Some (pointwise nat_eq name) (lv_names group) n [] places.1).0 in
         let not_new : pointwise nat_eq name new ≡ false =
-            differ_back new name (none_at (pointwise nat_eq new) (lv_names group) n [] free within) in
+        differ_back new name (none_at (pointwise nat_eq new) (lv_names group) n [] free within) in
         let same : get_or (lv_names (renamed_volume old new group)) n [] ≡ name =
         ap (λ (l : List (List ℕ)). get_or l n []) lv_names-renamed ∙ get_or-map (lv_names group) n within ∙ name_stays name other not_new
         in

@@ -15,9 +15,9 @@ module _ (old new : List ℕ) where
       → (name, copy) ≡ named (own, lv)
   row_is own name lv copy is same =
       ap (λ (n : List ℕ). (n, copy)) is ∙ ap (λ (v : Lv). (cond (same_bytes own old) new own, v)) same ∙ by (same_bytes own old) where
-    by : (b : Bool) → ◌≡◌ {A = List ℕ × Lv} (cond b new own, lv) (cond b (new, lv) (own, lv))
-    by true = refl
-    by false = refl
+        by : (b : Bool) → ◌≡◌ {A = List ℕ × Lv} (cond b new own, lv) (cond b (new, lv) (own, lv))
+        by true = refl
+        by false = refl
 
   -- one row more
   pub next_renamed : (lvs all later : List (List ℕ × Lv)) (n : ℕ) (own name : List ℕ) (lv copy : Lv) → all ≡ map named (take n lvs)

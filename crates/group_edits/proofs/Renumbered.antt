@@ -1,6 +1,6 @@
 -- What volumes keep whose legs lie on volumes by their new numbers, and what these legs cover.
-use Rattle.std.proofs.Common.{◌≡◌, ◌≤◌, ◌<◌, ℕ, ◌+◌, ◌*◌, ◌/◌, ◌^◌, Bool, List, [], ◌∷◌, ◌++◌, length, map, Some, None, refl, sym, ap,
-    subst, ◌∙◌}
+use Rattle.std.proofs.Common.{◌≡◌, ◌≤◌, ◌<◌, ℕ, ◌+◌, ◌*◌, ◌/◌, ◌^◌, Bool, List, [], ◌∷◌, ◌++◌, length, map, Some, None, refl, sym, ap}
+use Rattle.std.proofs.Common.{subst, ◌∙◌}
 use Rattle.std.specs.Prelude.{◌%◌, All}
 use Rattle.std.proofs.lemmas.List.{length-map, map-append}
 use Rattle.std.proofs.lemmas.List.Elements.{All-map, All-weaker}
@@ -14,8 +14,8 @@ use Rattle.meta_model.specs.declared.segment.SegKind.TheVariants.{Striped, Mirro
 use Rattle.meta_model.specs.declared.segment.Segment.{Segment}
 use Rattle.volume_rules.specs.Extents.{extents_of, leg_share}
 use Rattle.volume_rules.specs.Legs.{LegRun, runs_of_legs, runs_of_segments}
-use Rattle.volume_rules.specs.Rules.{Follow, IsPowerOfTwo, IsSmall, IsWholeMirror, IsWholeStriped, KindIsSmall, LvIsSmall, MovedIsAllowed,
-    SegmentIsSmall}
+use Rattle.volume_rules.specs.Rules.{Follow, IsPowerOfTwo, IsSmall, IsWholeMirror, IsWholeStriped, KindIsSmall, LvIsSmall, MovedIsAllowed}
+use Rattle.volume_rules.specs.Rules.{SegmentIsSmall}
 use Rattle.group_edits.specs.Renumbered.{renumbered_kind, renumbered_leg, renumbered_legs, renumbered_lv, renumbered_segment}
 
 -- a number that stays the same
@@ -73,7 +73,7 @@ module _ (number : On → On) where
       → All P lv.segments → All Q (renumbered_lv number lv).segments
   each_segment P Q step lv all =
       All-map Q (renumbered_segment number) lv.segments
-          (All-weaker P (λ (segment : Segment). Q (renumbered_segment number segment)) step lv.segments all)
+      (All-weaker P (λ (segment : Segment). Q (renumbered_segment number segment)) step lv.segments all)
 
   pub small_lv : (lv : Lv) → LvIsSmall lv → LvIsSmall (renumbered_lv number lv)
   small_lv lv is =
@@ -90,13 +90,13 @@ module _ (number : On → On) where
       → IsWholeStriped extent_size count (renumbered_kind number kind)
   striped extent_size count (Striped stripe legs) is =
       subst (λ (n : ℕ). (1 ≤ n) × (n ≤ 8) × (count % n ≡ 0) × (1 < n → IsPowerOfTwo stripe × (8 ≤ stripe) × (extent_size % stripe ≡ 0)))
-          (sym (legs_count legs)) is
+      (sym (legs_count legs)) is
   striped extent_size count (Mirror region moved legs) is = tt
 
   pub are_striped : (extent_size : ℕ) (lv : Lv) → AreStriped extent_size lv → AreStriped extent_size (renumbered_lv number lv)
   are_striped extent_size lv all =
       each_segment (λ (segment : Segment). IsWholeStriped extent_size segment.count segment.kind)
-          (λ (segment : Segment). IsWholeStriped extent_size segment.count segment.kind)
+      (λ (segment : Segment). IsWholeStriped extent_size segment.count segment.kind)
       (λ segment is. striped extent_size segment.count segment.kind is) lv all
 
   mirror : (kind : SegKind) → IsWholeMirror kind → IsWholeMirror (renumbered_kind number kind)
@@ -107,7 +107,7 @@ module _ (number : On → On) where
   pub are_mirrors : (lv : Lv) → AreMirrors lv → AreMirrors (renumbered_lv number lv)
   are_mirrors lv all =
       each_segment (λ (segment : Segment). IsWholeMirror segment.kind) (λ (segment : Segment). IsWholeMirror segment.kind)
-          (λ segment is. mirror segment.kind is) lv all
+      (λ segment is. mirror segment.kind is) lv all
 
   moved_kind : (pvmove : Bool) (count : ℕ) (kind : SegKind) → MovedIsAllowed pvmove count kind
       → MovedIsAllowed pvmove count (renumbered_kind number kind)
@@ -118,7 +118,7 @@ module _ (number : On → On) where
   pub are_moved : (lv : Lv) → AreMoved lv → AreMoved (renumbered_lv number lv)
   are_moved lv all =
       each_segment (λ (segment : Segment). MovedIsAllowed lv.status.pvmove segment.count segment.kind)
-          (λ (segment : Segment). MovedIsAllowed lv.status.pvmove segment.count segment.kind)
+      (λ (segment : Segment). MovedIsAllowed lv.status.pvmove segment.count segment.kind)
       (λ segment is. moved_kind lv.status.pvmove segment.count segment.kind is) lv all
 
   -- ---- what legs cover
@@ -133,14 +133,14 @@ module _ (number : On → On) where
     legs_by n s count j [] = refl
     legs_by n s count j (leg ∷ legs) =
         ap (λ (runs : List LegRun). record { lv = new n; segment = s; leg = j; on = number leg.on; first = leg.first; count = count }
-            ∷ runs) (legs_by n s count (j + 1) legs)
+        ∷ runs) (legs_by n s count (j + 1) legs)
 
     pub segments_by : (n k : ℕ) (segments : List Segment)
         → map run_by (runs_of_segments n k segments) ≡ runs_of_segments (new n) k (map (renumbered_segment number) segments)
     segments_by n k [] = refl
     segments_by n k (segment ∷ segments) =
         map-append run_by (runs_of_legs n k (leg_share segment.count segment.kind) 0 (legs_of segment.kind))
-            (runs_of_segments n (k + 1) segments)
+        (runs_of_segments n (k + 1) segments)
         ∙ ap (λ (runs : List LegRun). runs ++ map run_by (runs_of_segments n (k + 1) segments))
         (legs_by n k (leg_share segment.count segment.kind) 0 (legs_of segment.kind))
         ∙ ap (λ (legs : List Leg). runs_of_legs (new n) k (leg_share segment.count segment.kind) 0 legs

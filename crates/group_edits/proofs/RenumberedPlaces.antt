@@ -1,6 +1,6 @@
 -- What is met in volumes whose legs lie on volumes by their new numbers.
-use Rattle.std.proofs.Common.{◌≡◌, ℕ, zero, suc, ◌+◌, ◌-◌, ◌*◌, Bool, true, false, cond, List, [], ◌∷◌, length, map, Option, Some, refl, ap,
-    ◌∙◌, arith}
+use Rattle.std.proofs.Common.{◌≡◌, ℕ, zero, suc, ◌+◌, ◌-◌, ◌*◌, Bool, true, false, cond, List, [], ◌∷◌, length, map, Option, Some, refl, ap}
+use Rattle.std.proofs.Common.{◌∙◌, arith}
 use Rattle.std.specs.Prelude.{option_map, slice_get}
 use Rattle.meta_model.specs.Runs.{legs_of}
 use Rattle.meta_model.specs.declared.group.Group.{Group}
@@ -9,8 +9,8 @@ use Rattle.meta_model.specs.declared.segment.On.{On}
 use Rattle.meta_model.specs.declared.segment.SegKind.{SegKind}
 use Rattle.meta_model.specs.declared.segment.SegKind.TheVariants.{Mirror, Striped}
 use Rattle.meta_model.specs.declared.segment.Segment.{Segment}
-use Rattle.volume_view.specs.InSegments.{Met, Spot, has_sector, leg_spot, offset_in, primary_leg, primary_spot, segment_from, spot_in,
-    stripe_leg, stripe_offset}
+use Rattle.volume_view.specs.InSegments.{Met, Spot, has_sector, leg_spot, offset_in, primary_leg, primary_spot, segment_from, spot_in}
+use Rattle.volume_view.specs.InSegments.{stripe_leg, stripe_offset}
 use Rattle.volume_view.proofs.MetSegments.{Meets, make}
 use Rattle.group_edits.proofs.KeptPlaces.{spot_by}
 use Rattle.group_edits.proofs.Renumbered.{legs_count}
@@ -31,7 +31,7 @@ module _ (number : On → On) where
       ≡ option_map (spot_by number) (option_map (spot_in extent (offset_in kind at)) (slice_get (legs_of kind) (primary_leg count kind at)))
   spot_new extent count at (Striped stripe legs) =
       ap (λ (n : ℕ). option_map (spot_in extent (stripe_offset stripe n at))
-          (slice_get (renumbered_legs number legs) (stripe_leg stripe n at))) (legs_count number legs)
+      (slice_get (renumbered_legs number legs) (stripe_leg stripe n at))) (legs_count number legs)
       ∙ spots extent (stripe_offset stripe (length legs) at) legs (stripe_leg stripe (length legs) at)
   spot_new extent count at (Mirror region moved legs) = spots extent at legs (primary_leg count (Mirror region moved legs) at)
 
@@ -45,16 +45,16 @@ module _ (number : On → On) where
   segment_new extent sector n [] = refl
   segment_new extent sector n (segment ∷ segments) =
       by (has_sector extent sector segment) (segment_new extent sector (n + 1) segments) where
-    rest : Option (ℕ × Segment)
-    rest = segment_from extent sector (n + 1) segments
+        rest : Option (ℕ × Segment)
+        rest = segment_from extent sector (n + 1) segments
 
-    after : Option (ℕ × Segment)
-    after = segment_from extent sector (n + 1) (map (renumbered_segment number) segments)
+        after : Option (ℕ × Segment)
+        after = segment_from extent sector (n + 1) (map (renumbered_segment number) segments)
 
-    by : (b : Bool) → after ≡ option_map found_new rest
-        → cond b (Some (n, renumbered_segment number segment)) after ≡ option_map found_new (cond b (Some (n, segment)) rest)
-    by true later = refl
-    by false later = later
+        by : (b : Bool) → after ≡ option_map found_new rest
+            → cond b (Some (n, renumbered_segment number segment)) after ≡ option_map found_new (cond b (Some (n, segment)) rest)
+        by true later = refl
+        by false later = later
 
   -- what is met in the volume with this number, by the new numbers
   abbrev pub met_by : ℕ → Met → Met

@@ -15,8 +15,8 @@ use Rattle.meta_model.specs.declared.segment.Segment.{Segment}
 use Rattle.meta_print.specs.Layout.{name_of}
 use Rattle.meta_print.proofs.Printable.{IsKind, IsLeg, IsLegs, IsLv, IsSegment, names_of}
 use Rattle.group_edits.proofs.Renumbered.{legs_count, segments_count}
-use Rattle.group_edits.specs.Renumbered.{renumbered_kind, renumbered_leg, renumbered_legs, renumbered_lv, renumbered_row,
-    renumbered_segment}
+use Rattle.group_edits.specs.Renumbered.{renumbered_kind, renumbered_leg, renumbered_legs, renumbered_lv, renumbered_row}
+use Rattle.group_edits.specs.Renumbered.{renumbered_segment}
 
 -- in the other group it is found by its name, by the new number, and the name is the same
 abbrev pub IsFoundAs : Group → Group → (On → On) → On → Type 0
@@ -35,8 +35,11 @@ module _ (group other : Group) (number : On → On) (Good : On → Type 0)
 
   leg_kept : (leg : Leg) → Good leg.on → IsLeg group leg → IsLeg other (renumbered_leg number leg)
   leg_kept leg good is =
-      let found = again leg.on good is.found in record { found = found.0; content = subst IsContent (sym found.1) is.content;
-          first_fits = is.first_fits }
+      let found = again leg.on good is.found in record {
+        found = found.0;
+        content = subst IsContent (sym found.1) is.content;
+        first_fits = is.first_fits;
+      }
 
   each_leg : (legs : List Leg) → AreGood legs → Each (IsLeg group) legs → Each (IsLeg other) (renumbered_legs number legs)
   each_leg [] good are = tt
@@ -56,8 +59,11 @@ module _ (group other : Group) (number : On → On) (Good : On → Type 0)
       → Each (IsSegment other) (map (renumbered_segment number) segments)
   each_segment [] good are = tt
   each_segment (segment ∷ segments) good are = (
-    record { start_fits = are.0.start_fits; count_fits = are.0.count_fits;
-        kind_is = kind_kept segment.kind (good zero segment refl) are.0.kind_is },
+    record {
+      start_fits = are.0.start_fits;
+      count_fits = are.0.count_fits;
+      kind_is = kind_kept segment.kind (good zero segment refl) are.0.kind_is;
+    },
     each_segment segments (λ s seg is. good (suc s) seg is) are.1,
   )
 

@@ -1,6 +1,6 @@
 -- The restored group keeps all rules, and a tree stands for it, as for the text's.
-use Rattle.std.proofs.Common.{◌≡◌, ◌≢◌, ◌≤◌, ◌<◌, ℕ, ◌+◌, ◌^◌, List, [], ◌∷◌, ◌++◌, length, get_or, map, Some, refl, sym, ap, subst, ◌∙◌,
-    arith}
+use Rattle.std.proofs.Common.{◌≡◌, ◌≢◌, ◌≤◌, ◌<◌, ℕ, ◌+◌, ◌^◌, List, [], ◌∷◌, ◌++◌, length, get_or, map, Some, refl, sym, ap, subst, ◌∙◌}
+use Rattle.std.proofs.Common.{arith}
 use Rattle.std.specs.Prelude.{AllPairs, max, option_map}
 use Rattle.std.specs.List.{AllByRecursion as Each}
 use Rattle.std.proofs.lemmas.List.{length-map}
@@ -31,7 +31,7 @@ module _ (group : Group) (seqno : ℕ) where
   ids_same : ids_of other ≡ ids_of group
   ids_same =
       ap (λ (ids : List (List ℕ)). group.id ∷ (ids ++ map (λ (lv : List ℕ × Lv). lv.1.id) group.lvs))
-          (map-map (λ (pv : List ℕ × Pv). pv.1.id) found_pv group.pvs)
+      (map-map (λ (pv : List ℕ × Pv). pv.1.id) found_pv group.pvs)
 
   numbers_kept : 1 ≤ seqno → seqno ≤ 4294967295 → Keeps group Numbers → Keeps other Numbers
   numbers_kept some most numbers = record {
@@ -50,10 +50,10 @@ module _ (group : Group) (seqno : ℕ) where
       (record {
         kept = λ rule apart.
             legs_kept group group.name seqno (map found_pv group.pvs)
-                (λ k pv is. (found_pv pv, slice_get-map found_pv group.pvs k ∙ ap (option_map found_pv) is, refl))
+            (λ k pv is. (found_pv pv, slice_get-map found_pv group.pvs k ∙ ap (option_map found_pv) is, refl))
             (numbers_kept some most (accepted Numbers)) (subst (AllPairs (λ (a b : List ℕ). a ≢ b)) (sym ids_same) (accepted Ids))
             (All-map (λ (pv : List ℕ × Pv). FitsDevice group.extent_size pv.1) found_pv group.pvs (accepted Extents)) rule apart
-                (accepted rule);
+            (accepted rule);
         lvs = volumes.lvs;
         max_lv = volumes.max_lv;
       })
@@ -70,18 +70,26 @@ module _ (group : Group) (seqno : ℕ) where
   names_same = map-map (λ (pv : List ℕ × Pv). pv.0) found_pv group.pvs
 
   found_again : (is : On) → on_named (names_of group) (name_of group is) ≡ Some is → IsFoundAgain group other is
-  found_again (on.Pv n) found =
-      ((λ i. on_named (record { pvs = names_same i; lvs = lv_names group }) (get_or (names_same i) n [])) ∙ found,
-          ap (λ (l : List (List ℕ)). get_or l n []) names_same)
+  found_again (on.Pv n) found = (
+    (λ i. on_named (record { pvs = names_same i; lvs = lv_names group }) (get_or (names_same i) n [])) ∙ found,
+    ap (λ (l : List (List ℕ)). get_or l n []) names_same,
+  )
   found_again (on.Lv n) found =
       ((λ i. on_named (record { pvs = names_same i; lvs = lv_names group }) (get_or (lv_names group) n [])) ∙ found, refl)
 
   each_pv : (pvs : List (List ℕ × Pv)) → Each (λ (pv : List ℕ × Pv). IsPv pv.1) pvs
       → Each (λ (pv : List ℕ × Pv). IsPv pv.1) (map found_pv pvs)
   each_pv [] are = tt
-  each_pv (pv ∷ pvs) are =
-      (record { id_again = are.0.id_again; device_content = are.0.device_content; size_fits = are.0.size_fits;
-          start_fits = are.0.start_fits; count_fits = are.0.count_fits }, each_pv pvs are.1)
+  each_pv (pv ∷ pvs) are = (
+    record {
+      id_again = are.0.id_again;
+      device_content = are.0.device_content;
+      size_fits = are.0.size_fits;
+      start_fits = are.0.start_fits;
+      count_fits = are.0.count_fits;
+    },
+    each_pv pvs are.1,
+  )
 
   restored_printable : seqno < 2 ^ 64 → IsPrintable group → IsPrintable other
   restored_printable small can = record {
@@ -103,12 +111,12 @@ pub restored_whole : (found said : Group) → found.seqno ≢ 4294967295 → sai
     → HasTree said → IsWhole (restored_group found said)
 restored_whole found said other other' old new tree =
     let most : max found.seqno said.seqno + 1 ≤ 4294967295 =
-        (let below = seqno_below found old other in let below' = seqno_below said new other' in omega (arith, below, below')) in
+    (let below = seqno_below found old other in let below' = seqno_below said new other' in omega (arith, below, below')) in
     record {
       accepted = restored_accepted said (max found.seqno said.seqno + 1) (omega arith) most new;
       tree =
           has_tree (restored_group found said) (restored_printable said (max found.seqno said.seqno + 1) (omega (arith, most))
-              (printable said tree));
+          (printable said tree));
     }
 
 -- as it is made
@@ -121,7 +129,7 @@ pub made_whole : (group text found said next : Group) → found ≡ group → sa
 made_whole group text found said next same same' is other other' old new tree =
     subst IsWhole (sym is)
     (restored_whole found said (subst (λ (g : Group). g.seqno ≢ 4294967295) (sym same) other)
-        (subst (λ (g : Group). g.seqno ≢ 4294967295) (sym same') other') old new tree)
+    (subst (λ (g : Group). g.seqno ≢ 4294967295) (sym same') other') old new tree)
 
 pub greater_most : (a b most greater : ℕ) → greater ≡ max a b → a < most → b < most → greater ≤ most
 greater_most a b most greater is first second = omega (arith, is, first, second)

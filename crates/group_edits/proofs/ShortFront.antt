@@ -26,20 +26,20 @@ module _ (P : Segment → Type 0) (step : (segment : Segment) (count : ℕ) → 
   each_front (segment ∷ segments) zero all = tt
   each_front (segment ∷ segments) (suc count) all =
       by (nat_le (suc count) segment.count) refl (each_front segments (suc count - segment.count) all.1) where
-    by : (b : Bool) → nat_le (suc count) segment.count ≡ b → Each P (front_of segments (suc count - segment.count))
-        → Each P (cond b (cut segment (suc count) ∷ []) (segment ∷ front_of segments (suc count - segment.count)))
-    by true is later = (step segment (suc count) all.0 (le_by (suc count) segment.count is), tt)
-    by false is later = (all.0, later)
+        by : (b : Bool) → nat_le (suc count) segment.count ≡ b → Each P (front_of segments (suc count - segment.count))
+            → Each P (cond b (cut segment (suc count) ∷ []) (segment ∷ front_of segments (suc count - segment.count)))
+        by true is later = (step segment (suc count) all.0 (le_by (suc count) segment.count is), tt)
+        by false is later = (all.0, later)
 
 pub follow_front : (at : ℕ) (segments : List Segment) (left : ℕ) → Follow at segments → Follow at (front_of segments left)
 follow_front at [] left follow = tt
 follow_front at (segment ∷ segments) zero follow = tt
 follow_front at (segment ∷ segments) (suc count) follow =
     by (nat_le (suc count) segment.count) (follow_front (at + segment.count) segments (suc count - segment.count) follow.2) where
-  by : (b : Bool) → Follow (at + segment.count) (front_of segments (suc count - segment.count))
-      → Follow at (cond b (cut segment (suc count) ∷ []) (segment ∷ front_of segments (suc count - segment.count)))
-  by true later = (follow.0, omega arith, tt)
-  by false later = (follow.0, follow.1, later)
+      by : (b : Bool) → Follow (at + segment.count) (front_of segments (suc count - segment.count))
+          → Follow at (cond b (cut segment (suc count) ∷ []) (segment ∷ front_of segments (suc count - segment.count)))
+      by true later = (follow.0, omega arith, tt)
+      by false later = (follow.0, follow.1, later)
 
 pub fewer_extents : (segments : List Segment) (left : ℕ)
     → sum_by (λ (s : Segment). s.count) (front_of segments left) ≤ sum_by (λ (s : Segment). s.count) segments
@@ -47,30 +47,31 @@ fewer_extents [] left = omega arith
 fewer_extents (segment ∷ segments) zero = omega arith
 fewer_extents (segment ∷ segments) (suc count) =
     by (nat_le (suc count) segment.count) refl (fewer_extents segments (suc count - segment.count)) where
-  by : (b : Bool) → nat_le (suc count) segment.count ≡ b
-      → sum_by (λ (s : Segment). s.count) (front_of segments (suc count - segment.count)) ≤ sum_by (λ (s : Segment). s.count) segments
-      → sum_by (λ (s : Segment). s.count) (cond b (cut segment (suc count) ∷ []) (segment ∷ front_of segments (suc count - segment.count)))
-      ≤ sum_by (λ (s : Segment). s.count) (segment ∷ segments)
-  by true is later =
-      let less : suc count ≤ segment.count = le_by (suc count) segment.count is in
-      let one = sum_by-cons (λ (s : Segment). s.count) (cut segment (suc count)) [] in
-      let all = sum_by-cons (λ (s : Segment). s.count) segment segments in
-      omega (arith, less, one, all)
-  by false is later =
-      let one = sum_by-cons (λ (s : Segment). s.count) segment (front_of segments (suc count - segment.count)) in
-      let all = sum_by-cons (λ (s : Segment). s.count) segment segments in
-      omega (arith, later, one, all)
+      by : (b : Bool) → nat_le (suc count) segment.count ≡ b
+          → sum_by (λ (s : Segment). s.count) (front_of segments (suc count - segment.count)) ≤ sum_by (λ (s : Segment). s.count) segments
+          → sum_by (λ (s : Segment). s.count) (cond b (cut segment (suc count) ∷ [])
+          (segment ∷ front_of segments (suc count - segment.count)))
+          ≤ sum_by (λ (s : Segment). s.count) (segment ∷ segments)
+      by true is later =
+          let less : suc count ≤ segment.count = le_by (suc count) segment.count is in
+          let one = sum_by-cons (λ (s : Segment). s.count) (cut segment (suc count)) [] in
+          let all = sum_by-cons (λ (s : Segment). s.count) segment segments in
+          omega (arith, less, one, all)
+      by false is later =
+          let one = sum_by-cons (λ (s : Segment). s.count) segment (front_of segments (suc count - segment.count)) in
+          let all = sum_by-cons (λ (s : Segment). s.count) segment segments in
+          omega (arith, later, one, all)
 
 pub fewer_segments : (segments : List Segment) (left : ℕ) → length (front_of segments left) ≤ length segments
 fewer_segments [] left = omega arith
 fewer_segments (segment ∷ segments) zero = omega arith
 fewer_segments (segment ∷ segments) (suc count) =
     by (nat_le (suc count) segment.count) (fewer_segments segments (suc count - segment.count)) where
-  by : (b : Bool) → length (front_of segments (suc count - segment.count)) ≤ length segments
-      → length (cond b (cut segment (suc count) ∷ []) (segment ∷ front_of segments (suc count - segment.count)))
-      ≤ length (segment ∷ segments)
-  by true later = omega arith
-  by false later = omega (arith, later)
+      by : (b : Bool) → length (front_of segments (suc count - segment.count)) ≤ length segments
+          → length (cond b (cut segment (suc count) ∷ []) (segment ∷ front_of segments (suc count - segment.count)))
+          ≤ length (segment ∷ segments)
+      by true later = omega arith
+      by false later = omega (arith, later)
 
 pub some_segment : (segments : List Segment) (left : ℕ) → 1 ≤ left → 1 ≤ length segments → 1 ≤ length (front_of segments left)
 some_segment [] left some there = absurd (omega (arith, there))

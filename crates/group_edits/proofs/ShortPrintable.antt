@@ -24,9 +24,11 @@ module _ (group : Group) (name : List ℕ) (left : ℕ) where
   lv_names-same = names_same name left group.lvs
 
   again : (is : On) → on_named (names_of group) (name_of group is) ≡ Some is → IsFoundAgain group other is
-  again (on.Pv n) found =
-      (ap (λ (lvs : List (List ℕ)). on_named (record { pvs = pv_names group; lvs = lvs }) (get_or (pv_names group) n [])) lv_names-same
-          ∙ found, refl)
+  again (on.Pv n) found = (
+    ap (λ (lvs : List (List ℕ)). on_named (record { pvs = pv_names group; lvs = lvs }) (get_or (pv_names group) n [])) lv_names-same
+        ∙ found,
+    refl,
+  )
   again (on.Lv n) found =
       let same : get_or (lv_names other) n [] ≡ get_or (lv_names group) n [] = ap (λ (l : List (List ℕ)). get_or l n []) lv_names-same in (
         ap (on_named (names_of other)) same

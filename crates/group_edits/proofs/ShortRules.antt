@@ -1,6 +1,6 @@
 -- A group in which a visible volume has its first extents alone keeps all rules.
-use Rattle.std.proofs.Common.{◌≡◌, ◌≢◌, ◌≤◌, ◌<◌, ℕ, suc, ◌+◌, ◌*◌, ◌^◌, Bool, true, false, cond, List, [], ◌∷◌, ◌++◌, length, get_or, map,
-    Option, Some, None, refl, sym, ap, subst, ◌∙◌, arith}
+use Rattle.std.proofs.Common.{◌≡◌, ◌≢◌, ◌≤◌, ◌<◌, ℕ, suc, ◌+◌, ◌*◌, ◌^◌, Bool, true, false, cond, List, [], ◌∷◌, ◌++◌, length, get_or, map}
+use Rattle.std.proofs.Common.{Option, Some, None, refl, sym, ap, subst, ◌∙◌, arith}
 use Rattle.std.specs.Prelude.{is_some, nat_eq, option_map, slice_get, sum_by, All, AllPairs, Contains}
 use Rattle.std.specs.List.{AllByRecursion as Each, list_any}
 use Rattle.std.proofs.lemmas.Bool.{true≢false}
@@ -24,17 +24,17 @@ use Rattle.volume_rules.specs.Depths.{load}
 use Rattle.volume_rules.specs.Extents.{extents_of}
 use Rattle.volume_rules.specs.Legs.{IsUsed, IsWayDown, LegRun, LiesOn, runs_of, runs_of_segments, runs_of_volumes}
 use Rattle.volume_rules.specs.Moving.{lv_number}
-use Rattle.volume_rules.specs.Rules.{Follow, IsAccepted, IsMove, IsMoving, IsPvmove, IsWholeMirror, IsWholeStriped, Keeps, LiesWithin,
-    LvIsSmall, MovedIsAllowed, SegmentIsSmall, counts, ids_of, pvmove_number}
-use Rattle.volume_rules.specs.declared.rule.Rule.TheVariants.{Numbers, Ids, Volumes, Segments, Extents, Follows, Stripes, Mirrors, Within,
-    Apart, Depth, Moved, Pvmove, Locked}
+use Rattle.volume_rules.specs.Rules.{Follow, IsAccepted, IsMove, IsMoving, IsPvmove, IsWholeMirror, IsWholeStriped, Keeps, LiesWithin}
+use Rattle.volume_rules.specs.Rules.{LvIsSmall, MovedIsAllowed, SegmentIsSmall, counts, ids_of, pvmove_number}
+use Rattle.volume_rules.specs.declared.rule.Rule.TheVariants.{Numbers, Ids, Volumes, Segments, Extents, Follows, Stripes, Mirrors, Within}
+use Rattle.volume_rules.specs.declared.rule.Rule.TheVariants.{Apart, Depth, Moved, Pvmove, Locked}
 use Rattle.group_edits.proofs.Inserted.{none_passes}
 use Rattle.group_edits.proofs.KeptExtents.{IsShared}
 use Rattle.group_edits.proofs.OneNamed.{IsVisibleAt, is_this, visible_at}
 use Rattle.group_edits.proofs.OtherNames.{contains_at}
 use Rattle.group_edits.proofs.ShortFront.{cut, each_front, fewer_extents, fewer_segments, follow_front, some_segment, stripes_front}
-use Rattle.group_edits.proofs.ShortRuns.{AreNoLonger, IsNoLonger, both, each_same, each_shorter, longer_one, segments_shorter,
-    shorter_apart}
+use Rattle.group_edits.proofs.ShortRuns.{AreNoLonger, IsNoLonger, both, each_same, each_shorter, longer_one, segments_shorter}
+use Rattle.group_edits.proofs.ShortRuns.{shorter_apart}
 use Rattle.group_edits.specs.NextVersion.{changed_if}
 use Rattle.group_edits.specs.ShortenedVolume.{HasFewLegs, MayKeep, front_of, has_layer, is_layered, is_on_lv, shortened, shortened_volume}
 use Rattle.group_edits.specs.Visible.{visible_named}
@@ -52,7 +52,7 @@ no_layer : (lv : Lv) (k : ℕ) (segment : Segment) (j : ℕ) (leg : Leg) (m : �
     → slice_get lv.segments k ≡ Some segment → slice_get (legs_of segment.kind) j ≡ Some leg → leg.on ≡ on.Lv m → ⊥
 no_layer lv k segment j leg m apart is at same =
     true≢false (sym (ap (λ (o : On). is_some (lv_number o)) same)
-        ∙ none_there is_on_lv (legs_of segment.kind) j leg (none_there has_layer lv.segments k segment apart is) at)
+    ∙ none_there is_on_lv (legs_of segment.kind) j leg (none_there has_layer lv.segments k segment apart is) at)
 
 -- a segment with whole stripes or mirrors has one to eight legs
 pub few_legs : (size count : ℕ) (kind : SegKind) → IsWholeStriped size count kind → IsWholeMirror kind → HasFewLegs kind
@@ -108,7 +108,7 @@ module _ (name : List ℕ) (left : ℕ) where
   names_same [] = refl
   names_same (row ∷ rows) =
       ap (λ (x : List ℕ). x ∷ map (λ (r : Row). r.0) (map short rows)) (name_same row)
-          ∙ ap (λ (xs : List (List ℕ)). row.0 ∷ xs) (names_same rows)
+      ∙ ap (λ (xs : List (List ℕ)). row.0 ∷ xs) (names_same rows)
 
   segments_less : (row : Row) → length (short row).1.segments ≤ length row.1.segments
   segments_less row = by (same_bytes row.0 name) where
@@ -135,7 +135,7 @@ module _ (name : List ℕ) (left : ℕ) where
   volumes_shorter number [] few = tt
   volumes_shorter number (row ∷ rows) few =
       both (runs_of_segments number 0 (short row).1.segments) (runs_of_segments number 0 row.1.segments)
-          (runs_of_volumes (number + 1) (map short rows)) (runs_of_volumes (number + 1) rows)
+      (runs_of_volumes (number + 1) (map short rows)) (runs_of_volumes (number + 1) rows)
       (by (same_bytes row.0 name)) (volumes_shorter (number + 1) rows few.1)
     where
       by : (b : Bool) → AreNoLonger (runs_of_segments number 0 (cond b (row.0, shortened left row.1) row).1.segments)
@@ -198,13 +198,13 @@ module _ (group : Group) (name : List ℕ) (left : ℕ) (v : ℕ × Lv) (accepte
   striped : Each (λ (s : Segment). IsWholeStriped group.extent_size s.count s.kind) segments
   striped =
       recursion_from_All (λ (s : Segment). IsWholeStriped group.extent_size s.count s.kind) segments
-          (of_this (λ (lv : Lv). All (λ segment. IsWholeStriped group.extent_size segment.count segment.kind) lv.segments)
-          (accepted Stripes))
+      (of_this (λ (lv : Lv). All (λ segment. IsWholeStriped group.extent_size segment.count segment.kind) lv.segments)
+      (accepted Stripes))
 
   mirrored : Each (λ (s : Segment). IsWholeMirror s.kind) segments
   mirrored =
       recursion_from_All (λ (s : Segment). IsWholeMirror s.kind) segments
-          (of_this (λ (lv : Lv). All (λ segment. IsWholeMirror segment.kind) lv.segments) (accepted Mirrors))
+      (of_this (λ (lv : Lv). All (λ segment. IsWholeMirror segment.kind) lv.segments) (accepted Mirrors))
 
   numbers_kept : group.seqno < 4294967295 → Keeps other Numbers
   numbers_kept below = record {
@@ -217,7 +217,7 @@ module _ (group : Group) (name : List ℕ) (left : ℕ) (v : ℕ × Lv) (accepte
           small.0,
           All-from_recursion SegmentIsSmall (front_of segments left)
               (each_front SegmentIsSmall (λ segment count is less. (is.0, omega (arith, is.1, less), is.2)) segments left
-                  (recursion_from_All SegmentIsSmall segments small.1)),
+              (recursion_from_All SegmentIsSmall segments small.1)),
         ))
         (accepted Numbers).lvs;
   }
@@ -227,7 +227,7 @@ module _ (group : Group) (name : List ℕ) (left : ℕ) (v : ℕ × Lv) (accepte
     same : ids_of other ≡ ids_of group
     same =
         ap (λ (ids : List (List ℕ)). group.id ∷ (map (λ (pv : List ℕ × Pv). pv.1.id) group.pvs ++ ids))
-            (map_part name left (λ (lv : Lv). lv.id) (λ lv. refl) group.lvs)
+        (map_part name left (λ (lv : Lv). lv.id) (λ lv. refl) group.lvs)
 
   volumes_kept : Keeps other Volumes
   volumes_kept = record {
@@ -246,8 +246,10 @@ module _ (group : Group) (name : List ℕ) (left : ℕ) (v : ℕ × Lv) (accepte
   follows_kept : Keeps other Follows
   follows_kept =
       all_new (λ (lv : Lv). Follow 0 lv.segments × (extents_of lv * group.extent_size < 2 ^ 48))
-      (λ follow. (follow_front 0 segments left follow.0,
-          lower (extents_of (shortened left v.1)) (extents_of v.1) (fewer_extents segments left) follow.1)) (accepted Follows)
+      (λ follow. (
+        follow_front 0 segments left follow.0,
+        lower (extents_of (shortened left v.1)) (extents_of v.1) (fewer_extents segments left) follow.1,
+      )) (accepted Follows)
     where
       lower : (a b : ℕ) → a ≤ b → b * group.extent_size < 2 ^ 48 → a * group.extent_size < 2 ^ 48
       lower a b less small = grind (arith, less, small)
@@ -257,14 +259,14 @@ module _ (group : Group) (name : List ℕ) (left : ℕ) (v : ℕ × Lv) (accepte
       all_new (λ (lv : Lv). All (λ segment. IsWholeStriped group.extent_size segment.count segment.kind) lv.segments)
       (λ whole. All-from_recursion (λ (s : Segment). IsWholeStriped group.extent_size s.count s.kind) (front_of segments left)
       (stripes_front group.extent_size segments left may.whole
-          (segments_shared group.extent_size segments striped (segments_few group.extent_size segments striped mirrored))))
-          (accepted Stripes)
+      (segments_shared group.extent_size segments striped (segments_few group.extent_size segments striped mirrored))))
+      (accepted Stripes)
 
   mirrors_kept : Keeps other Mirrors
   mirrors_kept =
       all_new (λ (lv : Lv). All (λ segment. IsWholeMirror segment.kind) lv.segments)
       (λ whole. All-from_recursion (λ (s : Segment). IsWholeMirror s.kind) (front_of segments left)
-          (each_front (λ (s : Segment). IsWholeMirror s.kind) (λ segment count is less. is) segments left mirrored)) (accepted Mirrors)
+      (each_front (λ (s : Segment). IsWholeMirror s.kind) (λ segment count is less. is) segments left mirrored)) (accepted Mirrors)
 
   -- a visible volume isn't the PVMOVE volume
   not_pvmove : v.1.status.pvmove ≡ false
@@ -280,7 +282,7 @@ module _ (group : Group) (name : List ℕ) (left : ℕ) (v : ℕ × Lv) (accepte
   moved_kept =
       all_new (λ (lv : Lv). All (λ segment. MovedIsAllowed lv.status.pvmove segment.count segment.kind) lv.segments)
       (λ allowed. All-from_recursion May (front_of segments left)
-          (each_front May step segments left (recursion_from_All May segments allowed))) (accepted Moved)
+      (each_front May step segments left (recursion_from_All May segments allowed))) (accepted Moved)
     where
       May : Segment → Type 0
       May segment = MovedIsAllowed v.1.status.pvmove segment.count segment.kind
@@ -313,21 +315,21 @@ module _ (group : Group) (name : List ℕ) (left : ℕ) (v : ℕ × Lv) (accepte
   each_few : Each (λ (row : Row). Each (λ (s : Segment). HasFewLegs s.kind) row.1.segments) group.lvs
   each_few =
       by group.lvs (recursion_from_All Whole group.lvs (accepted Stripes)) (recursion_from_All Copied group.lvs (accepted Mirrors)) where
-    Whole : Row → Type 0
-    Whole row = All (λ (s : Segment). IsWholeStriped group.extent_size s.count s.kind) row.1.segments
+        Whole : Row → Type 0
+        Whole row = All (λ (s : Segment). IsWholeStriped group.extent_size s.count s.kind) row.1.segments
 
-    Copied : Row → Type 0
-    Copied row = All (λ (s : Segment). IsWholeMirror s.kind) row.1.segments
+        Copied : Row → Type 0
+        Copied row = All (λ (s : Segment). IsWholeMirror s.kind) row.1.segments
 
-    by : (rows : List Row) → Each Whole rows → Each Copied rows
-        → Each (λ (row : Row). Each (λ (s : Segment). HasFewLegs s.kind) row.1.segments) rows
-    by [] whole copied = tt
-    by (row ∷ rows) whole copied = (
-      segments_few group.extent_size row.1.segments
-          (recursion_from_All (λ (s : Segment). IsWholeStriped group.extent_size s.count s.kind) row.1.segments whole.0)
-          (recursion_from_All (λ (s : Segment). IsWholeMirror s.kind) row.1.segments copied.0),
-      by rows whole.1 copied.1,
-    )
+        by : (rows : List Row) → Each Whole rows → Each Copied rows
+            → Each (λ (row : Row). Each (λ (s : Segment). HasFewLegs s.kind) row.1.segments) rows
+        by [] whole copied = tt
+        by (row ∷ rows) whole copied = (
+          segments_few group.extent_size row.1.segments
+              (recursion_from_All (λ (s : Segment). IsWholeStriped group.extent_size s.count s.kind) row.1.segments whole.0)
+              (recursion_from_All (λ (s : Segment). IsWholeMirror s.kind) row.1.segments copied.0),
+          by rows whole.1 copied.1,
+        )
 
   runs_shorter : AreNoLonger (runs_of other) (runs_of group)
   unfolding runs_of
@@ -354,12 +356,12 @@ module _ (group : Group) (name : List ℕ) (left : ℕ) (v : ℕ × Lv) (accepte
     by : (b : Bool) → same_bytes is.volume.0 name ≡ b → IsThere run
     by true same =
         let apart : is_layered is.volume.1 ≡ false =
-            ap is_layered (this is.volume (contains_at group.lvs is.nth is.volume is.is_volume) same) ∙ may.apart in
+        ap is_layered (this is.volume (contains_at group.lvs is.nth is.volume is.is_volume) same) ∙ may.apart in
         absurd (no_layer is.volume.1 run.segment is.segment run.leg is.leg m apart is.is_segment is.is_leg (sym is.on_is ∙ on_is))
     by false same =
         let as_was : new is.volume ≡ is.volume = ap (λ (b : Bool). cond b (is.volume.0, shortened left is.volume.1) is.volume) same in
         let stands : slice_get other.lvs is.nth ≡ Some is.volume =
-            lv_there is.nth is.volume is.is_volume ∙ ap (λ (r : Row). Some r) as_was in
+        lv_there is.nth is.volume is.is_volume ∙ ap (λ (r : Row). Some r) as_was in
         let r = run_of other is.nth is.volume run.segment is.segment run.leg is.leg stands is.is_segment is.is_leg in
         record {
           now = r.0;
@@ -403,7 +405,7 @@ module _ (group : Group) (name : List ℕ) (left : ℕ) (v : ℕ × Lv) (accepte
         let row : Row = (inside.1.0, inside.0) in
         let hidden : inside.0.status.visible ≡ false = (accepted Depth).hidden run.lv m inside.0 (run, within, refl, is) inside.1 in
         let stands : slice_get other.lvs m ≡ Some row =
-            lv_there m row inside.1.1 ∙ ap (λ (r : Row). Some r) (hidden_same row (contains_at group.lvs m row inside.1.1) hidden) in
+        lv_there m row inside.1.1 ∙ ap (λ (r : Row). Some r) (hidden_same row (contains_at group.lvs m row inside.1.1) hidden) in
         (inside.0, (inside.1.0, stands), inside.2)
 
   less_within : (is : On) (end most : ℕ) → end ≤ most → LiesWithin other is most → LiesWithin other is end
@@ -415,11 +417,11 @@ module _ (group : Group) (name : List ℕ) (left : ℕ) (v : ℕ × Lv) (accepte
       All-from_recursion Inside (runs_of other)
       (each_shorter Inside Inside
       (λ a b is inside. subst (λ (o : On). LiesWithin other o (a.first + a.count)) (sym is.on)
-          (less_within b.on (a.first + a.count) (b.first + b.count) (let f = is.first in let c = is.count in omega (arith, f, c)) inside))
+      (less_within b.on (a.first + a.count) (b.first + b.count) (let f = is.first in let c = is.count in omega (arith, f, c)) inside))
       (runs_of other) (runs_of group) runs_shorter
       (recursion_from_All Inside (runs_of group)
-          (λ k d within. within_there (get_or (runs_of group) k d) (All-contains_itself (runs_of group) k d within)
-          ((accepted Within) k d within))))
+      (λ k d within. within_there (get_or (runs_of group) k d) (All-contains_itself (runs_of group) k d within)
+      ((accepted Within) k d within))))
     where
       Inside : LegRun → Type 0
       Inside run = LiesWithin other run.on (run.first + run.count)
@@ -456,9 +458,15 @@ module _ (group : Group) (name : List ℕ) (left : ℕ) (v : ℕ × Lv) (accepte
 
   used_there : (m extent : ℕ) → IsUsed group (on.Lv m) extent → IsUsed other (on.Lv m) extent
   used_there m extent used =
-      let now = run_there used.0 m used.1 used.2.0 in
-      (now.now, now.within, (now.on_is ∙ used.2.0, (let f = now.first in let u = used.2.1 in omega (arith, f, u)),
-          (let f = now.first in let n = now.count in let u = used.2.2 in omega (arith, f, n, u))))
+      let now = run_there used.0 m used.1 used.2.0 in (
+        now.now,
+        now.within,
+        (
+          now.on_is ∙ used.2.0,
+          (let f = now.first in let u = used.2.1 in omega (arith, f, u)),
+          (let f = now.first in let n = now.count in let u = used.2.2 in omega (arith, f, n, u)),
+        ),
+      )
 
   pvmove_kept : Keeps other Pvmove
   pvmove_kept = record {
@@ -466,7 +474,7 @@ module _ (group : Group) (name : List ℕ) (left : ℕ) (v : ℕ × Lv) (accepte
     whole = λ n own lv is has.
         let was = lv_back n (own, lv) is in
         let pvmove : was.0.1.status.pvmove ≡ true =
-            sym (ap (λ s. s.pvmove) (status_same was.0)) ∙ ap (λ (r : Row). r.1.status.pvmove) was.2 ∙ has in
+        sym (ap (λ s. s.pvmove) (status_same was.0)) ∙ ap (λ (r : Row). r.1.status.pvmove) was.2 ∙ has in
         let move : IsMove group n was.0.0 was.0.1 = (accepted Pvmove).whole n was.0.0 was.0.1 was.1 pvmove in
         let same : was.0 ≡ (own, lv) = sym (hidden_same was.0 (contains_at group.lvs n was.0 was.1) move.hidden) ∙ was.2 in
         subst (λ (r : Row). IsMove other n r.0 r.1) same (record {
@@ -482,8 +490,8 @@ module _ (group : Group) (name : List ℕ) (left : ℕ) (v : ℕ × Lv) (accepte
   locked_kept n lv is has =
       let was = lv_back n (is.0, lv) is.1 in
       let moving : IsMoving group n =
-          (accepted Locked) n was.0.1 (was.0.0, was.1)
-              (sym (ap (λ s. s.locked) (status_same was.0)) ∙ ap (λ (r : Row). r.1.status.locked) was.2 ∙ has) in
+      (accepted Locked) n was.0.1 (was.0.0, was.1)
+      (sym (ap (λ s. s.locked) (status_same was.0)) ∙ ap (λ (r : Row). r.1.status.locked) was.2 ∙ has) in
       (moving.0, way_there (n ∷ moving.0) moving.1, (moving.2.0, moving.2.1, is_pvmove_there moving.2.0 moving.2.2))
 
   pub short_accepted : group.seqno < 4294967295 → IsAccepted other

@@ -1,6 +1,6 @@
 -- What the legs cover of a group in which a volume has its first extents alone: runs become shorter, or go.
-use Rattle.std.proofs.Common.{◌≡◌, ◌≤◌, ◌⊎◌, ℕ, zero, suc, ◌+◌, ◌-◌, ◌/◌, Bool, true, false, cond, List, [], ◌∷◌, ◌++◌, length, inl, inr,
-    refl, sym, ◌∙◌, arith}
+use Rattle.std.proofs.Common.{◌≡◌, ◌≤◌, ◌⊎◌, ℕ, zero, suc, ◌+◌, ◌-◌, ◌/◌, Bool, true, false, cond, List, [], ◌∷◌, ◌++◌, length, inl, inr}
+use Rattle.std.proofs.Common.{refl, sym, ◌∙◌, arith}
 use Rattle.std.specs.Prelude.{nat_le, All, AllPairs, Contains}
 use Rattle.std.specs.List.{AllByRecursion as Each}
 use Rattle.std.proofs.lemmas.List.Elements.{All-contains, All-contains_itself, All-from_recursion, recursion_from_All}
@@ -74,7 +74,7 @@ shorter_apart (x ∷ xs) (y ∷ ys) (inl here) pairs =
     AllPairs-cons LieApart x xs
     (All-from_recursion (LieApart x) xs
     (each_shorter (LieApart y) (LieApart x) (λ a b is apart on extent in_x in_a. apart on extent (in_longer x y on extent here.0 in_x)
-        (in_longer a b on extent is in_a)) xs ys here.1
+    (in_longer a b on extent is in_a)) xs ys here.1
     (recursion_from_All (LieApart y) ys (pairs_first y ys pairs))))
     (shorter_apart xs ys here.1 (pairs_later y ys pairs))
 shorter_apart (x ∷ xs) (y ∷ ys) (inr later) pairs = shorter_apart (x ∷ xs) ys later (pairs_later y ys pairs)
@@ -85,7 +85,7 @@ longer_one xs ys are x within =
     All-contains (λ a. (y : LegRun) × Contains ys y × IsNoLonger a y) xs x
     (All-from_recursion (λ a. (y : LegRun) × Contains ys y × IsNoLonger a y) xs
     (each_shorter (Contains ys) (λ a. (y : LegRun) × Contains ys y × IsNoLonger a y) (λ a b is there. (b, there, is)) xs ys are
-        (recursion_from_All (Contains ys) ys (All-contains_itself ys))))
+    (recursion_from_All (Contains ys) ys (All-contains_itself ys))))
     within
 
 -- ---- the legs of a volume
@@ -113,11 +113,11 @@ segments_shorter lv k (segment ∷ segments) (suc count) some =
           (segment ∷ front_of segments (suc count - segment.count)))) (runs_of_segments lv k (segment ∷ segments))
       by true is later =
           both (runs_of_legs lv k (leg_share (suc count) segment.kind) 0 (legs_of segment.kind))
-              (runs_of_legs lv k (leg_share segment.count segment.kind) 0 (legs_of segment.kind)) [] (runs_of_segments lv (k + 1) segments)
+          (runs_of_legs lv k (leg_share segment.count segment.kind) 0 (legs_of segment.kind)) [] (runs_of_segments lv (k + 1) segments)
           (legs_shorter lv k (leg_share (suc count) segment.kind) (leg_share segment.count segment.kind) 0 (legs_of segment.kind)
-              (share_less (suc count) segment.count segment.kind some.0 (le_by (suc count) segment.count is)))
+          (share_less (suc count) segment.count segment.kind some.0 (le_by (suc count) segment.count is)))
           tt
       by false is later =
           let own : List LegRun = runs_of_legs lv k (leg_share segment.count segment.kind) 0 (legs_of segment.kind) in
           both own own (runs_of_segments lv (k + 1) (front_of segments (suc count - segment.count))) (runs_of_segments lv (k + 1) segments)
-              (each_same own) later
+          (each_same own) later

@@ -63,14 +63,14 @@ module _ (group : Group) (accepted : IsAccepted group) (n : ℕ) (row : List ℕ
   striped =
       recursion_from_All (λ (s : Segment). IsWholeStriped group.extent_size s.count s.kind) row.1.segments
       (All-contains (λ (r : List ℕ × Lv). All (λ (s : Segment). IsWholeStriped group.extent_size s.count s.kind) r.1.segments) group.lvs row
-          (accepted Stripes) within)
+      (accepted Stripes) within)
 
   few : Each (λ (s : Segment). HasFewLegs s.kind) row.1.segments
   few =
       segments_few group.extent_size row.1.segments striped
       (recursion_from_All (λ (s : Segment). IsWholeMirror s.kind) row.1.segments
       (All-contains (λ (r : List ℕ × Lv). All (λ (s : Segment). IsWholeMirror s.kind) r.1.segments) group.lvs row (accepted Mirrors)
-          within))
+      within))
 
   shared : Each (IsShared group.extent_size) row.1.segments
   shared = segments_shared group.extent_size row.1.segments striped few
@@ -84,7 +84,7 @@ module _ (group : Group) (accepted : IsAccepted group) (n : ℕ) (row : List ℕ
   extents_few =
       by (extents_of row.1) group.extent_size (accepted Numbers).extent_size.0
       (All-contains (λ (r : List ℕ × Lv). Follow 0 r.1.segments × (extents_of r.1 * group.extent_size < 2 ^ 48)) group.lvs row
-          (accepted Follows) within).1
+      (accepted Follows) within).1
     where
       by : (count size : ℕ) → 8 ≤ size → count * size < 2 ^ 48 → count < 2 ^ 48
       by count size some small = grind (arith, some, small)

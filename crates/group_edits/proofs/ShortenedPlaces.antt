@@ -1,7 +1,7 @@
 -- A group in which a visible volume has its first extents alone keeps each primary place of the others, and those of the volume's
 -- first sectors.
-use Rattle.std.proofs.Common.{◌≡◌, ◌≤◌, ◌<◌, ℕ, zero, suc, ◌+◌, ◌-◌, ◌*◌, ◌^◌, Bool, true, false, cond, nat_le, nat_lt, List, [], ◌∷◌,
-    Option, Some, None, inl, inr, refl, sym, ap, subst, ◌∙◌, arith}
+use Rattle.std.proofs.Common.{◌≡◌, ◌≤◌, ◌<◌, ℕ, zero, suc, ◌+◌, ◌-◌, ◌*◌, ◌^◌, Bool, true, false, cond, nat_le, nat_lt, List, [], ◌∷◌}
+use Rattle.std.proofs.Common.{Option, Some, None, inl, inr, refl, sym, ap, subst, ◌∙◌, arith}
 use Rattle.std.specs.Prelude.{option_map, slice_get, sum_by, All, Contains}
 use Rattle.std.specs.Option.{option_and_then}
 use Rattle.std.proofs.lemmas.Bool.{and_from, cases_lt, false≢true, le-leb, lt-ltb, true≢false}
@@ -47,22 +47,23 @@ front_most [] left = omega arith
 front_most (segment ∷ segments) zero = omega arith
 front_most (segment ∷ segments) (suc count) =
     by (nat_le (suc count) segment.count) refl (front_most segments (suc count - segment.count)) where
-  by : (b : Bool) → nat_le (suc count) segment.count ≡ b
-      → sum_by (λ (s : Segment). s.count) (front_of segments (suc count - segment.count)) ≤ suc count - segment.count
-      → sum_by (λ (s : Segment). s.count) (cond b (cut segment (suc count) ∷ []) (segment ∷ front_of segments (suc count - segment.count)))
-      ≤ suc count
-  by true is later = let one = sum_by-cons (λ (s : Segment). s.count) (cut segment (suc count)) [] in omega (arith, one)
-  by false is later =
-      let less : segment.count < suc count = lt_by (suc count) segment.count is in
-      let one = sum_by-cons (λ (s : Segment). s.count) segment (front_of segments (suc count - segment.count)) in
-      omega (arith, less, later, one)
+      by : (b : Bool) → nat_le (suc count) segment.count ≡ b
+          → sum_by (λ (s : Segment). s.count) (front_of segments (suc count - segment.count)) ≤ suc count - segment.count
+          → sum_by (λ (s : Segment). s.count) (cond b (cut segment (suc count) ∷ [])
+          (segment ∷ front_of segments (suc count - segment.count)))
+          ≤ suc count
+      by true is later = let one = sum_by-cons (λ (s : Segment). s.count) (cut segment (suc count)) [] in omega (arith, one)
+      by false is later =
+          let less : segment.count < suc count = lt_by (suc count) segment.count is in
+          let one = sum_by-cons (λ (s : Segment). s.count) segment (front_of segments (suc count - segment.count)) in
+          omega (arith, less, later, one)
 
 module _ (extent sector : ℕ) where
   has_it : (segment : Segment) → segment.start * extent ≤ sector → sector < (segment.start + segment.count) * extent
       → has_sector extent sector segment ≡ true
   has_it segment low high =
       and_from (nat_le (segment.start * extent) sector) (nat_lt sector ((segment.start + segment.count) * extent))
-          (le-leb (segment.start * extent) sector low) (lt-ltb sector ((segment.start + segment.count) * extent) high)
+      (le-leb (segment.start * extent) sector low) (lt-ltb sector ((segment.start + segment.count) * extent) high)
 
   -- a sector that doesn't stand in the segment stands behind it
   past : (segment : Segment) → segment.start * extent ≤ sector → has_sector extent sector segment ≡ false
@@ -82,7 +83,7 @@ module _ (extent sector : ℕ) where
   front_found number at (segment ∷ segments) (suc count) k s follow low high found =
       by (nat_le (suc count) segment.count) (has_sector extent sector segment) refl refl found
       (λ behind inside made. front_found (number + 1) (at + segment.count) segments (suc count - segment.count) k s follow.2 behind inside
-          made)
+      made)
     where
       rest : List Segment
       rest = front_of segments (suc count - segment.count)
@@ -99,17 +100,17 @@ module _ (extent sector : ℕ) where
           ≡ Some (k, cut s less))
       by true has is has_is made later =
           let ends : sector < (segment.start + suc count) * extent =
-              subst (λ (n : ℕ). sector < (n + suc count) * extent) (sym follow.0) high in
+          subst (λ (n : ℕ). sector < (n + suc count) * extent) (sym follow.0) high in
           let wider : (segment.start + suc count) * extent ≤ (segment.start + segment.count) * extent =
           (let more = le_by (suc count) segment.count is in mul-le (segment.start + suc count) extent (segment.start + segment.count) extent
-              (omega (arith, more)) (omega arith))
+          (omega (arith, more)) (omega arith))
           in
           let in_cut : has_sector extent sector (cut segment (suc count)) ≡ true = has_it (cut segment (suc count)) begins ends in
           let in_whole : has_sector extent sector segment ≡ true = has_it segment begins (omega (arith, ends, wider)) in
           let same : ◌≡◌ {A = ℕ × Segment} (number, segment) (k, s) =
           same_Some {A = ℕ × Segment} (number, segment) (k, s)
           (ap (λ (b : Bool). cond b (Some (number, segment)) (segment_from extent sector (number + 1) segments)) (sym in_whole ∙ has_is)
-              ∙ made)
+          ∙ made)
           in (
             suc count,
             ap (λ (b : Bool). cond b (Some (number, cut segment (suc count))) None) in_cut
@@ -121,8 +122,8 @@ module _ (extent sector : ℕ) where
           let over : segment.count < suc count = lt_by (suc count) segment.count is in
           let all : at + suc count ≡ at + segment.count + (suc count - segment.count) = omega (arith, over) in
           let next =
-              later (subst (λ (n : ℕ). (n + segment.count) * extent ≤ sector) follow.0 (past segment begins has_is))
-                  (subst (λ (n : ℕ). sector < n * extent) all high) made in
+          later (subst (λ (n : ℕ). (n + segment.count) * extent ≤ sector) follow.0 (past segment begins has_is))
+          (subst (λ (n : ℕ). sector < n * extent) all high) made in
           (next.0, ap (λ (b : Bool). cond b (Some (number, segment)) (segment_from extent sector (number + 1) rest)) has_is ∙ next.1)
 
 -- the leg that is read doesn't depend on how many extents the segment has, where it isn't one of a move
@@ -146,7 +147,7 @@ module _ (group : Group) (name : List ℕ) (left : ℕ) (v : ℕ × Lv) (accepte
       → slice_get other.lvs n ≡ Some (cond b (row.0, shortened left row.1) row)
   row_there n row b there is =
       slice_get-map new group.lvs n ∙ ap (option_map new) there
-          ∙ ap (λ (same : Bool). Some (cond same (row.0, shortened left row.1) row)) is
+      ∙ ap (λ (same : Bool). Some (cond same (row.0, shortened left row.1) row)) is
 
   -- the volume has another name
   abbrev pub HasOther : ℕ → Type 0
@@ -169,7 +170,7 @@ module _ (group : Group) (name : List ℕ) (left : ℕ) (v : ℕ × Lv) (accepte
         (λ row there.
         let same : volume ≡ row = same_Some volume row (sym is ∙ there) in
         subst (λ (r : Row). same_bytes r.0 name ≡ false) same
-            (hidden_other volume (contains_at group.lvs number volume is) ((accepted Depth).hidden n number volume.1 lies (volume.0, is))))
+        (hidden_other volume (contains_at group.lvs number volume is) ((accepted Depth).hidden n number volume.1 lies (volume.0, is))))
 
     step_other : (n sector : ℕ) (m : Met) (spot : Spot) → Meets group n sector m → primary_spot group.extent_size m ≡ Some spot
         → OnStays Any HasOther spot.on
@@ -177,7 +178,7 @@ module _ (group : Group) (name : List ℕ) (left : ℕ) (v : ℕ × Lv) (accepte
         let j : ℕ = primary_leg m.segment.count m.segment.kind m.at in
         let leg : ByLeg group m j spot = by_leg group m j spot is_spot in
         subst (OnStays Any HasOther) leg.on (leads_other n (spot_in group.extent_size (offset_in m.segment.kind m.at) leg.it)
-            (leads_on group n sector m j leg.it accepted meets leg.is_leg))
+        (leads_on group n sector m j leg.it accepted meets leg.is_leg))
 
     -- what is met in a row
     abbrev met_in : ℕ → ℕ → Row → Option Met
@@ -234,7 +235,7 @@ module _ (group : Group) (name : List ℕ) (left : ℕ) (v : ℕ × Lv) (accepte
       unfolding leg_spot
       spot_front count m spot leg is =
           ap (λ (j : ℕ). option_map (spot_in group.extent_size (offset_in m.segment.kind m.at)) (slice_get (legs_of m.segment.kind) j)) leg
-              ∙ is
+          ∙ is
 
       visible : row.1.status.visible ≡ true
       visible = ap (λ (lv : Lv). lv.status.visible) (is_this group name v can found row (contains_at group.lvs n row there) same) ∙ seen
@@ -247,26 +248,26 @@ module _ (group : Group) (name : List ℕ) (left : ℕ) (v : ℕ × Lv) (accepte
           let meets : Meets group n sector m = meets_is group n sector m g.meets in
           let volume : meets.volume ≡ row = same_Some meets.volume row (sym meets.is_volume ∙ there) in
           let follow : Follow 0 row.1.segments =
-              (all_at (λ (r : Row). Follow 0 r.1.segments × (extents_of r.1 * group.extent_size < 2 ^ 48)) group.lvs n row
-                  (accepted Follows) there).0 in
+          (all_at (λ (r : Row). Follow 0 r.1.segments × (extents_of r.1 * group.extent_size < 2 ^ 48)) group.lvs n row
+          (accepted Follows) there).0 in
           let is_found : segment_from group.extent_size sector 0 row.1.segments ≡ Some (m.number, m.segment) =
           subst (λ (r : Row). segment_from group.extent_size sector 0 r.1.segments ≡ Some (m.number, m.segment)) volume meets.is_found
           in
           let is_segment : slice_get row.1.segments m.number ≡ Some m.segment =
-              subst (λ (r : Row). slice_get r.1.segments m.number ≡ Some m.segment) volume meets.is_segment in
+          subst (λ (r : Row). slice_get r.1.segments m.number ≡ Some m.segment) volume meets.is_segment in
           let front =
-              front_found group.extent_size sector 0 0 row.1.segments left m.number m.segment follow (omega arith)
-                  (subst (λ (k : ℕ). sector < k * group.extent_size) (omega arith) less) is_found in
+          front_found group.extent_size sector 0 0 row.1.segments left m.number m.segment follow (omega arith)
+          (subst (λ (k : ℕ). sector < k * group.extent_size) (omega arith) less) is_found in
           let allowed : MovedIsAllowed row.1.status.pvmove m.segment.count m.segment.kind =
           all_at (λ (s : Segment). MovedIsAllowed row.1.status.pvmove s.count s.kind) row.1.segments m.number m.segment
           (all_at (λ (r : Row). All (λ (s : Segment). MovedIsAllowed r.1.status.pvmove s.count s.kind) r.1.segments) group.lvs n row
-              (accepted Moved) there) is_segment
+          (accepted Moved) there) is_segment
           in
           let leg : primary_leg front.0 m.segment.kind m.at ≡ primary_leg m.segment.count m.segment.kind m.at =
           leg_same row.1.status.pvmove m.segment.count front.0 m.at m.segment.kind (not_pvmove n row there visible) allowed
           in
           step_down other n sector 4 (met_cut m front.0) g.spot at (met_front sector front.0 m meets front.1)
-              (spot_front front.0 m g.spot leg g.is_spot)
+          (spot_front front.0 m g.spot leg g.is_spot)
           (ap (λ (o : On). down other o 4 g.spot.sector) (sym (on_same g.spot.on))
           ∙ down_kept group other unchanged unchanged Any HasOther (λ k pv stays stands. stands) taken 4 g.spot.on g.spot.sector at
           (step_other n sector m g.spot meets g.is_spot) g.rest)

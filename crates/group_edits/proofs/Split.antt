@@ -1,6 +1,6 @@
 -- The table of volumes around the one visible volume of a name.
-use Rattle.std.proofs.Common.{◌≡◌, ℕ, zero, suc, ◌+◌, Bool, true, false, ◌&&◌, cond, List, [], ◌∷◌, ◌++◌, length, map, Some, refl, sym, ap,
-    subst, ◌∙◌, arith}
+use Rattle.std.proofs.Common.{◌≡◌, ℕ, zero, suc, ◌+◌, Bool, true, false, ◌&&◌, cond, List, [], ◌∷◌, ◌++◌, length, map, Some, refl, sym, ap}
+use Rattle.std.proofs.Common.{subst, ◌∙◌, arith}
 use Rattle.std.specs.Prelude.{nat_eq, slice_get, sum_by}
 use Rattle.std.specs.List.{AllByRecursion as Each}
 use Rattle.std.specs.Cmp.Lexicographic.{pointwise}
@@ -80,9 +80,11 @@ module _ (name : List ℕ) where
   all_other : (rows : List Row) (taken : List (List ℕ)) → AreNames taken (map (λ (row : Row). row.0) rows) → is_among taken name ≡ true
       → Each IsOther rows
   all_other [] taken are among = tt
-  all_other (row ∷ rows) taken are among =
-      (by (same_bytes row.0 name) refl, all_other rows (row.0 ∷ taken) are.2
-          (or_right (pointwise nat_eq name row.0) (is_among taken name) among)) where
+  all_other (row ∷ rows) taken are among = (
+    by (same_bytes row.0 name) refl,
+    all_other rows (row.0 ∷ taken) are.2
+        (or_right (pointwise nat_eq name row.0) (is_among taken name) among),
+  ) where
     by : (b : Bool) → same_bytes row.0 name ≡ b → b ≡ false
     by true is = absurd (true≢false (sym among ∙ ap (is_among taken) (sym (same_bytes_tells row.0 name is)) ∙ are.1))
     by false is = refl
@@ -92,42 +94,43 @@ module _ (name : List ℕ) where
   split number [] taken v found are = absurd cc
   split number (row ∷ rows) taken v found are =
       by (row.1.status.visible && same_bytes row.0 name) refl found (λ made. split (number + 1) rows (row.0 ∷ taken) v made are.2) where
-    other : IsSplit rows v.1 → (b : Bool) → same_bytes row.0 name ≡ b → b ≡ false
-    other rest true is =
-        let all : Each IsOther rows =
+        other : IsSplit rows v.1 → (b : Bool) → same_bytes row.0 name ≡ b → b ≡ false
+        other rest true is =
+            let all : Each IsOther rows =
             all_other rows (row.0 ∷ taken) are.2 (among_first name row.0 taken (same_bytes_tells row.0 name is)) in
-        absurd (true≢false (sym rest.named ∙ each_between IsOther rest.before rest.after rest.row (subst (Each IsOther) rest.rows_is all)))
-    other rest false is = refl
+            absurd (true≢false (sym rest.named ∙ each_between IsOther rest.before rest.after rest.row
+            (subst (Each IsOther) rest.rows_is all)))
+        other rest false is = refl
 
-    by : (b : Bool) → (row.1.status.visible && same_bytes row.0 name) ≡ b
-        → cond b (Some (number, row.1)) (visible_from (number + 1) name rows) ≡ Some v
-        → (visible_from (number + 1) name rows ≡ Some v → IsSplit rows v.1) → IsSplit (row ∷ rows) v.1
-    by true is made later =
-        let both = both_true row.1.status.visible (same_bytes row.0 name) is in
-        record {
-          before = [];
-          row = row;
-          after = rows;
-          rows_is = refl;
-          is_volume = ap (λ (u : ℕ × Lv). u.1) (same_Some (number, row.1) v made);
-          named = both.1;
-          seen = both.0;
-          earlier = tt;
-          later = all_other rows (row.0 ∷ taken) are.2 (among_first name row.0 taken (same_bytes_tells row.0 name both.1));
-        }
-    by false is made later =
-        let rest : IsSplit rows v.1 = later made in
-        record {
-          before = row ∷ rest.before;
-          row = rest.row;
-          after = rest.after;
-          rows_is = ap (λ (rs : List Row). row ∷ rs) rest.rows_is;
-          is_volume = rest.is_volume;
-          named = rest.named;
-          seen = rest.seen;
-          earlier = (other rest (same_bytes row.0 name) refl, rest.earlier);
-          later = rest.later;
-        }
+        by : (b : Bool) → (row.1.status.visible && same_bytes row.0 name) ≡ b
+            → cond b (Some (number, row.1)) (visible_from (number + 1) name rows) ≡ Some v
+            → (visible_from (number + 1) name rows ≡ Some v → IsSplit rows v.1) → IsSplit (row ∷ rows) v.1
+        by true is made later =
+            let both = both_true row.1.status.visible (same_bytes row.0 name) is in
+            record {
+              before = [];
+              row = row;
+              after = rows;
+              rows_is = refl;
+              is_volume = ap (λ (u : ℕ × Lv). u.1) (same_Some (number, row.1) v made);
+              named = both.1;
+              seen = both.0;
+              earlier = tt;
+              later = all_other rows (row.0 ∷ taken) are.2 (among_first name row.0 taken (same_bytes_tells row.0 name both.1));
+            }
+        by false is made later =
+            let rest : IsSplit rows v.1 = later made in
+            record {
+              before = row ∷ rest.before;
+              row = rest.row;
+              after = rest.after;
+              rows_is = ap (λ (rs : List Row). row ∷ rs) rest.rows_is;
+              is_volume = rest.is_volume;
+              named = rest.named;
+              seen = rest.seen;
+              earlier = (other rest (same_bytes row.0 name) refl, rest.earlier);
+              later = rest.later;
+            }
 
   -- ---- the change of the volume of the name
 
@@ -136,13 +139,13 @@ module _ (name : List ℕ) where
     others_stay [] all = refl
     others_stay (row ∷ rows) all =
         ap (λ (b : Bool). cond b (change row) row ∷ map (changed_if name change) rows) all.0
-            ∙ ap (λ (rs : List Row). row ∷ rs) (others_stay rows all.1)
+        ∙ ap (λ (rs : List Row). row ∷ rs) (others_stay rows all.1)
 
     pub change_between : (before after : List Row) (row : Row) → Each IsOther before → Each IsOther after → same_bytes row.0 name ≡ true
         → map (changed_if name change) (before ++ row ∷ after) ≡ before ++ change row ∷ after
     change_between [] after row earlier later named =
         ap (λ (b : Bool). cond b (change row) row ∷ map (changed_if name change) after) named
-            ∙ ap (λ (rs : List Row). change row ∷ rs) (others_stay after later)
+        ∙ ap (λ (rs : List Row). change row ∷ rs) (others_stay after later)
     change_between (r ∷ before) after row earlier later named =
         ap (λ (b : Bool). cond b (change r) r ∷ map (changed_if name change) (before ++ row ∷ after)) earlier.0
         ∙ ap (λ (rs : List Row). r ∷ rs) (change_between before after row earlier.1 later named)

@@ -1,6 +1,6 @@
 -- The volumes that stay, by their new numbers, and what their legs cover.
-use Rattle.std.proofs.Common.{◌≡◌, ℕ, zero, suc, ◌+◌, Bool, true, false, cond, List, [], ◌∷◌, ◌++◌, length, map, refl, sym, ap, ◌∙◌,
-    length-append, arith}
+use Rattle.std.proofs.Common.{◌≡◌, ℕ, zero, suc, ◌+◌, Bool, true, false, cond, List, [], ◌∷◌, ◌++◌, length, map, refl, sym, ap, ◌∙◌}
+use Rattle.std.proofs.Common.{length-append, arith}
 use Rattle.std.specs.Prelude.{filter}
 use Rattle.std.specs.List.{range_with_len}
 use Rattle.std.proofs.lemmas.List.{map-append}
@@ -19,7 +19,7 @@ range_next : (a n : ℕ) → range_with_len a (suc n) ≡ range_with_len a n ++ 
 range_next a zero = ap (λ (x : ℕ). x ∷ []) (let e : a ≡ a + 0 = omega arith in e)
 range_next a (suc n) =
     ap (λ (xs : List ℕ). a ∷ xs) (range_next (a + 1) n)
-        ∙ ap (λ (x : ℕ). a ∷ (range_with_len (a + 1) n ++ x ∷ [])) (let e : a + 1 + n ≡ a + suc n = omega arith in e)
+    ∙ ap (λ (x : ℕ). a ∷ (range_with_len (a + 1) n ++ x ∷ [])) (let e : a + 1 + n ≡ a + suc n = omega arith in e)
 
 module _ (stays : ℕ → Bool) where
   abbrev pub new : ℕ → ℕ
@@ -49,13 +49,13 @@ module _ (stays : ℕ → Bool) where
       → rows_after n (row ∷ rows) ≡ renumbered_row (on_after stays) row ∷ rows_after (n + 1) rows
   rows_staying n row rows is =
       ap (λ (b : Bool). map (renumbered_row (on_after stays)) (cond b (row ∷ that_stay stays (n + 1) rows) (that_stay stays (n + 1) rows)))
-          is
+      is
 
   pub rows_going : (n : ℕ) (row : List ℕ × Lv) (rows : List (List ℕ × Lv)) → stays n ≡ false
       → rows_after n (row ∷ rows) ≡ rows_after (n + 1) rows
   rows_going n row rows is =
       ap (λ (b : Bool). map (renumbered_row (on_after stays)) (cond b (row ∷ that_stay stays (n + 1) rows) (that_stay stays (n + 1) rows)))
-          is
+      is
 
   -- ---- what legs cover
 
@@ -73,7 +73,7 @@ module _ (stays : ℕ → Bool) where
   legs_staying n s count j (leg ∷ legs) is =
       let run : LegRun = record { lv = n; segment = s; leg = j; on = leg.on; first = leg.first; count = count } in
       ap (λ (b : Bool). cond b (run ∷ filter run_stays (runs_of_legs n s count (j + 1) legs))
-          (filter run_stays (runs_of_legs n s count (j + 1) legs))) is
+      (filter run_stays (runs_of_legs n s count (j + 1) legs))) is
       ∙ ap (λ (runs : List LegRun). run ∷ runs) (legs_staying n s count (j + 1) legs is)
 
   legs_going : (n s count j : ℕ) (legs : List Leg) → stays n ≡ false → filter run_stays (runs_of_legs n s count j legs) ≡ []
@@ -81,7 +81,7 @@ module _ (stays : ℕ → Bool) where
   legs_going n s count j (leg ∷ legs) is =
       let run : LegRun = record { lv = n; segment = s; leg = j; on = leg.on; first = leg.first; count = count } in
       ap (λ (b : Bool). cond b (run ∷ filter run_stays (runs_of_legs n s count (j + 1) legs))
-          (filter run_stays (runs_of_legs n s count (j + 1) legs))) is
+      (filter run_stays (runs_of_legs n s count (j + 1) legs))) is
       ∙ legs_going n s count (j + 1) legs is
 
   segments_staying : (n k : ℕ) (segments : List Segment) → stays n ≡ true

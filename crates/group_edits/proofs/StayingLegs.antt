@@ -1,6 +1,6 @@
 -- Legs and ways of the volumes that stay.
-use Rattle.std.proofs.Common.{◌≡◌, ◌<◌, ℕ, zero, suc, ◌+◌, Bool, true, false, cond, List, [], ◌∷◌, length, get_or, map, Some, None, refl,
-    sym, ap, subst, ◌∙◌, arith}
+use Rattle.std.proofs.Common.{◌≡◌, ◌<◌, ℕ, zero, suc, ◌+◌, Bool, true, false, cond, List, [], ◌∷◌, length, get_or, map, Some, None, refl}
+use Rattle.std.proofs.Common.{sym, ap, subst, ◌∙◌, arith}
 use Rattle.std.specs.Prelude.{filter, slice_get, Contains}
 use Rattle.std.proofs.lemmas.Bool.{true≢false}
 use Rattle.std.proofs.lemmas.List.Elements.{All-contains, All-contains_itself, All-filter, All-map, filter_passes}
@@ -71,7 +71,7 @@ module _ (group : Group) (stays : ℕ → Bool) where
   pub run_there : (run : LegRun) → Contains (runs_of group) run → stays run.lv ≡ true → Contains (runs_of other) (run_after stays run)
   run_there run within is =
       subst (λ (runs : List LegRun). Contains runs (run_after stays run)) (sym other_runs)
-          (kept_within (run_stays stays) (run_after stays) (runs_of group) run within is)
+      (kept_within (run_stays stays) (run_after stays) (runs_of group) run within is)
 
   -- a volume that stays, by its new number
   pub lv_there : (n : ℕ) (lv : Lv) → IsLv group n lv → stays n ≡ true → IsLv other (new stays n) (renumbered_lv (on_after stays) lv)

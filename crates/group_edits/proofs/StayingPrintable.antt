@@ -1,6 +1,6 @@
 -- A group without some volumes can be printed, where what the others lie on stays.
-use Rattle.std.proofs.Common.{◌≡◌, ◌≤◌, ◌<◌, ℕ, zero, suc, ◌+◌, Bool, true, false, ◌||◌, cond, List, [], ◌∷◌, get_or, map, Option, Some,
-    None, refl, sym, ap, subst, ◌∙◌, arith}
+use Rattle.std.proofs.Common.{◌≡◌, ◌≤◌, ◌<◌, ℕ, zero, suc, ◌+◌, Bool, true, false, ◌||◌, cond, List, [], ◌∷◌, get_or, map, Option, Some}
+use Rattle.std.proofs.Common.{None, refl, sym, ap, subst, ◌∙◌, arith}
 use Rattle.std.specs.Prelude.{nat_eq, option_map, slice_get}
 use Rattle.std.specs.Option.{option_or}
 use Rattle.std.specs.List.{AllByRecursion as Each, position, position_from}
@@ -49,16 +49,16 @@ module _ (stays : ℕ → Bool) where
   names_after n (row ∷ rows) taken fewer less are =
       by (stays n) refl
       (names_after (n + 1) rows (row.0 ∷ taken) (row.0 ∷ fewer)
-          (λ name none. let parts = both_false (pointwise nat_eq name row.0) (is_among taken name) none in or_from
-          (pointwise nat_eq name row.0) (is_among fewer name) parts.0 (less name parts.1)) are.2)
+      (λ name none. let parts = both_false (pointwise nat_eq name row.0) (is_among taken name) none in or_from
+      (pointwise nat_eq name row.0) (is_among fewer name) parts.0 (less name parts.1)) are.2)
       (names_after (n + 1) rows (row.0 ∷ taken) fewer
-          (λ name none. less name (both_false (pointwise nat_eq name row.0) (is_among taken name) none).1) are.2)
+      (λ name none. less name (both_false (pointwise nat_eq name row.0) (is_among taken name) none).1) are.2)
     where
       by : (b : Bool) → stays n ≡ b → AreNames (row.0 ∷ fewer) (names (rows_after stays (n + 1) rows))
           → AreNames fewer (names (rows_after stays (n + 1) rows)) → AreNames fewer (names (rows_after stays n (row ∷ rows)))
       by true is with_it without =
           subst (λ (l : List (List ℕ × Lv)). AreNames fewer (names l)) (sym (rows_staying stays n row rows is))
-              (are.0, less row.0 are.1, with_it)
+          (are.0, less row.0 are.1, with_it)
       by false is with_it without =
           subst (λ (l : List (List ℕ × Lv)). AreNames fewer (names l)) (sym (rows_going stays n row rows is)) without
 
@@ -73,7 +73,7 @@ module _ (stays : ℕ → Bool) where
   place_after p n i j at k [] is place stayed = absurd cc
   place_after p n i j at k (row ∷ rows) is place stayed =
       by (p row.0) refl is k place stayed (λ l after place' stayed'. place_after p (n + 1) (i + 1) l at after rows
-          (found (p row.0) refl is k place after place') place' stayed')
+      (found (p row.0) refl is k place after place') place' stayed')
     where
       found : (b : Bool) → p row.0 ≡ b → cond b (Some i) (position_from p (i + 1) (names rows)) ≡ Some at → (m : ℕ) → at ≡ i + m
           → (after : ℕ) → at ≡ i + 1 + after → position_from p (i + 1) (names rows) ≡ Some at
@@ -95,7 +95,7 @@ module _ (stays : ℕ → Bool) where
             q = 0;
             place =
                 ap (λ (l : List (List ℕ × Lv)). position_from p j (names l))
-                    (rows_staying stays n row rows (ap stays (sym here) ∙ stayed_m))
+                (rows_staying stays n row rows (ap stays (sym here) ∙ stayed_m))
                 ∙ ap (λ (b : Bool). cond b (Some j) (position_from p (j + 1) (names (rows_after stays (n + 1) rows)))) passes
                 ∙ ap (λ (x : ℕ). Some x) (let z : j ≡ j + 0 = omega arith in z);
             number = ap (new stays) here ∙ (let z : new stays n ≡ new stays n + 0 = omega arith in z);
@@ -149,34 +149,33 @@ module _ (group : Group) (stays : ℕ → Bool) where
   again (on.Pv n) stay found =
       let name : List ℕ = get_or (pv_names group) n [] in
       let place : position (pointwise nat_eq name) (pv_names group) ≡ Some n =
-          first_of (position (pointwise nat_eq name) (pv_names group)) (position (pointwise nat_eq name) (lv_names group)) n found in
+      first_of (position (pointwise nat_eq name) (pv_names group)) (position (pointwise nat_eq name) (lv_names group)) n found in
       (ap (λ (o : Option ℕ). option_or (on_pv o) (on_lv (position (pointwise nat_eq name) (lv_names rest)))) place, refl)
   again (on.Lv m) stay found =
       let name : List ℕ = get_or (lv_names group) m [] in
       let p : List ℕ → Bool = pointwise nat_eq name in
       let places : (position p (pv_names group) ≡ None) × (position p (lv_names group) ≡ Some m) =
-          second_of (position p (pv_names group)) (position p (lv_names group)) m found in
+      second_of (position p (pv_names group)) (position p (lv_names group)) m found in
       let at : 0 + m ≡ m = omega arith in
       let stayed : stays (0 + m) ≡ true = ap stays at ∙ stay.0 in
       let row : List ℕ × Lv = stay.1.0 in
       let named : name ≡ row.0 =
-          get_or_from_slice_get (lv_names group) m row.0 []
-              (slice_get-map (λ (x : List ℕ × Lv). x.0) group.lvs m ∙ ap (option_map (λ (x : List ℕ × Lv). x.0)) stay.1.1) in
+      get_or_from_slice_get (lv_names group) m row.0 []
+      (slice_get-map (λ (x : List ℕ × Lv). x.0) group.lvs m ∙ ap (option_map (λ (x : List ℕ × Lv). x.0)) stay.1.1) in
       let there = row_there stays 0 m group.lvs row stay.1.1 stayed in
       let at_new : there.0 ≡ new stays m = (let e : new stays (0 + m) ≡ there.0 = omega (arith, there.2) in sym e ∙ ap (new stays) at) in
       let same : get_or (lv_names rest) (new stays m) [] ≡ name =
       get_or_from_slice_get (lv_names rest) (new stays m) row.0 []
       (ap (slice_get (lv_names rest)) (sym at_new) ∙ slice_get-map (λ (x : List ℕ × Lv). x.0) (rows_after stays 0 group.lvs) there.0
-          ∙ ap (option_map (λ (x : List ℕ × Lv). x.0)) there.1)
+      ∙ ap (option_map (λ (x : List ℕ × Lv). x.0)) there.1)
       ∙ sym named
       in
       let placed : IsPlaced stays p 0 0 m group.lvs =
-          place_after stays p 0 0 0 m m group.lvs (sym (position_from-zero p (lv_names group)) ∙ places.1) (sym at) stayed in
+      place_after stays p 0 0 0 m m group.lvs (sym (position_from-zero p (lv_names group)) ∙ places.1) (sym at) stayed in
       let number : 0 + placed.q ≡ new stays m =
-          (let e : new stays (0 + m) ≡ 0 + placed.q = omega (arith, placed.number) in sym e ∙ ap (new stays) at) in
+      (let e : new stays (0 + m) ≡ 0 + placed.q = omega (arith, placed.number) in sym e ∙ ap (new stays) at) in
       let place : position p (lv_names rest) ≡ Some (new stays m) =
-          position_from-zero p (lv_names rest) ∙ placed.place ∙ ap (λ (x : ℕ). Some x) number in
-      (
+      position_from-zero p (lv_names rest) ∙ placed.place ∙ ap (λ (x : ℕ). Some x) number in (
         ap (on_named (names_of rest)) same
             ∙ ap (λ (o : Option ℕ). option_or (on_pv o) (on_lv (position p (lv_names rest)))) places.0
             ∙ ap (λ (o : Option ℕ). on_lv o) place,
@@ -190,18 +189,21 @@ module _ (group : Group) (stays : ℕ → Bool) where
   each_lv n [] stay are = tt
   each_lv n (row ∷ rows) stay are =
       by (stays n) refl (each_lv (n + 1) rows (λ k r s segment j leg there stayed is at. stay (suc k) r s segment j leg there
-          (ap stays (across k) ∙ stayed) is at) are.1) where
-    across : (k : ℕ) → n + suc k ≡ n + 1 + k
-    across k = omega arith
+      (ap stays (across k) ∙ stayed) is at) are.1) where
+        across : (k : ℕ) → n + suc k ≡ n + 1 + k
+        across k = omega arith
 
-    by : (b : Bool) → stays n ≡ b → Each (λ (lv : List ℕ × Lv). IsLv rest lv.1) (rows_after stays (n + 1) rows)
-        → Each (λ (lv : List ℕ × Lv). IsLv rest lv.1) (rows_after stays n (row ∷ rows))
-    by true is later =
-        subst (Each (λ (lv : List ℕ × Lv). IsLv rest lv.1)) (sym (rows_staying stays n row rows is))
-        (lv_kept group rest (on_after stays) IsStaying again row.1
-            (λ s segment there j leg at. stay zero row s segment j leg refl (ap stays (let e : n + 0 ≡ n = omega arith in e) ∙ is) there at)
-            are.0, later)
-    by false is later = subst (Each (λ (lv : List ℕ × Lv). IsLv rest lv.1)) (sym (rows_going stays n row rows is)) later
+        by : (b : Bool) → stays n ≡ b → Each (λ (lv : List ℕ × Lv). IsLv rest lv.1) (rows_after stays (n + 1) rows)
+            → Each (λ (lv : List ℕ × Lv). IsLv rest lv.1) (rows_after stays n (row ∷ rows))
+        by true is later =
+            subst (Each (λ (lv : List ℕ × Lv). IsLv rest lv.1)) (sym (rows_staying stays n row rows is)) (
+              lv_kept group rest (on_after stays) IsStaying again row.1
+                  (λ s segment there j leg at. stay zero row s segment j leg refl (ap stays (let e : n + 0 ≡ n = omega arith in e) ∙ is)
+                  there at)
+                  are.0,
+              later,
+            )
+        by false is later = subst (Each (λ (lv : List ℕ × Lv). IsLv rest lv.1)) (sym (rows_going stays n row rows is)) later
 
   pub staying_printable : ((k : ℕ) (row : List ℕ × Lv) (s : ℕ) (segment : Segment) (j : ℕ) (leg : Leg) → slice_get group.lvs k ≡ Some row
       → stays (0 + k) ≡ true → slice_get row.1.segments s ≡ Some segment → slice_get (legs_of segment.kind) j ≡ Some leg → IsStaying leg.on)

@@ -1,6 +1,6 @@
 -- Which row stands where among the volumes that stay.
-use Rattle.std.proofs.Common.{◌≡◌, ◌≤◌, ◌<◌, ℕ, zero, suc, ◌+◌, ◌-◌, Bool, true, false, List, [], ◌∷◌, Some, inl, inr, refl, sym, ap, ◌∙◌,
-    arith}
+use Rattle.std.proofs.Common.{◌≡◌, ◌≤◌, ◌<◌, ℕ, zero, suc, ◌+◌, ◌-◌, Bool, true, false, List, [], ◌∷◌, Some, inl, inr, refl, sym, ap, ◌∙◌}
+use Rattle.std.proofs.Common.{arith}
 use Rattle.std.specs.Prelude.{slice_get}
 use Rattle.std.proofs.lemmas.Bool.{cases_order}
 use Rattle.std.proofs.lemmas.Option.{same_Some}
@@ -76,12 +76,12 @@ module _ (stays : ℕ → Bool) where
       stayed = ap stays (let e : n + 0 ≡ n = omega arith in e) ∙ first;
       row_is =
           sym (same_Some (renumbered_row (on_after stays) x) row
-              (sym (ap (λ (l : List (List ℕ × Lv)). slice_get l 0) (rows_staying stays n x rows first)) ∙ at));
+          (sym (ap (λ (l : List (List ℕ × Lv)). slice_get l 0) (rows_staying stays n x rows first)) ∙ at));
       number = ap (new stays) (let e : n + 0 ≡ n = omega arith in e) ∙ (let e : new stays n ≡ new stays n + 0 = omega arith in e);
     }
     by true first (suc p) at later =
         let was : IsFrom (n + 1) p rows row =
-            later p (sym (ap (λ (l : List (List ℕ × Lv)). slice_get l (suc p)) (rows_staying stays n x rows first)) ∙ at) in
+        later p (sym (ap (λ (l : List (List ℕ × Lv)). slice_get l (suc p)) (rows_staying stays n x rows first)) ∙ at) in
         let step : new stays (n + 1) ≡ new stays n + 1 = sym (ap (new stays) more) ∙ next_staying stays n first in
         let place : n + suc was.k ≡ n + 1 + was.k = omega arith in
         record {
@@ -94,7 +94,7 @@ module _ (stays : ℕ → Bool) where
         }
     by false first p at later =
         let was : IsFrom (n + 1) p rows row =
-            later p (sym (ap (λ (l : List (List ℕ × Lv)). slice_get l p) (rows_going stays n x rows first)) ∙ at) in
+        later p (sym (ap (λ (l : List (List ℕ × Lv)). slice_get l p) (rows_going stays n x rows first)) ∙ at) in
         let step : new stays (n + 1) ≡ new stays n = sym (ap (new stays) more) ∙ next_going stays n first in
         let place : n + suc was.k ≡ n + 1 + was.k = omega arith in
         record {
@@ -118,10 +118,10 @@ module _ (stays : ℕ → Bool) where
     by : (b : Bool) → stays (a + d) ≡ b → new stays a ≤ new stays (a + d) → new stays a ≤ new stays (a + suc d)
     by true is so_far =
         let e : new stays (a + suc d) ≡ new stays (a + d) + 1 = sym (ap (new stays) place)
-            ∙ next_staying stays (a + d) is in omega (arith, e, so_far)
+        ∙ next_staying stays (a + d) is in omega (arith, e, so_far)
     by false is so_far =
         let e : new stays (a + suc d) ≡ new stays (a + d) = sym (ap (new stays) place)
-            ∙ next_going stays (a + d) is in omega (arith, e, so_far)
+        ∙ next_going stays (a + d) is in omega (arith, e, so_far)
 
   pub new_below : (a b : ℕ) → stays a ≡ true → a < b → new stays a < new stays b
   new_below a b is less =

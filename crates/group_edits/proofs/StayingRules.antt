@@ -1,13 +1,13 @@
 -- A group without some volumes keeps all rules, where what the others lie on stays.
-use Rattle.std.proofs.Common.{◌≡◌, ◌≢◌, ◌≤◌, ◌<◌, ◌⊎◌, ℕ, zero, suc, ◌+◌, Bool, true, false, cond, List, [], ◌∷◌, ◌++◌, length, get_or, map,
-    Some, None, inl, inr, refl, sym, ap, subst, ◌∙◌, arith}
+use Rattle.std.proofs.Common.{◌≡◌, ◌≢◌, ◌≤◌, ◌<◌, ◌⊎◌, ℕ, zero, suc, ◌+◌, Bool, true, false, cond, List, [], ◌∷◌, ◌++◌, length, get_or, map}
+use Rattle.std.proofs.Common.{Some, None, inl, inr, refl, sym, ap, subst, ◌∙◌, arith}
 use Rattle.std.specs.Prelude.{filter, nat_eq, sum_by, All, AllPairs, Contains}
 use Rattle.std.specs.List.{AllByRecursion as Each}
 use Rattle.std.proofs.lemmas.Bool.{eq-eqb}
 use Rattle.std.proofs.lemmas.Bool.Decides.{nat_tests}
 use Rattle.std.proofs.lemmas.List.{length-map}
-use Rattle.std.proofs.lemmas.List.Elements.{All-cons, All-contains, All-contains_itself, All-filter, All-from_recursion, All-head, All-map,
-    All-nil, All-tail, filter_passes, recursion_from_All}
+use Rattle.std.proofs.lemmas.List.Elements.{All-cons, All-contains, All-contains_itself, All-filter, All-from_recursion, All-head, All-map}
+use Rattle.std.proofs.lemmas.List.Elements.{All-nil, All-tail, filter_passes, recursion_from_All}
 use Rattle.std.proofs.lemmas.List.Kept.{AllPairs-cons, AllPairs-filter}
 use Rattle.std.proofs.lemmas.List.Sums.{sum_by-cons}
 use Rattle.std.proofs.lemmas.Option.{same_Some}
@@ -22,12 +22,12 @@ use Rattle.volume_rules.proofs.LegRuns.{contains_first, contains_later}
 use Rattle.volume_rules.specs.Depths.{load}
 use Rattle.volume_rules.specs.Legs.{IsUsed, IsWayDown, LegRun, LieApart, LiesOn, runs_of}
 use Rattle.volume_rules.specs.Moving.{lv_number}
-use Rattle.volume_rules.specs.Rules.{IsAccepted, IsMove, IsMoveFrom, IsMoving, IsPvmove, Keeps, LiesWithin, LvIsSmall, counts, ids_of,
-    pvmove_number}
-use Rattle.volume_rules.specs.declared.rule.Rule.TheVariants.{Numbers, Ids, Volumes, Segments, Extents, Follows, Stripes, Mirrors, Within,
-    Apart, Depth, Moved, Pvmove, Locked}
-use Rattle.group_edits.proofs.Renumbered.{AreMirrors, AreMoved, AreStriped, FollowTo, are_mirrors, are_moved, are_striped, each_segment,
-    extents_same, follows, segments_count, small_lv}
+use Rattle.volume_rules.specs.Rules.{IsAccepted, IsMove, IsMoveFrom, IsMoving, IsPvmove, Keeps, LiesWithin, LvIsSmall, counts, ids_of}
+use Rattle.volume_rules.specs.Rules.{pvmove_number}
+use Rattle.volume_rules.specs.declared.rule.Rule.TheVariants.{Numbers, Ids, Volumes, Segments, Extents, Follows, Stripes, Mirrors, Within}
+use Rattle.volume_rules.specs.declared.rule.Rule.TheVariants.{Apart, Depth, Moved, Pvmove, Locked}
+use Rattle.group_edits.proofs.Renumbered.{AreMirrors, AreMoved, AreStriped, FollowTo, are_mirrors, are_moved, are_striped, each_segment}
+use Rattle.group_edits.proofs.Renumbered.{extents_same, follows, segments_count, small_lv}
 use Rattle.group_edits.proofs.Staying.{new, next_going, next_staying, rows_after, rows_going, rows_staying, run_after, run_stays}
 use Rattle.group_edits.proofs.StayingLegs.{LaidOn, WasLv, lies_from, lies_there, lv_from, lv_there, other_runs, run_there}
 use Rattle.group_edits.proofs.StayingRows.{new_apart}
@@ -68,7 +68,7 @@ some_pairs R [] ys some pairs = λ i j d before within. absurd (omega (arith, be
 some_pairs R (x ∷ xs) [] some pairs = absurd some
 some_pairs R (x ∷ xs) (y ∷ ys) (inl here) pairs =
     AllPairs-cons R x xs (some_all (R x) xs ys here.1 (subst (λ z. All (R z) ys) (sym here.0) (pairs_first R y ys pairs)))
-        (some_pairs R xs ys here.1 (pairs_later R y ys pairs))
+    (some_pairs R xs ys here.1 (pairs_later R y ys pairs))
 some_pairs R (x ∷ xs) (y ∷ ys) (inr later) pairs = some_pairs R (x ∷ xs) ys later (pairs_later R y ys pairs)
 
 each_by : {X Y : Type 0} (R : X → X → Type 0) (Q : Y → Y → Type 0) (Good : X → Type 0) (g : X → Y)
@@ -84,7 +84,7 @@ map_pairs R Q Good g by [] good pairs = λ i j d before within. absurd (omega (a
 map_pairs R Q Good g by (x ∷ xs) good pairs =
     AllPairs-cons Q (g x) (map g xs)
     (All-map (Q (g x)) g xs (All-from_recursion (λ y. Q (g x) (g y)) xs
-        (each_by R Q Good g by x good.0 xs good.1 (recursion_from_All (R x) xs (pairs_first R x xs pairs)))))
+    (each_by R Q Good g by x good.0 xs good.1 (recursion_from_All (R x) xs (pairs_first R x xs pairs)))))
     (map_pairs R Q Good g by xs good.1 (pairs_later R x xs pairs))
 
 pub contains_map : {X Y : Type 0} (g : X → Y) (xs : List X) (x : X) (k : ℕ) → k < length xs → get_or xs k x ≡ x → Contains (map g xs) (g x)
@@ -116,10 +116,10 @@ module _ (stays : ℕ → Bool) where
         → AreSome (map g (rows_after stays n (row ∷ rows))) (g row ∷ map g rows)
     by true is later =
         subst (λ (l : List (List ℕ × Lv)). AreSome (map g l) (g row ∷ map g rows)) (sym (rows_staying stays n row rows is))
-            (inl (same row, later))
+        (inl (same row, later))
     by false is later =
         subst (λ (l : List (List ℕ × Lv)). AreSome (map g l) (g row ∷ map g rows)) (sym (rows_going stays n row rows is))
-            (skip (g row) (map g (rows_after stays (n + 1) rows)) (map g rows) later)
+        (skip (g row) (map g (rows_after stays (n + 1) rows)) (map g rows) later)
 
   count_after : (n : ℕ) (rows : List (List ℕ × Lv)) → length (rows_after stays n rows) ≤ length rows
   count_after n [] = omega arith
@@ -137,9 +137,9 @@ module _ (stays : ℕ → Bool) where
         → sum_by g (rows_after stays n (row ∷ rows)) ≤ sum_by g (row ∷ rows)
     by true is later =
         let e : sum_by g (rows_after stays n (row ∷ rows))
-            ≡ g (renumbered_row (on_after stays) row) + sum_by g (rows_after stays (n + 1) rows) =
+        ≡ g (renumbered_row (on_after stays) row) + sum_by g (rows_after stays (n + 1) rows) =
         ap (sum_by g) (rows_staying stays n row rows is)
-            ∙ sum_by-cons g (renumbered_row (on_after stays) row) (rows_after stays (n + 1) rows)
+        ∙ sum_by-cons g (renumbered_row (on_after stays) row) (rows_after stays (n + 1) rows)
         in
         omega (arith, e, same row, later, sum_by-cons g row rows)
     by false is later = let e = ap (sum_by g) (rows_going stays n row rows is) in omega (arith, e, later, sum_by-cons g row rows)
@@ -166,28 +166,28 @@ module _ (stays : ℕ → Bool) where
     by true has stayed later =
         let e : pvmove_number (rows_after stays n (row ∷ rows)) ≡ 0 =
         ap pvmove_number (rows_staying stays n row rows (ap stays (sym here) ∙ stayed))
-            ∙ ap (λ (b : Bool). cond b 0 (pvmove_number (rows_after stays (n + 1) rows) + 1)) has
+        ∙ ap (λ (b : Bool). cond b 0 (pvmove_number (rows_after stays (n + 1) rows) + 1)) has
         in
         ap (λ (m : ℕ). m + new stays n) e ∙ (let z : 0 + new stays n ≡ new stays n = omega arith in z) ∙ ap (new stays) (sym here)
-            ∙ ap (λ (b : Bool). new stays (n + cond b 0 (p + 1))) (sym has)
+        ∙ ap (λ (b : Bool). new stays (n + cond b 0 (p + 1))) (sym has)
     by false has stayed later =
         step (stays n) refl (later (ap stays (sym place) ∙ stayed)) ∙ ap (new stays) (sym place)
-            ∙ ap (λ (b : Bool). new stays (n + cond b 0 (p + 1))) (sym has) where
-      step : (b : Bool) → stays n ≡ b → pvmove_number (rows_after stays (n + 1) rows) + new stays (n + 1) ≡ new stays (n + 1 + p)
-          → pvmove_number (rows_after stays n (row ∷ rows)) + new stays n ≡ new stays (n + 1 + p)
-      step true first rest =
-          let e : pvmove_number (rows_after stays n (row ∷ rows)) ≡ pvmove_number (rows_after stays (n + 1) rows) + 1 =
-          ap pvmove_number (rows_staying stays n row rows first)
+        ∙ ap (λ (b : Bool). new stays (n + cond b 0 (p + 1))) (sym has) where
+          step : (b : Bool) → stays n ≡ b → pvmove_number (rows_after stays (n + 1) rows) + new stays (n + 1) ≡ new stays (n + 1 + p)
+              → pvmove_number (rows_after stays n (row ∷ rows)) + new stays n ≡ new stays (n + 1 + p)
+          step true first rest =
+              let e : pvmove_number (rows_after stays n (row ∷ rows)) ≡ pvmove_number (rows_after stays (n + 1) rows) + 1 =
+              ap pvmove_number (rows_staying stays n row rows first)
               ∙ ap (λ (b : Bool). cond b 0 (pvmove_number (rows_after stays (n + 1) rows) + 1)) has
-          in
-          let s : new stays (n + 1) ≡ new stays n + 1 = sym (ap (new stays) more) ∙ next_staying stays n first in
-          (let z : pvmove_number (rows_after stays n (row ∷ rows)) + new stays n
+              in
+              let s : new stays (n + 1) ≡ new stays n + 1 = sym (ap (new stays) more) ∙ next_staying stays n first in
+              (let z : pvmove_number (rows_after stays n (row ∷ rows)) + new stays n
               ≡ pvmove_number (rows_after stays (n + 1) rows) + new stays (n + 1) = omega (arith, e, s) in z) ∙ rest
-      step false first rest =
-          let e : pvmove_number (rows_after stays n (row ∷ rows)) ≡ pvmove_number (rows_after stays (n + 1) rows) =
+          step false first rest =
+              let e : pvmove_number (rows_after stays n (row ∷ rows)) ≡ pvmove_number (rows_after stays (n + 1) rows) =
               ap pvmove_number (rows_going stays n row rows first) in
-          let s : new stays (n + 1) ≡ new stays n = sym (ap (new stays) more) ∙ next_going stays n first in
-          (let z : pvmove_number (rows_after stays n (row ∷ rows)) + new stays n
+              let s : new stays (n + 1) ≡ new stays n = sym (ap (new stays) more) ∙ next_going stays n first in
+              (let z : pvmove_number (rows_after stays n (row ∷ rows)) + new stays n
               ≡ pvmove_number (rows_after stays (n + 1) rows) + new stays (n + 1) = omega (arith, e, s) in z) ∙ rest
 
   -- ---- segments
@@ -214,7 +214,7 @@ module _ (group : Group) (stays : ℕ → Bool) (closed : (n m : ℕ) → stays 
     pvs = (accepted Numbers).pvs;
     lvs =
         all_after stays (λ (row : List ℕ × Lv). LvIsSmall row.1) (λ (row : List ℕ × Lv). LvIsSmall row.1)
-            (λ row is. small_lv (on_after stays) row.1 is) group.lvs (accepted Numbers).lvs;
+        (λ row is. small_lv (on_after stays) row.1 is) group.lvs (accepted Numbers).lvs;
   }
 
   ids_kept : Keeps rest Ids
@@ -239,11 +239,15 @@ module _ (group : Group) (stays : ℕ → Bool) (closed : (n m : ℕ) → stays 
   segments_kept : Keeps rest Segments
   segments_kept = record {
     few = let few = (accepted Segments).few in
-        omega (arith, few, sum_after stays (λ (lv : List ℕ × Lv). length lv.1.segments)
-            (λ (row : List ℕ × Lv). segments_count (on_after stays) row.1) 0 group.lvs);
+        omega (
+          arith,
+          few,
+          sum_after stays (λ (lv : List ℕ × Lv). length lv.1.segments)
+              (λ (row : List ℕ × Lv). segments_count (on_after stays) row.1) 0 group.lvs,
+        );
     some = all_after stays (λ (lv : List ℕ × Lv). 1 ≤ length lv.1.segments) (λ (lv : List ℕ × Lv). 1 ≤ length lv.1.segments)
         (λ (row : List ℕ × Lv) is. (let e = segments_count (on_after stays) row.1 in omega (arith, e, is))) group.lvs
-            (accepted Segments).some;
+        (accepted Segments).some;
   }
 
   follows_kept : Keeps rest Follows
@@ -254,7 +258,7 @@ module _ (group : Group) (stays : ℕ → Bool) (closed : (n m : ℕ) → stays 
   stripes_kept : Keeps rest Stripes
   stripes_kept =
       all_after stays (λ (row : List ℕ × Lv). AreStriped group.extent_size row.1)
-          (λ (row : List ℕ × Lv). AreStriped group.extent_size row.1)
+      (λ (row : List ℕ × Lv). AreStriped group.extent_size row.1)
       (λ row is. are_striped (on_after stays) group.extent_size row.1 is) group.lvs (accepted Stripes)
 
   mirrors_kept : Keeps rest Mirrors
@@ -278,25 +282,31 @@ module _ (group : Group) (stays : ℕ → Bool) (closed : (n m : ℕ) → stays 
 
   on_staying : All IsOnStaying kept_runs
   on_staying k d within m is =
-      closed (get_or kept_runs k d).lv m (filter_passes (run_stays stays) (runs_of group) k d within)
-      (get_or kept_runs k d, All-filter (run_stays stays) (Contains (runs_of group)) (runs_of group) (All-contains_itself (runs_of group)) k
-          d within, refl, is)
+      closed (get_or kept_runs k d).lv m (filter_passes (run_stays stays) (runs_of group) k d within) (
+        get_or kept_runs k d,
+        All-filter (run_stays stays) (Contains (runs_of group)) (runs_of group) (All-contains_itself (runs_of group)) k
+            d within,
+        refl,
+        is,
+      )
 
   within_kept : Keeps rest Within
   within_kept =
       subst (All (λ (run : LegRun). LiesWithin rest run.on (run.first + run.count))) (sym (other_runs group stays))
       (All-map (λ (run : LegRun). LiesWithin rest run.on (run.first + run.count)) (run_after stays) kept_runs
       (λ k d within. by (get_or kept_runs k d).on ((get_or kept_runs k d).first + (get_or kept_runs k d).count)
-          (λ m is. on_staying k d within m is)
+      (λ m is. on_staying k d within m is)
       (All-filter (run_stays stays) (λ (run : LegRun). LiesWithin group run.on (run.first + run.count)) (runs_of group) (accepted Within) k
-          d within)))
+      d within)))
     where
       by : (is : On) (end : ℕ) → ((m : ℕ) → is ≡ on.Lv m → stays m ≡ true) → LiesWithin group is end
           → LiesWithin rest (on_after stays is) end
       by (on.Pv pv) end on_stays lies = lies
-      by (on.Lv m) end on_stays lies =
-          (renumbered_lv (on_after stays) lies.0, lv_there group stays m lies.0 lies.1 (on_stays m refl),
-              subst (λ (n : ℕ). end ≤ n) (sym (extents_same (on_after stays) lies.0)) lies.2)
+      by (on.Lv m) end on_stays lies = (
+        renumbered_lv (on_after stays) lies.0,
+        lv_there group stays m lies.0 lies.1 (on_stays m refl),
+        subst (λ (n : ℕ). end ≤ n) (sym (extents_same (on_after stays) lies.0)) lies.2,
+      )
 
   lv_same : (a b : ℕ) → on.Lv a ≡ on.Lv b → a ≡ b
   lv_same a b same = same_Some a b (ap lv_number same)
@@ -318,9 +328,9 @@ module _ (group : Group) (stays : ℕ → Bool) (closed : (n m : ℕ) → stays 
       subst (AllPairs LieApart) (sym (other_runs group stays))
       (map_pairs LieApart LieApart IsOnStaying (run_after stays)
       (λ a b on_a on_b apart on extent in_a in_b. apart a.on extent (refl, in_a.1, in_a.2)
-          (sym (on_apart a.on b.on on_a on_b (in_a.0 ∙ sym in_b.0)), in_b.1, in_b.2))
+      (sym (on_apart a.on b.on on_a on_b (in_a.0 ∙ sym in_b.0)), in_b.1, in_b.2))
       kept_runs (recursion_from_All IsOnStaying kept_runs on_staying)
-          (AllPairs-filter LieApart (run_stays stays) (runs_of group) (accepted Apart)))
+      (AllPairs-filter LieApart (run_stays stays) (runs_of group) (accepted Apart)))
 
   -- ---- ways
 
@@ -380,9 +390,9 @@ module _ (group : Group) (stays : ℕ → Bool) (closed : (n m : ℕ) → stays 
         let laid : LaidOn group stays a b = lies_from group stays a b lies in
         let was : WasLv group stays b is.0 volume = lv_from group stays b is.0 volume is.1 in
         let same : laid.m ≡ was.n =
-            new_apart stays laid.m was.n (closed laid.n laid.m laid.stayed laid.lies) was.stayed (laid.lower ∙ sym was.number) in
+        new_apart stays laid.m was.n (closed laid.n laid.m laid.stayed laid.lies) was.stayed (laid.lower ∙ sym was.number) in
         ap (λ (lv : Lv). lv.status.visible) was.lv_is
-            ∙ (accepted Depth).hidden laid.n was.n was.was (subst (LiesOn group laid.n) same laid.lies) (is.0, was.there);
+        ∙ (accepted Depth).hidden laid.n was.n was.was (subst (LiesOn group laid.n) same laid.lies) (is.0, was.there);
     ends = λ a way down. ends_by a way down;
     few = λ a way down. few_by a way down;
   } where
@@ -391,7 +401,7 @@ module _ (group : Group) (stays : ℕ → Bool) (closed : (n m : ℕ) → stays 
     ends_by a (b ∷ more) down =
         let laid : LaidOn group stays a b = lies_from group stays a b down.0 in
         let was : WasWay laid.n (b ∷ more) =
-            way_from laid.n laid.stayed (b ∷ more) (subst (λ (x : ℕ). IsWayDown rest (x ∷ b ∷ more)) (sym laid.upper) down) in
+        way_from laid.n laid.stayed (b ∷ more) (subst (λ (x : ℕ). IsWayDown rest (x ∷ b ∷ more)) (sym laid.upper) down) in
         let most : length was.was ≤ 4 = (accepted Depth).ends laid.n was.was was.is_way in
         let e : length (map (new stays) was.was) ≡ length (b ∷ more) = ap (λ (l : List ℕ). length l) was.same in
         omega (arith, most, e, length-map was.was (new stays))
@@ -401,7 +411,7 @@ module _ (group : Group) (stays : ℕ → Bool) (closed : (n m : ℕ) → stays 
     few_by a (b ∷ more) down =
         let laid : LaidOn group stays a b = lies_from group stays a b down.0 in
         let was : WasWay laid.n (b ∷ more) =
-            way_from laid.n laid.stayed (b ∷ more) (subst (λ (x : ℕ). IsWayDown rest (x ∷ b ∷ more)) (sym laid.upper) down) in
+        way_from laid.n laid.stayed (b ∷ more) (subst (λ (x : ℕ). IsWayDown rest (x ∷ b ∷ more)) (sym laid.upper) down) in
         let most : load (counts group) was.was ≤ 3 = (accepted Depth).few laid.n was.was was.is_way in
         let e : load (counts rest) (map (new stays) was.was) ≡ load (counts rest) (b ∷ more) = ap (load (counts rest)) was.same in
         omega (arith, most, e, load_less was.was was.stay)
@@ -427,17 +437,21 @@ module _ (group : Group) (stays : ℕ → Bool) (closed : (n m : ℕ) → stays 
           hidden = move.hidden;
           locked = move.locked;
           named = move.named;
-          from_one =
-              (move.from_one.0, each_segment (on_after stays) (λ segment. IsMoveFrom move.from_one.0 segment.kind)
-                  (λ segment. IsMoveFrom move.from_one.0 segment.kind) (λ segment from. move_from stays move.from_one.0 segment.kind from)
-                  was.was move.from_one.1);
+          from_one = (
+            move.from_one.0,
+            each_segment (on_after stays) (λ segment. IsMoveFrom move.from_one.0 segment.kind)
+                (λ segment. IsMoveFrom move.from_one.0 segment.kind) (λ segment from. move_from stays move.from_one.0 segment.kind from)
+                was.was move.from_one.1,
+          );
           stands_in_legs = λ extent below.
               let used : IsUsed group (on.Lv was.n) extent =
-                  move.stands_in_legs extent (subst (λ (n : ℕ). extent < n) (extents_same (on_after stays) was.was) below) in
+              move.stands_in_legs extent (subst (λ (n : ℕ). extent < n) (extents_same (on_after stays) was.was) below) in
               let stayed : stays used.0.lv ≡ true =
-                  upper used.0.lv was.n (used.0, used.1, refl, used.2.0) (was.was, (name, was.there), pvmove) in
-              (run_after stays used.0, run_there group stays used.0 used.1 stayed,
-                  (ap (on_after stays) used.2.0 ∙ ap (λ (n : ℕ). on.Lv n) was.number, used.2.1, used.2.2));
+              upper used.0.lv was.n (used.0, used.1, refl, used.2.0) (was.was, (name, was.there), pvmove) in (
+                run_after stays used.0,
+                run_there group stays used.0 used.1 stayed,
+                (ap (on_after stays) used.2.0 ∙ ap (λ (n : ℕ). on.Lv n) was.number, used.2.1, used.2.2),
+              );
         });
   }
 
@@ -445,12 +459,12 @@ module _ (group : Group) (stays : ℕ → Bool) (closed : (n m : ℕ) → stays 
   locked_kept m lv is has =
       let was : WasLv group stays m is.0 lv = lv_from group stays m is.0 lv is.1 in
       let moving : IsMoving group was.n =
-          (accepted Locked) was.n was.was (is.0, was.there) (sym (ap (λ (v : Lv). v.status.locked) was.lv_is) ∙ has) in
+      (accepted Locked) was.n was.was (is.0, was.there) (sym (ap (λ (v : Lv). v.status.locked) was.lv_is) ∙ has) in
       let there = way_there was.n was.stayed moving.0 moving.1 in
       let all : Each (λ n. stays n ≡ true) (was.n ∷ moving.0) = (was.stayed, there.1) in
       let last_stays : stays moving.2.0 ≡ true =
-          All-contains (λ n. stays n ≡ true) (was.n ∷ moving.0) moving.2.0 (All-from_recursion (λ n. stays n ≡ true) (was.n ∷ moving.0) all)
-              moving.2.1 in
+      All-contains (λ n. stays n ≡ true) (was.n ∷ moving.0) moving.2.0 (All-from_recursion (λ n. stays n ≡ true) (was.n ∷ moving.0) all)
+      moving.2.1 in
       let last : IsPvmove group moving.2.0 = moving.2.2 in
       subst (IsMoving rest) was.number (
         map (new stays) moving.0,

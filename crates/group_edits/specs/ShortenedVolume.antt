@@ -1,6 +1,6 @@
 -- A group in which a logical volume has its first extents alone (lvreduce(8)).
-use Rattle.std.specs.Prelude.{◌≡◌, ◌≤◌, ◌<◌, ℕ, zero, suc, ◌+◌, ◌-◌, ◌*◌, ◌/◌, ◌%◌, Bool, false, min, nat_le, if◌then◌else◌, is_some, List,
-    [], ◌∷◌, length}
+use Rattle.std.specs.Prelude.{◌≡◌, ◌≤◌, ◌<◌, ℕ, zero, suc, ◌+◌, ◌-◌, ◌*◌, ◌/◌, ◌%◌, Bool, false, min, nat_le, if◌then◌else◌, is_some, List}
+use Rattle.std.specs.Prelude.{[], ◌∷◌, length}
 use Rattle.std.specs.List.{list_any}
 use Rattle.meta_model.specs.Runs.{legs_of}
 use Rattle.meta_model.specs.declared.group.Group.{Group}
@@ -38,7 +38,7 @@ front_of [] count = []
 front_of (segment ∷ segments) zero = []
 front_of (segment ∷ segments) (suc count) =
     if nat_le (suc count) segment.count then (record segment { count = suc count }) ∷ [] else segment
-        ∷ front_of segments (suc count - segment.count)
+    ∷ front_of segments (suc count - segment.count)
 
 -- the leg lies on a logical volume
 abbrev pub is_on_lv : Leg → Bool

@@ -1,6 +1,6 @@
 -- The lines that commit the next version of the group in force to its own disks, and write no label.
-use Rattle.std.proofs.Common.{◌≡◌, ◌≤◌, ◌<◌, ℕ, ◌+◌, ◌^◌, Bool, true, false, List, [], ◌∷◌, ◌++◌, length, Option, Some, None, refl, sym, ap,
-    subst, arith}
+use Rattle.std.proofs.Common.{◌≡◌, ◌≤◌, ◌<◌, ℕ, ◌+◌, ◌^◌, Bool, true, false, List, [], ◌∷◌, ◌++◌, length, Option, Some, None, refl, sym, ap}
+use Rattle.std.proofs.Common.{subst, arith}
 use Rattle.std.specs.Prelude.{is_some, option_and_then, option_map, unwrap_or, IsSomeAnd}
 use Rattle.std.specs.Option.{option_map_or}
 use Rattle.std.specs.FinSet as set
@@ -185,8 +185,8 @@ remove_next state path now None there none = absurd cc
 remove_next state path now (Some group) there none =
     let parts = none_holds (remove_in_rows state path now group) none in
     let seen =
-        named_on group path.lv (remove_lv_rows state path.lv now group) (visible_named group path.lv) refl
-            (front_passes (named_rows group path.vg) (rows_on group path.lv (remove_lv_rows state path.lv now group)) none) in
+    named_on group path.lv (remove_lv_rows state path.lv now group) (visible_named group path.lv) refl
+    (front_passes (named_rows group path.vg) (rows_on group path.lv (remove_lv_rows state path.lv now group)) none) in
     let rows = none_holds (remove_lv_rows state path.lv now group seen.0) seen.2 in
     record {
       old = group;
@@ -195,7 +195,7 @@ remove_next state path now (Some group) there none =
       zero = [];
       change_is =
           ap (λ (o : Option (ℕ × Lv)). option_map_or (λ (v : ℕ × Lv). version_change state (without_volume group v.0)) o (no_change state))
-              seen.1;
+          seen.1;
       same_id = refl;
       next_seqno = refl;
       same_pvs = refl;
@@ -203,7 +203,7 @@ remove_next state path now (Some group) there none =
       fits = rows.1.1.1.0;
       whole =
           λ state_is accepted tree time. removed_whole group seen.0.0 (named_is_visible group path.lv seen.0 seen.1)
-              (not_locked group path.lv seen.0.0 rows.0) (seqno_left group rows.1.1.0) accepted tree;
+          (not_locked group path.lv seen.0.0 rows.0) (seqno_left group rows.1.1.0) accepted tree;
     }
 
 reduce_next : (state : GroupState) (path : Path) (amount : Amount) (now : ℕ) → IsAmount amount → (o : Option Group) → state.group ≡ o
@@ -213,7 +213,7 @@ reduce_next state path amount now planned None there none = absurd cc
 reduce_next state path amount now planned (Some group) there none =
     let seen =
     named_on group path.lv (reduce_lv_rows state path.lv amount now group) (visible_named group path.lv) refl
-        (front_passes (named_rows group path.vg) (rows_on group path.lv (reduce_lv_rows state path.lv amount now group)) none)
+    (front_passes (named_rows group path.vg) (rows_on group path.lv (reduce_lv_rows state path.lv amount now group)) none)
     in
     let rows = none_holds (reduce_lv_rows state path.lv amount now group seen.0) seen.2 in
     let said : ℕ = extents_for group.extent_size amount in
@@ -224,7 +224,7 @@ reduce_next state path amount now planned (Some group) there none =
       zero = [];
       change_is =
           ap (λ (o : Option (ℕ × Lv)). option_map_or (λ (v : ℕ × Lv). version_change state (reduced_group path.lv amount group v.1)) o
-              (no_change state)) seen.1;
+          (no_change state)) seen.1;
       same_id = refl;
       next_seqno = refl;
       same_pvs = refl;
@@ -263,18 +263,18 @@ extend_next : (state : GroupState) (path : Path) (growth : Growth) (pvs : List (
 extend_next state path growth pvs now given planned None there takes none = absurd cc
 extend_next state path growth pvs now given planned (Some group) there takes none =
     let back : ℕ × Lv → List (Option OpRefusal) =
-        λ volume. extend_lv_rows state path.lv growth pvs group volume ++ lengthen_rows state path.lv now group given in
+    λ volume. extend_lv_rows state path.lv growth pvs group volume ++ lengthen_rows state path.lv now group given in
     let seen =
-        named_on group path.lv back (visible_named group path.lv) refl
-            (front_passes (named_rows group path.vg) (rows_on group path.lv back) none) in
+    named_on group path.lv back (visible_named group path.lv) refl
+    (front_passes (named_rows group path.vg) (rows_on group path.lv back) none) in
     let asked : Takes (Some (volume_asks (named_rows group path.vg) state path.lv growth pvs group seen.0)) given =
     subst (λ (o : Option (ℕ × Lv)). Takes (option_map (volume_asks (named_rows group path.vg) state path.lv growth pvs group) o) given)
-        seen.1 takes
+    seen.1 takes
     in
     let taken =
     asked
     (none_both (named_rows group path.vg) (extend_lv_rows state path.lv growth pvs group seen.0)
-        (back_passes (named_rows group path.vg) (rows_on group path.lv back) none)
+    (back_passes (named_rows group path.vg) (rows_on group path.lv back) none)
     (back_passes (extend_lv_rows state path.lv growth pvs group seen.0) (lengthen_rows state path.lv now group given) seen.2))
     in
     let rows = none_holds (extend_lv_rows state path.lv growth pvs group seen.0 ++ lengthen_rows state path.lv now group given) seen.2 in
@@ -293,7 +293,7 @@ extend_next state path growth pvs now given planned (Some group) there takes non
           longer_whole group path.lv given
           (subst (λ (o : Option (ℕ × Lv)). IsSomeAnd o (λ (v : ℕ × Lv). MayGrow group v.1 given)) (sym seen.1)
           (grows_by group accepted path.lv seen.0.0 seen.0.1 seen.1 state state_is there tree growth pvs given rows.1.1.1.0 taken.0
-              (few_segments group (length given) rows.1.1.1.1.1.1.1.1.0)))
+          (few_segments group (length given) rows.1.1.1.1.1.1.1.1.0)))
           (seqno_left group rows.1.1.1.1.1.1.0) accepted tree;
     }
 
@@ -303,8 +303,8 @@ rename_lv_next : (state : GroupState) (vg old new : List ℕ) (now : ℕ) → vo
 rename_lv_next state vg old new now valid None there none = absurd cc
 rename_lv_next state vg old new now valid (Some group) there none =
     let seen =
-        named_on group old (rename_lv_rows state old new now group) (visible_named group old) refl
-            (front_passes (named_rows group vg) (rows_on group old (rename_lv_rows state old new now group)) none) in
+    named_on group old (rename_lv_rows state old new now group) (visible_named group old) refl
+    (front_passes (named_rows group vg) (rows_on group old (rename_lv_rows state old new now group)) none) in
     let rows = none_holds (rename_lv_rows state old new now group seen.0) seen.2 in
     record {
       old = group;
@@ -319,7 +319,7 @@ rename_lv_next state vg old new now valid (Some group) there none =
       fits = rows.1.1.1.1.0;
       whole =
           λ state_is accepted tree time. volume_whole group old new (ap is_some seen.1) (name_free group new rows.0) valid
-              (seqno_left group rows.1.1.1.0) accepted tree;
+          (seqno_left group rows.1.1.1.0) accepted tree;
     }
 
 -- an id that was drawn
@@ -336,7 +336,7 @@ pub commits_next : (state : GroupState) (number : ℕ) (id : Option (List ℕ)) 
 commits_next state number id (Vgrename vg new) now given planned is takes none = rename_next state vg new now planned state.group refl none
 commits_next state number id (Lvcreate new) now given planned is takes none =
     create_next state (unwrap_or id []) new now given
-        (creates state (unwrap_or id []) new now given (drawn_is id planned.0) planned.1 state.group refl takes none)
+    (creates state (unwrap_or id []) new now given (drawn_is id planned.0) planned.1 state.group refl takes none)
 commits_next state number id (Lvextend path growth pvs) now given planned is takes none =
     extend_next state path growth pvs now given planned state.group refl takes none
 commits_next state number id (Lvreduce path amount) now given planned is takes none =
@@ -360,5 +360,11 @@ pub version_is : (state : GroupState) (zero : List Span) (next : Group)
     → record (change_with next state.disk_of (added_of state [])) { zero = zero } ≡ zeroing_change state zero next
 unfolding extended
 version_is state zero next =
-    λ i. record { group = Some next; zero = zero; labels = []; taken = set.empty; cleared = set.empty;
-        disk_of = append_nil state.disk_of i }
+    λ i. record {
+      group = Some next;
+      zero = zero;
+      labels = [];
+      taken = set.empty;
+      cleared = set.empty;
+      disk_of = append_nil state.disk_of i;
+    }

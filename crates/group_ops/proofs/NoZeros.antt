@@ -4,8 +4,8 @@ use Rattle.std.specs.Prelude.{IfOk}
 use Rattle.std.specs.Option.{option_map_or}
 use Rattle.std.proofs.lemmas.Bool.{true≢false}
 use Rattle.command_table.specs.declared.command.Command.{Command}
-use Rattle.command_table.specs.declared.command.Command.TheVariants.{Lvcreate, Lvextend, Lvreduce, Lvremove, Lvrename, Pvcreate,
-    Vgcfgrestore, Vgcreate, Vgextend, Vgrename, Vgreduce, Vgremove}
+use Rattle.command_table.specs.declared.command.Command.TheVariants.{Lvcreate, Lvextend, Lvreduce, Lvremove, Lvrename, Pvcreate}
+use Rattle.command_table.specs.declared.command.Command.TheVariants.{Vgcfgrestore, Vgcreate, Vgextend, Vgrename, Vgreduce, Vgremove}
 use Rattle.command_table.specs.declared.amount.Growth.{Growth}
 use Rattle.command_table.specs.declared.command.Path.{Path}
 use Rattle.line_answers.specs.declared.op_refusal.OpRefusal.{OpRefusal}
@@ -101,4 +101,4 @@ pub extends_without_zeros : (state : GroupState) (path : Path) (growth : Growth)
     → IfOk result (λ change. AreWithin state.disks change.zero)
 extends_without_zeros state path growth pvs now result plans =
     plans_none_with state.disks (lvextend_rows state path growth pvs now) (lvextend_change state path.lv)
-        (λ given. no_zero state 0 None (Lvextend path growth pvs) now given refl refl) (lvextend_asks state path growth pvs) result plans
+    (λ given. no_zero state 0 None (Lvextend path growth pvs) now given refl refl) (lvextend_asks state path growth pvs) result plans

@@ -5,9 +5,10 @@ use Rattle.std.specs.Option.{option_map_or}
 use Rattle.std.specs.List.{AllByRecursion as Each}
 use Rattle.command_table.specs.declared.amount.Amount.{Amount}
 use Rattle.command_table.specs.declared.command.Command.{Command}
-use Rattle.command_table.specs.declared.command.Command.TheVariants.{Pvcreate, Pvmove, Pvck, Pvs, Vgcreate, Vgextend, Vgreduce, Vgremove,
-    Vgrename, Vgcfgbackup, Vgcfgrestore, Vgck, Vgs, Lvcreate, Lvextend, Lvreduce, Lvremove, Lvrename, Lvs, Read, Fill, Write,
-    List as ListVolumes, Wait, Resync}
+use Rattle.command_table.specs.declared.command.Command.TheVariants.{Pvcreate, Pvmove, Pvck, Pvs, Vgcreate, Vgextend, Vgreduce, Vgremove}
+use Rattle.command_table.specs.declared.command.Command.TheVariants.{Vgrename, Vgcfgbackup, Vgcfgrestore, Vgck, Vgs, Lvcreate, Lvextend}
+use Rattle.command_table.specs.declared.command.Command.TheVariants.{Lvreduce, Lvremove, Lvrename, Lvs, Read, Fill, Write}
+use Rattle.command_table.specs.declared.command.Command.TheVariants.{List as ListVolumes, Wait, Resync}
 use Rattle.command_table.specs.declared.command.NewVolume.{NewVolume}
 use Rattle.meta_model.specs.declared.group.Group.{Group}
 use Rattle.meta_model.specs.declared.lv.Lv.{Lv}
@@ -119,7 +120,7 @@ change_by state is number id (Pvcreate pv copies) now given none placed = tt
 change_by state is number id (Vgcreate vg extent_size pvs) now given none placed =
     added_placed state is (empty_group (unwrap_or id []) vg extent_size) pvs
     (none_misplaced (empty_group (unwrap_or id []) vg extent_size) 0 (shapes state.disks)
-        (empty_placed (unwrap_or id []) vg extent_size (shapes state.disks)))
+    (empty_placed (unwrap_or id []) vg extent_size (shapes state.disks)))
 change_by state is number id (Vgextend vg pvs) now given none placed = extend_placed state is state.group pvs placed
 change_by state is number id (Pvmove a) now given none placed = tt
 change_by state is number id (Pvck a) now given none placed = tt

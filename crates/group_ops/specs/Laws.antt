@@ -24,7 +24,7 @@ state_in found names backup =
 abbrev pub WholeIsState : Type 0
 WholeIsState =
     (found : Found) (names : List (List ℕ)) (backup : Option Backup) → HasShape found → IsWhole found → length names ≡ length found.disks
-        → All (λ name. is_disk_name name ≡ true) names → IsState (state_in found names backup)
+    → All (λ name. is_disk_name name ≡ true) names → IsState (state_in found names backup)
 
 -- the extents of each physical volume of the group, where there is one, lie in its disk, and meet neither sectors 0 to 7 nor
 -- a metadata area
@@ -36,4 +36,4 @@ ArePlaced disks group = IfSome group (λ g. first_misplaced g (shapes disks) ≡
 abbrev pub ChangeIsPlaced : Type 0
 ChangeIsPlaced =
     (state : GroupState) (line : Line) (now : ℕ) (given : List Part) → IsState state → refusal_of state line now given ≡ None
-        → ArePlaced state.disks state.group → ArePlaced state.disks (change_of state line now given).group
+    → ArePlaced state.disks state.group → ArePlaced state.disks (change_of state line now given).group

@@ -1,6 +1,6 @@
 -- What is known of the physical volumes that a line adds.
-use Rattle.std.proofs.Common.{◌≡◌, ◌<◌, ℕ, ◌+◌, ◌*◌, Bool, true, false, cond, List, [], ◌∷◌, length, Option, Some, None, refl, sym, ap,
-    subst, arith}
+use Rattle.std.proofs.Common.{◌≡◌, ◌<◌, ℕ, ◌+◌, ◌*◌, Bool, true, false, cond, List, [], ◌∷◌, length, Option, Some, None, refl, sym, ap}
+use Rattle.std.proofs.Common.{subst, arith}
 use Rattle.std.specs.Prelude.{All, option_map, slice_get}
 use Rattle.std.specs.Option.{option_and_then}
 use Rattle.std.specs.Str.{bytes_eq}
@@ -62,7 +62,7 @@ well_by pv sectors (NoHeader other refusal) label header stands is = absurd cc
 well_by pv sectors (Whole other own areas) label header stands is =
     let same : own ≡ header = ap (λ (pair : ℕ × PvHeader). pair.1) (same_Some (other, own) (label, header) is) in
     subst (IsWell sectors (Some (Whole other own areas))) same
-        (record { is = refl; id = stands.1.1.fields.id_valid; lie = stands.1.1.areas })
+    (record { is = refl; id = stands.1.1.fields.id_valid; lie = stands.1.1.areas })
 
 well : (pv sectors : ℕ) (contents : Option PvFound) (label : ℕ) (header : PvHeader) → ContentsCanStand pv sectors contents
     → option_and_then pv_in contents ≡ Some (label, header) → IsWell sectors contents header
@@ -85,7 +85,7 @@ unfolding number_named
 named_disk [] name number is all = absurd cc
 named_disk (first ∷ names) name number is all =
     named_by first names name number (bytes_eq first name) (number_named names name) refl
-        (All-head (λ n. is_disk_name n ≡ true) first names all)
+    (All-head (λ n. is_disk_name n ≡ true) first names all)
     (λ n found. named_disk names name n found (All-tail (λ n. is_disk_name n ≡ true) first names all)) is
 
 -- ---- one of them
@@ -122,13 +122,13 @@ found_on state is name added found =
     let disked = and_then_some (added_on name numbered.0) (slice_get state.disks numbered.0) added numbered.2 in
     let headed = map_some (added_with name numbered.0 disked.0.sectors) (option_and_then pv_in disked.0.contents) added disked.2 in
     subst (IsFoundOn state) headed.2 (found_with state is name numbered.0 disked.0 headed.0.0 headed.0.1
-        (named_disk state.names name numbered.0 numbered.1 is.names) disked.1 headed.1)
+    (named_disk state.names name numbered.0 numbered.1 is.names) disked.1 headed.1)
 
 -- all of them
 pub all_found : (state : GroupState) → IsState state → (names : List (List ℕ)) → All (IsFoundOn state) (added_of state names)
 all_found state is names =
     all_kept (IsFoundOn state) (λ name. Unit {0}) (added_named state) (λ name added any found. found_on state is name added found) names
-        (λ k d within. tt)
+    (λ k d within. tt)
 
 pub all_added : (state : GroupState) → IsState state → (names : List (List ℕ)) → All IsAdded (added_of state names)
 all_added state is names = All-weaker (IsFoundOn state) IsAdded (λ added found. found.is) (added_of state names) (all_found state is names)

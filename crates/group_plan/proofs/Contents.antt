@@ -15,7 +15,7 @@ visible_allowed b visible =
 pub disk_name-content : (name : List ℕ) → is_disk_name name ≡ true → IsContent name
 disk_name-content name is =
     let parts : (not (length name == 0) ≡ true) × ((nat_le (length name) 127 && list_all is_visible name) ≡ true) =
-        and_parts (not (length name == 0)) (nat_le (length name) 127 && list_all is_visible name) is in
+    and_parts (not (length name == 0)) (nat_le (length name) 127 && list_all is_visible name) is in
     let more : (nat_le (length name) 127 ≡ true) × (list_all is_visible name ≡ true) =
-        and_parts (nat_le (length name) 127) (list_all is_visible name) parts.1 in
+    and_parts (nat_le (length name) 127) (list_all is_visible name) parts.1 in
     all_allowed is_visible visible_allowed name more.1

@@ -1,7 +1,7 @@
 -- The data of a physical volume share no sector with its metadata areas.
-use Rattle.std.proofs.Common.{◌≡◌, ◌≤◌, ◌<◌, ◌⊎◌, ℕ, suc, ◌+◌, ◌*◌, ◌/◌, ◌%◌, Bool, true, false, not, ◌==◌, cond, eqb, ltb, min, max, List,
-    [], ◌∷◌, ◌++◌, length, get_or, map, Option, Some, None, inl, inr, ⊎_elim, ◌&&◌, refl, sym, ap, subst, ◌∙◌, get_or-append-add,
-    length-append, arith}
+use Rattle.std.proofs.Common.{◌≡◌, ◌≤◌, ◌<◌, ◌⊎◌, ℕ, suc, ◌+◌, ◌*◌, ◌/◌, ◌%◌, Bool, true, false, not, ◌==◌, cond, eqb, ltb, min, max, List}
+use Rattle.std.proofs.Common.{[], ◌∷◌, ◌++◌, length, get_or, map, Option, Some, None, inl, inr, ⊎_elim, ◌&&◌, refl, sym, ap, subst, ◌∙◌}
+use Rattle.std.proofs.Common.{get_or-append-add, length-append, arith}
 use Rattle.std.specs.Prelude.{All, AllPairs, filter, find, unwrap_or}
 use Rattle.std.specs.List.{AllByRecursion as Each, fold, reduce}
 use Rattle.std.specs.Option.{option_or}
@@ -38,8 +38,8 @@ module _ (p : Extent × Extent → Bool) where
   none_pairs [] none = λ i j d before within. absurd (omega (arith, within))
   none_pairs (x ∷ xs) none =
       let parts =
-          none_of_two (find p (map (λ other. (x, other)) xs)) (find p (pairs_of xs))
-              (sym (find-append p (map (λ other. (x, other)) xs) (pairs_of xs)) ∙ none) in
+      none_of_two (find p (map (λ other. (x, other)) xs)) (find p (pairs_of xs))
+      (sym (find-append p (map (λ other. (x, other)) xs) (pairs_of xs)) ∙ none) in
       AllPairs-cons (λ a b. p (a, b) ≡ false) x xs (none_with x xs parts.0) (none_pairs xs parts.1)
 
 -- ---- areas that share no byte
@@ -138,7 +138,7 @@ starts_upto : (place stop : ℕ) (areas : List Extent) → Each (StartsUpto plac
 unfolding next_start
 starts_upto place stop areas =
     each_upto place (unwrap_or (reduce min (map (λ (a : Extent). a.offset) (filter (comes_next place) areas))) stop) areas
-        (least_upto stop (map (λ (a : Extent). a.offset) (filter (comes_next place) areas)))
+    (least_upto stop (map (λ (a : Extent). a.offset) (filter (comes_next place) areas)))
 
 -- ---- an area of size 0 isn't met by one before it
 
@@ -188,14 +188,14 @@ module _ (all : List Extent) (bytes : ℕ) (d : Extent) (apart : AllPairs (λ x 
       elim (cases_lt (at 0).offset ((at j).offset + (at j).size)) [
         | inl over ↦
             let each : Each (ComesLater (at 0).offset) all =
-                recursion_from_All (ComesLater (at 0).offset) all
-                    (λ i e within'. same_default i e within' (comes_later j (at 0).offset within some before over i within')) in
+            recursion_from_All (ComesLater (at 0).offset) all
+            (λ i e within'. same_default i e within' (comes_later j (at 0).offset within some before over i within')) in
             let end : (at 0).offset < next_start all (at 0).offset bytes =
-                starts_later (at 0).offset bytes all (omega (arith, over, inside)) each in
+            starts_later (at 0).offset bytes all (omega (arith, over, inside)) each in
             let end_first : end_of all bytes (at 0) ≡ next_start all (at 0).offset bytes = empty_end all bytes (at 0) none in
             let end_other : end_of all bytes (at j) ≡ (at j).offset + (at j).size = sized all bytes (at j) some in
             let upto : min (end_of all bytes (at 0)) (end_of all bytes (at j)) ≤ max (at 0).offset (at j).offset =
-                apart_ends all bytes (at 0) (at j) (apart 0 j d later within) in
+            apart_ends all bytes (at 0) (at j) (apart 0 j d later within) in
             absurd (omega (arith, end, end_first, end_other, upto, over, before))
         | inr ends ↦ ends
       ]
@@ -240,13 +240,13 @@ data_beside (first ∷ more) areas disk lie some k d within =
     let here : get_or all place d ≡ get_or areas k d = get_or-append-add more areas k d in
     let within_all : place < length all = omega (arith, within, length-append more areas) in
     let apart : AllPairs (λ x y. shares_byte all bytes x y ≡ false) all =
-        none_pairs (λ (pair : Extent × Extent). shares_byte all bytes pair.0 pair.1) all lie.apart in
+    none_pairs (λ (pair : Extent × Extent). shares_byte all bytes pair.0 pair.1) all lie.apart in
     let is : IsWhole (get_or areas k d) = whole (get_or areas k d) (All-from_find is_misshapen areas lie.well_shaped k d within) in
     let inside : (get_or areas k d).offset + (get_or areas k d).size ≤ bytes =
-        inside_of bytes (get_or areas k d) (subst (λ (m : Extent). is_outside bytes m ≡ false) here
-            (All-from_find (is_outside bytes) all lie.inside place d within_all)) in
+    inside_of bytes (get_or areas k d) (subst (λ (m : Extent). is_outside bytes m ≡ false) here
+    (All-from_find (is_outside bytes) all lie.inside place d within_all)) in
     let shares : shares_byte all bytes first (get_or areas k d) ≡ false =
-        subst (λ (m : Extent). shares_byte all bytes first m ≡ false) here (apart 0 place d (omega arith) within_all) in
+    subst (λ (m : Extent). shares_byte all bytes first m ≡ false) here (apart 0 place d (omega arith) within_all) in
     elim (cases_lt 0 first.size) [
       | inl sized_first ↦ by_size first (get_or areas k d) bytes (end_of areas bytes first) is
           (beside all bytes first (get_or areas k d) sized_first is.some shares) (sized areas bytes first sized_first)
@@ -257,15 +257,15 @@ data_beside (first ∷ more) areas disk lie some k d within =
             | inl before ↦
                 let ends : (get_or areas k d).offset + (get_or areas k d).size ≤ first.offset =
                 subst (λ (m : Extent). 0 < m.size → m.offset < first.offset → m.offset + m.size ≤ bytes → m.offset + m.size ≤ first.offset)
-                    here
+                here
                 (λ size before' inside'. ends_before all bytes d apart place (omega arith) within_all empty size before' inside') is.some
-                    before inside
+                before inside
                 in
                 inl (omega (arith, is.offset, is.size, ends))
             | inr from ↦
                 let upto : next_start areas first.offset bytes ≤ (get_or areas k d).offset =
                 All-from_recursion (StartsUpto first.offset (next_start areas first.offset bytes)) areas
-                    (starts_upto first.offset bytes areas) k d within (next_comes first.offset (get_or areas k d) from is.some)
+                (starts_upto first.offset bytes areas) k d within (next_comes first.offset (get_or areas k d) from is.some)
                 in
                 inr (omega (arith, is.offset, end, upto))
           ]

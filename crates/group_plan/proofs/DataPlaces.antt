@@ -64,5 +64,5 @@ data_ends [] areas disk lie = omega arith
 data_ends (area ∷ more) areas disk lie =
     let all : Each (Inside (disk * 512)) ((area ∷ more) ++ areas) = all_inside (disk * 512) ((area ∷ more) ++ areas) lie.inside in
     let end : end_of areas (disk * 512) area ≤ disk * 512 =
-        ends_by (disk * 512) areas area (eqb area.size 0) all.0 (later_inside (disk * 512) (area ∷ more) areas all) in
+    ends_by (disk * 512) areas area (eqb area.size 0) all.0 (later_inside (disk * 512) (area ∷ more) areas all) in
     omega (arith, end)

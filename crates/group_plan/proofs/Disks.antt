@@ -1,6 +1,6 @@
 -- Disks by the ids in their headers: where no id stands on two, a disk is found by its own.
-use Rattle.std.proofs.Common.{◌≡◌, ◌<◌, ℕ, zero, suc, ◌+◌, Bool, true, false, cond, List, [], ◌∷◌, Option, Some, None, refl, sym, ap, subst,
-    ◌∙◌, add-one, arith}
+use Rattle.std.proofs.Common.{◌≡◌, ◌<◌, ℕ, zero, suc, ◌+◌, Bool, true, false, cond, List, [], ◌∷◌, Option, Some, None, refl, sym, ap, subst}
+use Rattle.std.proofs.Common.{◌∙◌, add-one, arith}
 use Rattle.std.specs.Prelude.{find, option_map, slice_get, unwrap_or}
 use Rattle.std.proofs.lemmas.Bool.{true≢false}
 use Rattle.std.proofs.lemmas.Option.{same_Some}
@@ -14,7 +14,7 @@ use Rattle.vg_found.specs.Disks.{disk_with, has_header_id, header_on, pv_shape, 
 abbrev ids_with : ℕ → Option PvHeader → List Disk → List (ℕ × List ℕ)
 ids_with base header disks =
     unwrap_or (option_map (λ (pv : PvOf). (base, pv.id) ∷ ids_from (base + 1) (shapes disks)) (option_map pv_shape header))
-        (ids_from (base + 1) (shapes disks))
+    (ids_from (base + 1) (shapes disks))
 
 -- the header has the id
 pub record HasHeader (disks : List Disk) (number : ℕ) (header : PvHeader) : Type 0 where
@@ -41,7 +41,7 @@ none_first : (p : ℕ × List ℕ → Bool) (base : ℕ) (o : Option PvHeader) (
 none_first p base None disks header is none = absurd cc
 none_first p base (Some first) disks header is none =
     subst (λ (h : PvHeader). p (base, h.id) ≡ false) (same_Some first header is)
-        (split_found p (base, first.id) (p (base, first.id)) (ids_from (base + 1) (shapes disks)) refl none).0
+    (split_found p (base, first.id) (p (base, first.id)) (ids_from (base + 1) (shapes disks)) refl none).0
 
 none_has : (test : List ℕ → Bool) (base : ℕ) (disks : List Disk)
     → find (λ (other : ℕ × List ℕ). test other.1) (ids_from base (shapes disks)) ≡ None → (k : ℕ) (disk : Disk) (header : PvHeader)
@@ -49,10 +49,10 @@ none_has : (test : List ℕ → Bool) (base : ℕ) (disks : List Disk)
 none_has test base [] none k disk header there is = absurd cc
 none_has test base (first ∷ disks) none zero disk header there is =
     none_first (λ (other : ℕ × List ℕ). test other.1) base (header_on first.contents) disks header
-        (ap (λ (d : Disk). header_on d.contents) (same_Some first disk there) ∙ is) none
+    (ap (λ (d : Disk). header_on d.contents) (same_Some first disk there) ∙ is) none
 none_has test base (first ∷ disks) none (suc k) disk header there is =
     none_has test (base + 1) disks (none_later (λ (other : ℕ × List ℕ). test other.1) base (header_on first.contents) disks none) k disk
-        header there is
+    header there is
 
 -- ---- no id stands twice
 
@@ -77,7 +77,7 @@ apart_first : (base : ℕ) (o : Option PvHeader) (disks : List Disk) (header : P
 apart_first base None disks header is none = absurd cc
 apart_first base (Some first) disks header is none =
     subst (λ (h : PvHeader). find (λ (other : ℕ × List ℕ). same_bytes h.id other.1) (ids_from (base + 1) (shapes disks)) ≡ None)
-        (same_Some first header is) (split_duplicate (base, first.id) (ids_from (base + 1) (shapes disks)) none).0
+    (same_Some first header is) (split_duplicate (base, first.id) (ids_from (base + 1) (shapes disks)) none).0
 
 -- two disks have two ids
 pub ids_apart : (base : ℕ) (disks : List Disk) → first_duplicate (ids_from base (shapes disks)) ≡ None
@@ -88,13 +88,13 @@ ids_apart base [] none i j a b first second before at_i at_j is_a is_b same = ab
 ids_apart base (disk ∷ disks) none zero zero a b first second before at_i at_j is_a is_b same = omega arith
 ids_apart base (disk ∷ disks) none zero (suc j) a b first second before at_i at_j is_a is_b same =
     let absent =
-        apart_first base (header_on disk.contents) disks first (ap (λ (d : Disk). header_on d.contents) (same_Some disk a at_i) ∙ is_a)
-            none in
+    apart_first base (header_on disk.contents) disks first (ap (λ (d : Disk). header_on d.contents) (same_Some disk a at_i) ∙ is_a)
+    none in
     true≢false (sym (same_bytes_to first.id second.id same) ∙ none_has (same_bytes first.id) (base + 1) disks absent j b second at_j is_b)
 ids_apart base (disk ∷ disks) none (suc i) zero a b first second before at_i at_j is_a is_b same = omega arith
 ids_apart base (disk ∷ disks) none (suc i) (suc j) a b first second before at_i at_j is_a is_b same =
     ids_apart (base + 1) disks (apart_later base (header_on disk.contents) disks none) i j a b first second (omega arith) at_i at_j is_a
-        is_b same
+    is_b same
 
 -- ---- the disk with an id
 
@@ -118,12 +118,12 @@ pub disk_with_own : (base : ℕ) (disks : List Disk) → first_duplicate (ids_fr
 disk_with_own base [] none i disk header there is = absurd cc
 disk_with_own base (first ∷ disks) none zero disk header there is =
     ap (λ (b : Bool). cond b 0 (disk_with disks header.id + 1))
-        (has_own header.id (header_on first.contents) header (ap (λ (d : Disk). header_on d.contents) (same_Some first disk there) ∙ is)
-        refl)
+    (has_own header.id (header_on first.contents) header (ap (λ (d : Disk). header_on d.contents) (same_Some first disk there) ∙ is)
+    refl)
 disk_with_own base (first ∷ disks) none (suc i) disk header there is =
     let other : has_header_id header.id first ≡ false =
     has_no_other header.id (header_on first.contents)
-        (λ own own_is same. ids_apart base (first ∷ disks) none zero (suc i) first disk own header (omega arith) refl there own_is is same)
+    (λ own own_is same. ids_apart base (first ∷ disks) none zero (suc i) first disk own header (omega arith) refl there own_is is same)
     in
     ap (λ (b : Bool). cond b 0 (disk_with disks header.id + 1)) other
     ∙ add-one (disk_with disks header.id)

@@ -1,6 +1,6 @@
 -- A group to which physical volumes are added keeps all rules, and can be printed.
-use Rattle.std.proofs.Common.{◌≡◌, ◌≢◌, ◌≤◌, ◌<◌, ℕ, ◌+◌, ◌-◌, ◌*◌, ◌/◌, ◌^◌, Bool, true, false, ◌||◌, List, [], ◌∷◌, ◌++◌, length, map,
-    refl, sym, subst, ◌∙◌, length-append, arith}
+use Rattle.std.proofs.Common.{◌≡◌, ◌≢◌, ◌≤◌, ◌<◌, ℕ, ◌+◌, ◌-◌, ◌*◌, ◌/◌, ◌^◌, Bool, true, false, ◌||◌, List, [], ◌∷◌, ◌++◌, length, map}
+use Rattle.std.proofs.Common.{refl, sym, subst, ◌∙◌, length-append, arith}
 use Rattle.std.specs.Prelude.{All, nat_eq}
 use Rattle.std.specs.Cmp.Lexicographic.{pointwise}
 use Rattle.std.specs.List.{AllByRecursion as Each}
@@ -61,7 +61,7 @@ whole_extents room extent_size some = (div-mul-le_self room extent_size, div-le_
 small : (extent_size : ℕ) (added : AddedPv) → 1 ≤ extent_size → Fits extent_size added → PvIsSmall (pv_of extent_size added)
 small extent_size added some fits =
     let whole : ((data_end added - data_start added) / extent_size * extent_size ≤ data_end added - data_start added)
-        × ((data_end added - data_start added) / extent_size ≤ data_end added - data_start added) =
+    × ((data_end added - data_start added) / extent_size ≤ data_end added - data_start added) =
     whole_extents (data_end added - data_start added) extent_size some
     in
     let most : added.sectors ≤ 2 ^ 40 = fits.is.most in
@@ -73,14 +73,14 @@ fits_device : (extent_size : ℕ) (added : AddedPv) → 1 ≤ extent_size → Fi
     → FitsDevice extent_size (pv_of extent_size added)
 fits_device extent_size added some fits =
     let whole : ((data_end added - data_start added) / extent_size * extent_size ≤ data_end added - data_start added)
-        × ((data_end added - data_start added) / extent_size ≤ data_end added - data_start added) =
+    × ((data_end added - data_start added) / extent_size ≤ data_end added - data_start added) =
     whole_extents (data_end added - data_start added) extent_size some
     in
     let most : added.sectors ≤ 2 ^ 40 = fits.is.most in
     let ends : data_end added ≤ added.sectors = fits.is.ends in
     let room : data_start added + extent_size ≤ data_end added = fits.fits in
     let within : data_start added + (data_end added - data_start added) / extent_size * extent_size ≤ added.sectors =
-        omega (arith, whole.0, ends, room) in
+    omega (arith, whole.0, ends, room) in
     (omega (arith, within, most), λ known. within)
 
 printable_pv : (extent_size : ℕ) (added : AddedPv) → 1 ≤ extent_size → Fits extent_size added → IsPv (pv_of extent_size added)
@@ -104,18 +104,21 @@ good_pushed group added some few good fits fresh =
     let names : List (List ℕ) = names_in group.pvs group.lvs in
     let own = free names (omega (arith, names_length group.pvs group.lvs, few)) in
     let free_both : (is_among (names_of group.pvs) (pv_name (free_number names)) ≡ false)
-        × (is_among (names_of group.lvs) (pv_name (free_number names)) ≡ false) =
+    × (is_among (names_of group.lvs) (pv_name (free_number names)) ≡ false) =
     both_false _ _ (sym (list_any-append (pointwise nat_eq (pv_name (free_number names))) (names_of group.pvs) (names_of group.lvs))
-        ∙ own.1)
+    ∙ own.1)
     in
     record {
       base =
           base_pushed group (new_row group added) good.base
-              (record { small = small group.extent_size added some fits; fits = fits_device group.extent_size added some fits;
-              fresh = fresh });
+          (record {
+            small = small group.extent_size added some fits;
+            fits = fits_device group.extent_size added some fits;
+            fresh = fresh;
+          });
       printable =
           printable_pushed group (new_row group added) good.printable (printable_pv group.extent_size added some fits)
-              (pv_name-named (free_number names) (omega (arith, own.0, names_length group.pvs group.lvs, few))) free_both.0 free_both.1;
+          (pv_name-named (free_number names) (omega (arith, own.0, names_length group.pvs group.lvs, few))) free_both.0 free_both.1;
     }
 
 fresh_pushed : (group : Group) (added other : AddedPv) → IsFresh group other → IdApart added other
@@ -123,9 +126,9 @@ fresh_pushed : (group : Group) (added other : AddedPv) → IsFresh group other �
 fresh_pushed group added other fresh apart =
     subst (All (λ id. id ≢ other.header.id)) (sym (ids_of-pushed group (new_row group added)))
     (All-from_recursion (λ id. id ≢ other.header.id)
-        (group.id ∷ (map (λ (pv : List ℕ × Pv). pv.1.id) group.pvs ++ added.header.id ∷ map (λ (lv : List ℕ × Lv). lv.1.id) group.lvs))
+    (group.id ∷ (map (λ (pv : List ℕ × Pv). pv.1.id) group.pvs ++ added.header.id ∷ map (λ (lv : List ℕ × Lv). lv.1.id) group.lvs))
     (each_inserted (λ id. id ≢ other.header.id) (group.id ∷ map (λ (pv : List ℕ × Pv). pv.1.id) group.pvs)
-        (map (λ (lv : List ℕ × Lv). lv.1.id) group.lvs) added.header.id
+    (map (λ (lv : List ℕ × Lv). lv.1.id) group.lvs) added.header.id
     (recursion_from_All (λ id. id ≢ other.header.id) (ids_of group) fresh) apart))
 
 all_fresh_pushed : (group : Group) (added : AddedPv) (more : List AddedPv) → Each (IsFresh group) more → Each (IdApart added) more
@@ -143,7 +146,7 @@ good_added group [] some few good fits fresh apart = good
 good_added group (added ∷ more) some few good fits fresh apart =
     good_added (pushed group (new_row group added)) more some (omega (arith, few, length-append group.pvs (new_row group added ∷ [])))
     (good_pushed group added some (omega (arith, few)) good fits.0 fresh.0) fits.1 (all_fresh_pushed group added more fresh.1 apart.0)
-        apart.1
+    apart.1
 
 pub count_added : (lvs : List (List ℕ × Lv)) (extent_size : ℕ) (pvs : List (List ℕ × Pv)) (all : List AddedPv)
     → length (with_added lvs extent_size pvs all) ≡ length pvs + length all

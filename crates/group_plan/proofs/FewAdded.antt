@@ -34,6 +34,6 @@ pub few_added : (listed : List ℕ) (all : List AddedPv) → All IsAdded all →
 few_added listed all are none =
     let few : length (disks_added all) ≤ 64 =
     length-le_from_distinct_below (disks_added all) 64 (distinct all (all_unused listed all none).1)
-        (λ q any. below all q (recursion_from_All IsAdded all are) any)
+    (λ q any. below all q (recursion_from_All IsAdded all are) any)
     in
     omega (arith, few, length-map all (λ (added : AddedPv). added.disk))

@@ -1,6 +1,6 @@
 -- The name of a new physical volume is a name that no volume has.
-use Rattle.std.proofs.Common.{◌≡◌, ◌≢◌, ◌≤◌, ◌<◌, ℕ, zero, suc, ◌+◌, ◌^◌, Bool, true, false, not, ◌||◌, cond, List, [], ◌∷◌, ◌++◌, drop,
-    length, get_or, map, Option, Some, None, refl, sym, ap, ◌∙◌, length-append, ⊎_elim, eq-or-lt_of_le, arith}
+use Rattle.std.proofs.Common.{◌≡◌, ◌≢◌, ◌≤◌, ◌<◌, ℕ, zero, suc, ◌+◌, ◌^◌, Bool, true, false, not, ◌||◌, cond, List, [], ◌∷◌, ◌++◌, drop}
+use Rattle.std.proofs.Common.{length, get_or, map, Option, Some, None, refl, sym, ap, ◌∙◌, length-append, ⊎_elim, eq-or-lt_of_le, arith}
 use Rattle.std.specs.Prelude.{◌==◌, nat_eq, nat_le, find, unwrap_or, codes}
 use Rattle.std.specs.Char.{is_ascii_digit}
 use Rattle.std.specs.Fmt.{decimal}
@@ -52,16 +52,16 @@ module _ (end : ℕ) where
 names_differ : (m n : ℕ) → m < 2 ^ 64 → n < 2 ^ 64 → m ≢ n → pointwise nat_eq (pv_name m) (pv_name n) ≡ false
 names_differ m n first second differ =
     false_from_ne_true (pointwise nat_eq (pv_name m) (pv_name n))
-        (λ e. differ (decimal_injective m n first second (same_text (decimal m) (decimal n) (sym e))))
+    (λ e. differ (decimal_injective m n first second (same_text (decimal m) (decimal n) (sym e))))
 
 distinct : (count : ℕ) → count < 2 ^ 64 → IsDistinct (pointwise nat_eq) (map pv_name (range_with_len 0 count))
 distinct count small =
     IsDistinct-from_apart (pointwise nat_eq) (map pv_name (range_with_len 0 count)) (λ i j d before within.
     let long : length (map pv_name (range_with_len 0 count)) ≡ count = length-map-range_with_len pv_name 0 count in
     let at_i : get_or (map pv_name (range_with_len 0 count)) i d ≡ pv_name i =
-        get_or-map-range_with_len pv_name 0 count i i d (omega arith) (omega arith) in
+    get_or-map-range_with_len pv_name 0 count i i d (omega arith) (omega arith) in
     let at_j : get_or (map pv_name (range_with_len 0 count)) j d ≡ pv_name j =
-        get_or-map-range_with_len pv_name 0 count j j d (omega arith) (omega arith) in
+    get_or-map-range_with_len pv_name 0 count j j d (omega arith) (omega arith) in
     ap (λ (x : List ℕ). pointwise nat_eq x (get_or (map pv_name (range_with_len 0 count)) j d)) at_i
     ∙ ap (pointwise nat_eq (pv_name i)) at_j
     ∙ names_differ i j (omega arith) (omega arith) (λ e. omega (arith, e)))
@@ -94,10 +94,10 @@ free_by : (names : List (List ℕ)) (o : Option ℕ) → length names + 1 < 2 ^ 
 free_by names (Some n) small is = found_below (length names + 1) (is_free names) 0 (length names + 1) n (omega arith) is
 free_by names None small is =
     let all : Each (λ x. is_among names x ≡ true) (map pv_name (range_with_len 0 (length names + 1))) =
-        taken_names names (range_with_len 0 (length names + 1)) (none_found (is_free names) (range_with_len 0 (length names + 1)) is) in
+    taken_names names (range_with_len 0 (length names + 1)) (none_found (is_free names) (range_with_len 0 (length names + 1)) is) in
     let many : length (map pv_name (range_with_len 0 (length names + 1))) ≤ length names =
     length-le_from_is_member nat_list_eq_equiv (map pv_name (range_with_len 0 (length names + 1))) names (distinct (length names + 1) small)
-        (λ q any. all_members names (map pv_name (range_with_len 0 (length names + 1))) q all any)
+    (λ q any. all_members names (map pv_name (range_with_len 0 (length names + 1))) q all any)
     in
     absurd (omega (arith, many, length-map-range_with_len pv_name 0 (length names + 1)))
 
@@ -118,7 +118,7 @@ none_refused : (i : ℕ) (bs : List ℕ) → list_all is_ascii_digit bs ≡ true
 none_refused i [] all = refl
 none_refused i (b ∷ bs) all =
     let parts : (is_ascii_digit b ≡ true) × (list_all is_ascii_digit bs ≡ true) =
-        and_parts (is_ascii_digit b) (list_all is_ascii_digit bs) all in
+    and_parts (is_ascii_digit b) (list_all is_ascii_digit bs) all in
     rw (digit_may b parts.0, none_refused (i + 1) bs parts.1) refl
 
 letters_may : (bs : List ℕ) → position_from (λ b. not (is_name_byte b)) 2 bs ≡ None
@@ -136,7 +136,7 @@ pub pv_name-named : (n : ℕ) → n < 2 ^ 64 → any_name_refusal (pv_name n) �
 pv_name-named n small =
     named_by (decimal n) (length-decimal-le 20 n (omega arith) (omega (arith, small)) small)
     (position_from-zero (λ b. not (is_name_byte b)) (pv_name n)
-        ∙ letters_may (decimal n) (none_refused 2 (decimal n) (decimal_digits n small)))
+    ∙ letters_may (decimal n) (none_refused 2 (decimal n) (decimal_digits n small)))
 
 -- ---- the search for one
 
@@ -215,7 +215,7 @@ module _ (row : List ℕ × Pv) (lvs : List (List ℕ × Lv)) where
   still_among [] name is = or_last (pointwise nat_eq name row.0) (is_among (names_of lvs) name) is
   still_among (pv ∷ pvs) name is =
       or_more (pointwise nat_eq name pv.0) (is_among (names_in pvs lvs) name) (is_among (names_in (pvs ++ row ∷ []) lvs) name)
-          (still_among pvs name) is
+      (still_among pvs name) is
 
   own_among : (pvs : List (List ℕ × Pv)) → is_among (names_in (pvs ++ row ∷ []) lvs) row.0 ≡ true
   own_among [] = ap (λ (b : Bool). b || is_among (names_of lvs) row.0) (nat_list_eq_equiv.refl row.0)
@@ -235,7 +235,7 @@ next_after pvs lvs pv few =
     (⊎_elim
     (λ below. omega (arith, below))
     (λ above. absurd (true≢false (sym (still_among row lvs pvs (pv_name next)
-        (taken (is_among (names_in pvs lvs) (pv_name next)) (taken_below (names_in pvs lvs) next above))) ∙ other))))
+    (taken (is_among (names_in pvs lvs) (pv_name next)) (taken_below (names_in pvs lvs) next above))) ∙ other))))
     (cases_order last next)
 
 -- once a volume has the free name, the next one lies behind it
@@ -245,7 +245,7 @@ pub free_after : (pvs new : List (List ℕ × Pv)) (lvs : List (List ℕ × Lv))
     → number + 1 ≤ free_number (names_in new lvs)
 free_after pvs new lvs name pv number few named last pushed =
     let is : new ≡ pvs ++ (pv_name (free_number (names_in pvs lvs)), pv) ∷ [] =
-        pushed ∙ ap (λ (name : List ℕ). pvs ++ (name, pv) ∷ []) named in
+    pushed ∙ ap (λ (name : List ℕ). pvs ++ (name, pv) ∷ []) named in
     omega (arith, last, next_after pvs lvs pv few, ap (λ (rows : List (List ℕ × Pv)). free_number (names_in rows lvs)) is)
 
 -- a volume that was pushed is one fewer to be added
@@ -256,6 +256,6 @@ pub added_next : (lvs : List (List ℕ × Lv)) (extent_size : ℕ) (pvs new : Li
 added_next lvs extent_size pvs new all i own name pv within is named made pushed =
     let row : (name, pv) ≡ (pv_name (free_number (names_in pvs lvs)), pv_of extent_size own) = λ j. (named j, made j) in
     ap (λ (rows : List (List ℕ × Pv)). with_added lvs extent_size rows (drop (i + 1) all))
-        (pushed ∙ ap (λ (last : List ℕ × Pv). pvs ++ last ∷ []) row)
+    (pushed ∙ ap (λ (last : List ℕ × Pv). pvs ++ last ∷ []) row)
     ∙ ap (λ (first : AddedPv). with_added lvs extent_size pvs (first ∷ drop (i + 1) all)) is
     ∙ sym (ap (with_added lvs extent_size pvs) (drop_more all i own within))

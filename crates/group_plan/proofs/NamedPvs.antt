@@ -22,30 +22,31 @@ found_named state names disk_of name found of_names of_disks is =
     ∙ ap (λ (listed : List ℕ). option_and_then (number_on listed) (number_named state.names name)) of_disks
 
 module _ (state : GroupState) (names : List (List ℕ)) (i : ℕ) (own : List ℕ) (within : i < length names) (is : own ≡ get_or names i own)
-    where
-  rest : drop i names ≡ own ∷ drop (i + 1) names
-  rest = drop_more names i own within ∙ ap (λ (first : List ℕ). first ∷ drop (i + 1) names) (sym is)
+  where
+    rest : drop i names ≡ own ∷ drop (i + 1) names
+    rest = drop_more names i own within ∙ ap (λ (first : List ℕ). first ∷ drop (i + 1) names) (sym is)
 
-  -- the group lists none on the disk with this one, or the next is to be looked at
-  pub outside_here : (given : List ℕ) → find (is_outside state) (drop i names) ≡ find (is_outside state) names → is_outside state own ≡ true
-      → given ≡ own → outside_row state names ≡ Some (NotInGroup given)
-  unfolding outside_row
-  outside_here given before outside copied =
-      ap (option_map (λ name. NotInGroup name))
-      (sym before ∙ ap (find (is_outside state)) rest
-          ∙ ap (λ (b : Bool). cond b (Some own) (find (is_outside state) (drop (i + 1) names))) outside)
-      ∙ ap (λ (name : List ℕ). Some (NotInGroup name)) (sym copied)
+    -- the group lists none on the disk with this one, or the next is to be looked at
+    pub outside_here : (given : List ℕ) → find (is_outside state) (drop i names) ≡ find (is_outside state) names
+        → is_outside state own ≡ true
+        → given ≡ own → outside_row state names ≡ Some (NotInGroup given)
+    unfolding outside_row
+    outside_here given before outside copied =
+        ap (option_map (λ name. NotInGroup name))
+        (sym before ∙ ap (find (is_outside state)) rest
+        ∙ ap (λ (b : Bool). cond b (Some own) (find (is_outside state) (drop (i + 1) names))) outside)
+        ∙ ap (λ (name : List ℕ). Some (NotInGroup name)) (sym copied)
 
-  pub outside_past : find (is_outside state) (drop i names) ≡ find (is_outside state) names → is_outside state own ≡ false
-      → find (is_outside state) (drop (i + 1) names) ≡ find (is_outside state) names
-  outside_past before listed =
-      sym (ap (find (is_outside state)) rest ∙ ap (λ (b : Bool). cond b (Some own) (find (is_outside state) (drop (i + 1) names))) listed)
-          ∙ before
+    pub outside_past : find (is_outside state) (drop i names) ≡ find (is_outside state) names → is_outside state own ≡ false
+        → find (is_outside state) (drop (i + 1) names) ≡ find (is_outside state) names
+    outside_past before listed =
+        sym (ap (find (is_outside state)) rest ∙ ap (λ (b : Bool). cond b (Some own) (find (is_outside state) (drop (i + 1) names))) listed)
+        ∙ before
 
-  -- its number is one more of those that are named
-  pub named_more : (all : set.FinSet nat_cmp) (found : Option ℕ) → pv_named state own ≡ found
-      → with_all all (filter_map (pv_named state) (drop i names))
-      ≡ with_all all (cons_option found (filter_map (pv_named state) (drop (i + 1) names)))
-  named_more all found told =
-      ap (λ (left : List (List ℕ)). with_all all (filter_map (pv_named state) left)) rest
-          ∙ ap (λ (o : Option ℕ). with_all all (cons_option o (filter_map (pv_named state) (drop (i + 1) names)))) told
+    -- its number is one more of those that are named
+    pub named_more : (all : set.FinSet nat_cmp) (found : Option ℕ) → pv_named state own ≡ found
+        → with_all all (filter_map (pv_named state) (drop i names))
+        ≡ with_all all (cons_option found (filter_map (pv_named state) (drop (i + 1) names)))
+    named_more all found told =
+        ap (λ (left : List (List ℕ)). with_all all (filter_map (pv_named state) left)) rest
+        ∙ ap (λ (o : Option ℕ). with_all all (cons_option o (filter_map (pv_named state) (drop (i + 1) names)))) told

@@ -1,6 +1,6 @@
 -- What the rows tell where none refuses.
-use Rattle.std.proofs.Common.{◌≡◌, ◌≢◌, ◌≤◌, ℕ, ◌+◌, Bool, true, false, not, ◌||◌, ◌&&◌, ◌==◌, cond, eqb, ltb, List, [], ◌∷◌, Option, Some,
-    None, refl, sym, ap, ◌∙◌, map, ◌++◌}
+use Rattle.std.proofs.Common.{◌≡◌, ◌≢◌, ◌≤◌, ℕ, ◌+◌, Bool, true, false, not, ◌||◌, ◌&&◌, ◌==◌, cond, eqb, ltb, List, [], ◌∷◌, Option, Some}
+use Rattle.std.proofs.Common.{None, refl, sym, ap, ◌∙◌, map, ◌++◌}
 use Rattle.std.specs.Prelude.{find, option_map}
 use Rattle.std.specs.Option.{option_or}
 use Rattle.std.specs.List.{AllByRecursion as Each}
@@ -54,8 +54,8 @@ absent taken (n ∷ numbers) q none =
     let later : (set.contains (set.insert taken n) q ≡ false) × Each (λ m. m ≢ q) numbers = absent (set.insert taken n) numbers q none in
     let parts : ((q == n) ≡ false) × (set.contains taken q ≡ false) =
     both_false (q == n) (set.contains taken q)
-        (ap (λ (b : Bool). b || set.contains taken q) (sym (unsigned_tied q n)) ∙ sym (set.contains-insert nat_cmp_total taken n q)
-        ∙ later.0)
+    (ap (λ (b : Bool). b || set.contains taken q) (sym (unsigned_tied q n)) ∙ sym (set.contains-insert nat_cmp_total taken n q)
+    ∙ later.0)
     in
     (parts.1, (differs n q parts.0, later.1))
   where
@@ -77,7 +77,7 @@ unused_later : (taken : set.FinSet nat_cmp) (added : AddedPv) (more : List Added
 unused_later taken added [] all = (tt, tt)
 unused_later taken added (other ∷ more) all =
     let here : (set.contains taken other.disk ≡ false) × Each (λ n. n ≢ other.disk) (added.disk ∷ []) =
-        absent taken (added.disk ∷ []) other.disk all.0 in
+    absent taken (added.disk ∷ []) other.disk all.0 in
     let later = unused_later taken added more all.1 in
     ((here.0, later.0), ((λ same. here.1.0 (sym same)), later.1))
 
@@ -108,7 +108,7 @@ pub all_fit : (extent_size : ℕ) (all : List AddedPv) → small_row extent_size
 unfolding small_row
 all_fit extent_size all none =
     fits_by extent_size all (recursion_from_All (λ added. is_small extent_size added ≡ false) all
-        (All-from_find (is_small extent_size) all (no_map _ (find (is_small extent_size) all) none)))
+    (All-from_find (is_small extent_size) all (no_map _ (find (is_small extent_size) all) none)))
 
 many_by : (most limit count : ℕ) (a b c : Bool) (x y : OpRefusal) → ltb most count ≡ a → eqb limit 0 ≡ b → ltb limit count ≡ c
     → cond a (Some x) (cond (not b && c) (Some y) None) ≡ None → (count ≤ most) × (limit ≢ 0 → count ≤ limit)

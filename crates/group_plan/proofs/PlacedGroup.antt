@@ -1,6 +1,6 @@
 -- The extents of a physical volume of the group are no more than its disk has sectors.
-use Rattle.std.proofs.Common.{◌≡◌, ◌≤◌, ◌<◌, ℕ, suc, ◌+◌, ◌*◌, ◌^◌, Bool, true, false, ◌||◌, ◌&&◌, cond, ltb, List, [], ◌∷◌, length, map,
-    Option, Some, None, inl, inr, refl, sym, ap, subst, ◌∙◌, arith}
+use Rattle.std.proofs.Common.{◌≡◌, ◌≤◌, ◌<◌, ℕ, suc, ◌+◌, ◌*◌, ◌^◌, Bool, true, false, ◌||◌, ◌&&◌, cond, ltb, List, [], ◌∷◌, length, map}
+use Rattle.std.proofs.Common.{Option, Some, None, inl, inr, refl, sym, ap, subst, ◌∙◌, arith}
 use Rattle.std.specs.Prelude.{option_map, slice_get, unwrap_or, All, Contains, IfSome}
 use Rattle.std.specs.List.{AllByRecursion as Each, list_any}
 use Rattle.std.proofs.lemmas.Bool.{cases_lt, false≢true}
@@ -52,9 +52,9 @@ own_few : (extent_size : ℕ) (reading : Reading) (pv : Row) (header : PvHeader)
     → is_this_misplaced extent_size reading (pv_shape header) pv ≡ false → reading.sectors ≤ 2 ^ 40 → pv.1.pe_count * extent_size ≤ 2 ^ 40
 own_few extent_size reading pv header same placed most =
     few_on pv.1.pe_start (pv.1.pe_count * extent_size) reading.sectors
-        (ltb pv.1.pe_start 8 || list_any (meets_area pv.1.pe_start (pv.1.pe_start + pv.1.pe_count * extent_size)) (pv_shape header).areas)
+    (ltb pv.1.pe_start 8 || list_any (meets_area pv.1.pe_start (pv.1.pe_start + pv.1.pe_count * extent_size)) (pv_shape header).areas)
     (sym (ap (λ (b : Bool). b && is_misplaced pv.1.pe_start (pv.1.pe_start + pv.1.pe_count * extent_size) reading (pv_shape header)) same)
-        ∙ placed) most
+    ∙ placed) most
 
 -- ---- on all disks
 
@@ -81,17 +81,17 @@ module _ (group : Group) (pv : Row) (among : Contains group.pvs pv) where
   on_own [] most placed within = absurd (omega (arith, within))
   on_own (disk ∷ disks) most placed within =
       by (has_header_id pv.1.id disk) refl within (λ later. on_own disks (λ k d there. most (suc k) d there) placed.1 later) where
-    by : (b : Bool) → has_header_id pv.1.id disk ≡ b → cond b 0 (disk_with disks pv.1.id + 1) < suc (length disks)
-        → (disk_with disks pv.1.id < length disks → IsFew) → IsFew
-    by true has within later = here disk (header_on disk.contents) refl has placed.0 (most 0 disk refl)
-    by false other within later = later (omega (arith, within))
+        by : (b : Bool) → has_header_id pv.1.id disk ≡ b → cond b 0 (disk_with disks pv.1.id + 1) < suc (length disks)
+            → (disk_with disks pv.1.id < length disks → IsFew) → IsFew
+        by true has within later = here disk (header_on disk.contents) refl has placed.0 (most 0 disk refl)
+        by false other within later = later (omega (arith, within))
 
 -- where lines may be judged against the state
 pub lie_on_disks : (state : GroupState) → IsState state → (group : Group) → state.group ≡ Some group → LieOnDisks group
 lie_on_disks state is group found =
     All-from_recursion (λ (pv : Row). pv.1.pe_count * group.extent_size ≤ 2 ^ 40) group.pvs
     (by group.pvs (recursion_from_All (Contains group.pvs) group.pvs (All-contains_itself group.pvs))
-        (recursion_from_All (λ n. n < length state.disks) (disks_of group state.disks) listed))
+    (recursion_from_All (λ n. n < length state.disks) (disks_of group state.disks) listed))
   where
     listed : All (λ n. n < length state.disks) (disks_of group state.disks)
     listed =
@@ -101,7 +101,7 @@ lie_on_disks state is group found =
     placed : Each (IsPlacedOn group) (shapes state.disks)
     placed =
         each_placed group 0 (shapes state.disks)
-            (subst (λ (o : Option Group). IfSome o (λ g. first_misplaced g (shapes state.disks) ≡ None)) found is.placed)
+        (subst (λ (o : Option Group). IfSome o (λ g. first_misplaced g (shapes state.disks) ≡ None)) found is.placed)
 
     by : (pvs : List Row) → Each (Contains group.pvs) pvs
         → Each (λ n. n < length state.disks) (map (λ (pv : Row). disk_with state.disks pv.1.id) pvs)
@@ -115,6 +115,6 @@ pub few_listed : (state : GroupState) → IsState state → (group : Group) → 
     → length state.disk_of ≤ 64
 few_listed state is group found accepted =
     let same : length state.disk_of ≡ length group.pvs =
-        ap length (listed_are state group is found) ∙ length-map group.pvs (λ (pv : Row). disk_with state.disks pv.1.id) in
+    ap length (listed_are state group is found) ∙ length-map group.pvs (λ (pv : Row). disk_with state.disks pv.1.id) in
     let few = (accepted Volumes).pvs.1 in
     omega (arith, same, few)

@@ -1,6 +1,6 @@
 -- The physical volumes of the group that a line gives lie well on their disks, where those that it had do.
-use Rattle.std.proofs.Common.{◌≡◌, ◌≤◌, ◌<◌, ℕ, suc, ◌+◌, ◌-◌, ◌*◌, ◌/◌, Bool, true, false, ◌||◌, ◌&&◌, cond, ltb, List, [], ◌∷◌, ◌++◌, map,
-    Option, Some, None, inl, inr, refl, sym, ap, subst, ◌∙◌, arith}
+use Rattle.std.proofs.Common.{◌≡◌, ◌≤◌, ◌<◌, ℕ, suc, ◌+◌, ◌-◌, ◌*◌, ◌/◌, Bool, true, false, ◌||◌, ◌&&◌, cond, ltb, List, [], ◌∷◌, ◌++◌, map}
+use Rattle.std.proofs.Common.{Option, Some, None, inl, inr, refl, sym, ap, subst, ◌∙◌, arith}
 use Rattle.std.specs.Prelude.{find, option_map, slice_get, unwrap_or}
 use Rattle.std.specs.List.{AllByRecursion as Each, enumerate_from, list_any}
 use Rattle.std.proofs.Math.Nat.{div-mul-le_self}
@@ -42,7 +42,7 @@ not_met start end area (inl before) =
 not_met start end area (inr behind) =
     let none : ltb (area.offset / 512) end ≡ false = grind (arith, nat_tests) in
     ap (λ (b : Bool). ltb start (area.offset / 512 + area.size / 512) && b) none
-        ∙ and_false (ltb start (area.offset / 512 + area.size / 512))
+    ∙ and_false (ltb start (area.offset / 512 + area.size / 512))
 
 shorter : (start end most : ℕ) (area : Extent) → end ≤ most → IsBesideData start most area → IsBesideData start end area
 shorter start end most area upto (inl before) = inl before
@@ -53,7 +53,7 @@ none_met : (start end most : ℕ) (areas : List Extent) → end ≤ most → Eac
 none_met start end most [] upto beside = refl
 none_met start end most (area ∷ areas) upto beside =
     ap (λ (b : Bool). b || list_any (meets_area start end) (map area_shape areas))
-        (not_met start end area (shorter start end most area upto beside.0))
+    (not_met start end area (shorter start end most area upto beside.0))
     ∙ none_met start end most areas upto beside.1
 
 -- data that have a sector begin at 8 or behind it
@@ -111,9 +111,10 @@ module _ (state : GroupState) (is : IsState state) (extent_size : ℕ) where
       elim (cases_order number added.disk) [
         | inl equal ↦
             let one : disk ≡ found.has.disk =
-                same_Some disk found.has.disk (sym there ∙ ap (slice_get state.disks) equal ∙ found.has.there) in
-            (same_Some added.header header (sym found.has.is ∙ ap (λ (d : Disk). header_on d.contents) (sym one) ∙ has),
-                ap (λ (d : Disk). d.sectors) one ∙ sym found.sectors)
+            same_Some disk found.has.disk (sym there ∙ ap (slice_get state.disks) equal ∙ found.has.there) in (
+              same_Some added.header header (sym found.has.is ∙ ap (λ (d : Disk). header_on d.contents) (sym one) ∙ has),
+              ap (λ (d : Disk). d.sectors) one ∙ sym found.sectors,
+            )
         | inr rest ↦ elim rest [
           | inl less ↦ absurd (ids_apart 0 state.disks is.differ number added.disk disk found.has.disk header added.header less there
               found.has.there has found.has.is (sym same))
@@ -128,12 +129,12 @@ module _ (state : GroupState) (is : IsState state) (extent_size : ℕ) where
       → is_this_misplaced extent_size (disk_shape disk) (pv_shape header) (name, pv_of extent_size added) ≡ false
   one_by number disk header name added false other there has found =
       ap (λ (b : Bool). b && is_misplaced (data_start added)
-          (data_start added + (data_end added - data_start added) / extent_size * extent_size) (disk_shape disk) (pv_shape header)) other
+      (data_start added + (data_end added - data_start added) / extent_size * extent_size) (disk_shape disk) (pv_shape header)) other
   one_by number disk header name added true same there has found =
       let own = own_disk number disk header added there has found (same_bytes_tells added.header.id header.id same) in
       ap (λ (b : Bool). same_bytes added.header.id header.id && b)
       (subst (λ (h : PvHeader). is_misplaced (data_start added)
-          (data_start added + (data_end added - data_start added) / extent_size * extent_size) (disk_shape disk) (pv_shape h) ≡ false) own.0
+      (data_start added + (data_end added - data_start added) / extent_size * extent_size) (disk_shape disk) (pv_shape h) ≡ false) own.0
       (own_placed added (disk_shape disk) found own.1))
       ∙ and_false (same_bytes added.header.id header.id)
 
@@ -142,9 +143,10 @@ module _ (state : GroupState) (is : IsState state) (extent_size : ℕ) where
       → Each (λ (added : AddedPv). (name : List ℕ)
       → is_this_misplaced extent_size (disk_shape disk) (pv_shape header) (name, pv_of extent_size added) ≡ false) all
   each_one number disk header there has [] found = tt
-  each_one number disk header there has (added ∷ more) found =
-      ((λ name. one_by number disk header name added (same_bytes added.header.id header.id) refl there has found.0),
-          each_one number disk header there has more found.1)
+  each_one number disk header there has (added ∷ more) found = (
+    (λ name. one_by number disk header name added (same_bytes added.header.id header.id) refl there has found.0),
+    each_one number disk header there has more found.1,
+  )
 
 -- ---- the group
 
@@ -168,7 +170,7 @@ IsPlacedOn group reading = has_misplaced group reading ≡ false
 abbrev pub misplaced_with : Group → Reading → Option PvHeader → Bool
 misplaced_with group reading header =
     unwrap_or (option_map (λ (found : PvOf). list_any (is_this_misplaced group.extent_size reading found) group.pvs)
-        (option_map pv_shape header)) false
+    (option_map pv_shape header)) false
 
 module _ (state : GroupState) (is : IsState state) (base : Group) (all : List AddedPv) (found : Each (IsFoundOn state) all) where
   placed_with : (number : ℕ) (disk : Disk) (header : Option PvHeader) → slice_get state.disks number ≡ Some disk
@@ -178,7 +180,7 @@ module _ (state : GroupState) (is : IsState state) (base : Group) (all : List Ad
   placed_with number disk None there has placed = refl
   placed_with number disk (Some header) there has placed =
       none_added (is_this_misplaced base.extent_size (disk_shape disk) (pv_shape header)) base.lvs base.extent_size base.pvs all placed
-          (each_one state is base.extent_size number disk header there has all found)
+      (each_one state is base.extent_size number disk header there has all found)
 
   placed_on : (number : ℕ) (disk : Disk) → slice_get state.disks number ≡ Some disk → IsPlacedOn base (disk_shape disk)
       → IsPlacedOn (extended base all) (disk_shape disk)
@@ -189,10 +191,11 @@ module _ (state : GroupState) (is : IsState state) (base : Group) (all : List Ad
       → Each (IsPlacedOn base) (shapes disks)
       → Each (IsPlacedOn (extended base all)) (shapes disks)
   placed_from number [] there placed = tt
-  placed_from number (disk ∷ disks) there placed =
-      (placed_on (number + 0) disk (there 0 disk refl) placed.0,
-          placed_from (number + 1) disks (λ k d at. subst (λ (n : ℕ). slice_get state.disks n ≡ Some d) (omega arith) (there (suc k) d at))
-          placed.1)
+  placed_from number (disk ∷ disks) there placed = (
+    placed_on (number + 0) disk (there 0 disk refl) placed.0,
+    placed_from (number + 1) disks (λ k d at. subst (λ (n : ℕ). slice_get state.disks n ≡ Some d) (omega arith) (there (suc k) d at))
+        placed.1,
+  )
 
 -- ---- the first that is misplaced
 
@@ -217,7 +220,7 @@ pub none_misplaced : (group : Group) (number : ℕ) (readings : List Reading) �
 none_misplaced group number [] placed = refl
 none_misplaced group number (reading ∷ more) placed =
     ap (λ (b : Bool). option_map (λ (d : ℕ × Reading). d.0)
-        (cond b (Some (number, reading)) (find (λ (d : ℕ × Reading). has_misplaced group d.1) (enumerate_from (number + 1) more)))) placed.0
+    (cond b (Some (number, reading)) (find (λ (d : ℕ × Reading). has_misplaced group d.1) (enumerate_from (number + 1) more)))) placed.0
     ∙ none_misplaced group (number + 1) more placed.1
 
 -- where none of a group is, none is where physical volumes are added

@@ -28,7 +28,7 @@ listed_are state group is found = subst (λ (o : Option Group). IfSome o (λ g. 
 pub listed_below : (state : GroupState) (group : Group) → IsState state → state.group ≡ Some group → All IsBelow state.disk_of
 listed_below state group is found =
     let there : All (λ n. n < length state.disks) state.disk_of =
-        subst (λ (o : Option Group). IfSome o (λ g. All (λ n. n < length state.disks) state.disk_of)) found is.there in
+    subst (λ (o : Option Group). IfSome o (λ g. All (λ n. n < length state.disks) state.disk_of)) found is.there in
     All-weaker (λ n. n < length state.disks) IsBelow (λ n below. omega (arith, below, is.few)) state.disk_of there
 
 pub both_below : (listed : List ℕ) (all : List AddedPv) → All IsBelow listed → All IsAdded all → All IsBelow (listed ++ disks_added all)

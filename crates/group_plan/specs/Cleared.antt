@@ -21,7 +21,7 @@ abbrev pub unused_label : set.FinSet nat_cmp → ℕ × Disk → Option NewLabel
 unused_label cleared disk =
     if set.contains cleared disk.0
     then option_map (λ (pv : ℕ × PvHeader). record { disk = disk.0; sector = pv.0; header = unused pv.1 })
-        (option_and_then pv_in disk.1.contents)
+    (option_and_then pv_in disk.1.contents)
     else None
 
 -- the label sectors of those of the disks

@@ -1,6 +1,6 @@
 -- How a line is judged: by refusals in their order, each of which holds or doesn't.
-use Rattle.std.specs.Prelude.{◌≡◌, ℕ, ◌+◌, ◌-◌, ◌^◌, ◌&&◌, ◌==◌, Bool, not, nat_lt, if◌then◌else◌, List, [], ◌∷◌, length, min, find, Option,
-    None, Some, is_none, option_map, Result, MatchResult}
+use Rattle.std.specs.Prelude.{◌≡◌, ℕ, ◌+◌, ◌-◌, ◌^◌, ◌&&◌, ◌==◌, Bool, not, nat_lt, if◌then◌else◌, List, [], ◌∷◌, length, min, find, Option}
+use Rattle.std.specs.Prelude.{None, Some, is_none, option_map, Result, MatchResult}
 use Rattle.std.specs.Option.{option_or}
 use Rattle.std.specs.List.{list_any}
 use Rattle.std.specs.FinSet as set
@@ -116,4 +116,4 @@ is_full size area = nat_lt (room area.0.size area.1) (need size)
 unfoldable pub large_row : List (Area × Option Locn) → List ℕ → ℕ → Option OpRefusal
 large_row areas disks size =
     option_map (λ (area : Area × Option Locn). TooLarge (need size) (room area.0.size area.1))
-        (find (λ area. lies_on (set_of disks) area && is_full size area) areas)
+    (find (λ area. lies_on (set_of disks) area && is_full size area) areas)

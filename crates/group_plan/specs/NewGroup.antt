@@ -48,5 +48,11 @@ text_row state base listed all now = large_row state.areas (listed ++ disks_adde
 -- those that were listed
 abbrev pub change_with : Group → List ℕ → List AddedPv → Change
 change_with base listed all =
-    record { group = Some (extended base all); zero = []; labels = map label_of all; taken = set_of (disks_added all); cleared = set.empty;
-        disk_of = listed ++ disks_added all }
+    record {
+      group = Some (extended base all);
+      zero = [];
+      labels = map label_of all;
+      taken = set_of (disks_added all);
+      cleared = set.empty;
+      disk_of = listed ++ disks_added all;
+    }

@@ -1,6 +1,6 @@
 -- The shape of what was found on disks without a header.
-use Rattle.std.proofs.Common.{◌≡◌, ◌<◌, ◌≤◌, ℕ, ◌+◌, true, List, [], ◌∷◌, ◌++◌, length, Option, Some, None, refl, sym, ap, subst, ◌∙◌,
-    arith}
+use Rattle.std.proofs.Common.{◌≡◌, ◌<◌, ◌≤◌, ℕ, ◌+◌, true, List, [], ◌∷◌, ◌++◌, length, Option, Some, None, refl, sym, ap, subst, ◌∙◌}
+use Rattle.std.proofs.Common.{arith}
 use Rattle.std.specs.Prelude.{filter_map, option_map, unwrap_or, slice_get, All, AllPairs, IfSome}
 use Rattle.std.specs.FinSet as set
 use Rattle.std.specs.Ordering.{nat_cmp}
@@ -25,13 +25,13 @@ none_held : (n : ℕ) (disks : List Disk) → All IsBare disks → held_areas n 
 none_held n [] all = refl
 none_held n (disk ∷ disks) all =
     ap (λ (l : List AreaFound). filter_map (held_area n) l ++ held_areas (n + 1) disks) (All-head IsBare disk disks all).1
-        ∙ none_held (n + 1) disks (All-tail IsBare disk disks all)
+    ∙ none_held (n + 1) disks (All-tail IsBare disk disks all)
 
 no_ids : (n : ℕ) (disks : List Disk) → All IsBare disks → ids_from n (shapes disks) ≡ []
 no_ids n [] all = refl
 no_ids n (disk ∷ disks) all =
     ap (λ (o : Option PvHeader). unwrap_or (option_map (λ (pv : PvOf). (n, pv.id) ∷ ids_from (n + 1) (shapes disks))
-        (option_map pv_shape o)) (ids_from (n + 1) (shapes disks))) (All-head IsBare disk disks all).0
+    (option_map pv_shape o)) (ids_from (n + 1) (shapes disks))) (All-head IsBare disk disks all).0
     ∙ no_ids (n + 1) disks (All-tail IsBare disk disks all)
 
 pub bare_shape : (found : Found) (disks : List Disk) → found.disks ≡ disks → 1 ≤ length disks → length disks ≤ 64
@@ -56,9 +56,9 @@ bare_shape found disks are some few each bare below no_group no_areas no_stale n
           subst (λ (o : Option Group). IfSome o (λ group. found.missing ≡ missing_of (shapes found.disks) group.pvs)) (sym no_group) tt;
       stale =
           subst (All (λ (area : ℕ × ℕ). area.0 < length found.disks)) (sym no_stale)
-              (All-nil (λ (area : ℕ × ℕ). area.0 < length found.disks));
+          (All-nil (λ (area : ℕ × ℕ). area.0 < length found.disks));
       strays =
           λ pv there. absurd (false≢true (sym (ap (λ (s : set.FinSet nat_cmp). set.contains s pv) no_strays ∙ set.contains-empty nat_cmp pv)
-              ∙ there));
+          ∙ there));
       unread = λ pv there. subst (λ (l : List Disk). pv < length l) (sym are) (below pv there);
     }

@@ -31,14 +31,23 @@ extent offset size = record { offset = offset; size = size }
 -- what an older pvcreate wrote, with this id
 abbrev header : ℕ → PvHeader
 header id =
-    record { id = id ∷ []; device_bytes = 33554432; data_areas = extent 1048576 0 ∷ []; areas = extent 4096 1044480 ∷ []; version = 1;
-        flags = 0 }
+    record {
+      id = id ∷ [];
+      device_bytes = 33554432;
+      data_areas = extent 1048576 0 ∷ [];
+      areas = extent 4096 1044480 ∷ [];
+      version = 1;
+      flags = 0;
+    }
 
 -- a disk with it, and with its label in sector 2
 abbrev whole : ℕ → Disk
 whole id =
-    record { sectors = 65536; contents = Some
-        (Whole 2 (header id) (record { area = extent 4096 1044480; header = Err BadMagic; entry = Nothing } ∷ [])) }
+    record {
+      sectors = 65536;
+      contents = Some
+          (Whole 2 (header id) (record { area = extent 4096 1044480; header = Err BadMagic; entry = Nothing } ∷ []));
+    }
 
 -- two such disks and a blank one
 abbrev disks : List Disk
@@ -46,8 +55,14 @@ disks = whole 1 ∷ whole 2 ∷ (record { sectors = 65536; contents = Some (NoLa
 
 abbrev state : GroupState
 state =
-    record { group = None; disks = disks; names = codes "a" ∷ codes "b" ∷ codes "c" ∷ []; areas = held_areas 0 disks; disk_of = [];
-        backup = None }
+    record {
+      group = None;
+      disks = disks;
+      names = codes "a" ∷ codes "b" ∷ codes "c" ∷ [];
+      areas = held_areas 0 disks;
+      disk_of = [];
+      backup = None;
+    }
 
 abbrev line : Command → Line
 line command = record { number = 1; id = Some (9 ∷ []); command = command }
@@ -60,8 +75,12 @@ row_kept = refl
 
 -- a new one is in sector 1, here of a physical volume without a metadata area
 row_new : (change_of state (line (Pvcreate (codes "c") 0)) 0 []).labels
-    ≡ (record { disk = 2; sector = 1; header =
-    record { id = 9 ∷ []; device_bytes = 33554432; data_areas = extent 1048576 0 ∷ []; areas = []; version = 2; flags = 0 } }) ∷ []
+    ≡ (record {
+      disk = 2;
+      sector = 1;
+      header =
+          record { id = 9 ∷ []; device_bytes = 33554432; data_areas = extent 1048576 0 ∷ []; areas = []; version = 2; flags = 0 };
+    }) ∷ []
 unfolding number_named
 row_new = refl
 

@@ -7,8 +7,8 @@ use Rattle.std.specs.Ordering.{nat_cmp}
 use Rattle.lvm_id.specs.LvmId.{hyphen_form}
 use Rattle.command_table.specs.Options.{number_named}
 use Rattle.line_answers.specs.declared.op_refusal.OpRefusal.{OpRefusal}
-use Rattle.line_answers.specs.declared.op_refusal.OpRefusal.TheVariants.{BadRule, BadText, InUse, LastPv, MoveStands, NoArea, NotInGroup,
-    NotResizeable, OtherGroup, SeqnoEnd, TooMany, UnknownPv}
+use Rattle.line_answers.specs.declared.op_refusal.OpRefusal.TheVariants.{BadRule, BadText, InUse, LastPv, MoveStands, NoArea, NotInGroup}
+use Rattle.line_answers.specs.declared.op_refusal.OpRefusal.TheVariants.{NotResizeable, OtherGroup, SeqnoEnd, TooMany, UnknownPv}
 use Rattle.pv_label.specs.declared.refusal.LabelRefusal.TheVariants.{NoLabel as NoneFound}
 use Rattle.pv_header.specs.declared.extent_list.Extent.{Extent}
 use Rattle.pv_header.specs.declared.header.PvHeader.{PvHeader}
@@ -44,16 +44,25 @@ extent offset size = record { offset = offset; size = size }
 -- the header with this id, of a physical volume in use
 abbrev header : ℕ → PvHeader
 header id =
-    record { id = id ∷ []; device_bytes = 67108864; data_areas = extent 1048576 0 ∷ []; areas = extent 4096 1044480 ∷ []; version = 2;
-        flags = 1 }
+    record {
+      id = id ∷ [];
+      device_bytes = 67108864;
+      data_areas = extent 1048576 0 ∷ [];
+      areas = extent 4096 1044480 ∷ [];
+      version = 2;
+      flags = 1;
+    }
 
 -- a disk with it, and with a text in its area
 abbrev whole : ℕ → Disk
 whole id = record {
   sectors = 131072;
   contents =
-      Some (Whole 1 (header id) (record { area = extent 4096 1044480; header = Err BadMagic;
-          entry = Text (record { offset = 512; size = 479; sum = 0 }) } ∷ []));
+      Some (Whole 1 (header id) (record {
+        area = extent 4096 1044480;
+        header = Err BadMagic;
+        entry = Text (record { offset = 512; size = 479; sum = 0 });
+      } ∷ []));
 }
 
 -- two disks of the group, one of none, and a blank one
@@ -92,8 +101,14 @@ group_with lvs = record {
 
 abbrev state : Group → GroupState
 state group =
-    record { group = Some group; disks = disks; names = codes "a" ∷ codes "b" ∷ codes "c" ∷ codes "d" ∷ []; areas = held_areas 0 disks;
-        disk_of = 0 ∷ 1 ∷ []; backup = None }
+    record {
+      group = Some group;
+      disks = disks;
+      names = codes "a" ∷ codes "b" ∷ codes "c" ∷ codes "d" ∷ [];
+      areas = held_areas 0 disks;
+      disk_of = 0 ∷ 1 ∷ [];
+      backup = None;
+    }
 
 -- one volume, on b
 abbrev on_b : Group
@@ -208,9 +223,13 @@ unfolding area_row
 row_bad_shape = simp (set.contains-insert nat_cmp_total) refl
 
 row_moves : restoring plain (Sound (group_with
-    ((codes "pvmove0", record (volume 7 (on.Pv 1))
-    { status = record { read = true; write = true; visible = false; fixed_minor = false; pvmove = true; locked = true; notsynced = false }
-    }) ∷ []))) ≡ Some MoveStands
+    ((
+      codes "pvmove0",
+      record (volume 7 (on.Pv 1)) {
+        status =
+            record { read = true; write = true; visible = false; fixed_minor = false; pvmove = true; locked = true; notsynced = false };
+      },
+    ) ∷ []))) ≡ Some MoveStands
 row_moves = refl
 
 row_both_last : restoring (record plain { seqno = 4294967295 }) (Unread (codes "BadToken")) ≡ Some SeqnoEnd

@@ -12,8 +12,9 @@ use Rattle.command_table.specs.declared.command.Command.{Command}
 use Rattle.command_table.specs.declared.command.Command.TheVariants.{Lvcreate, Lvextend, Lvreduce}
 use Rattle.command_table.specs.declared.command.NewVolume.{NewVolume}
 use Rattle.command_table.specs.Options.{number_named}
-use Rattle.line_answers.specs.declared.op_refusal.OpRefusal.TheVariants.{BadStripe, IdTaken, Layered, Locked, NameTaken, NoRun, NoSpace,
-    NotAllocatable, NotInGroup, NotLonger, NotShorter, TooFewPvs, TooMany, UnknownGroup, UnknownPv, UnknownVolume}
+use Rattle.line_answers.specs.declared.op_refusal.OpRefusal.TheVariants.{BadStripe, IdTaken, Layered, Locked, NameTaken, NoRun, NoSpace}
+use Rattle.line_answers.specs.declared.op_refusal.OpRefusal.TheVariants.{NotAllocatable, NotInGroup, NotLonger, NotShorter, TooFewPvs}
+use Rattle.line_answers.specs.declared.op_refusal.OpRefusal.TheVariants.{TooMany, UnknownGroup, UnknownPv, UnknownVolume}
 use Rattle.lvm_script.specs.declared.line.Line.{Line}
 use Rattle.meta_model.specs.declared.group.Group.{Group}
 use Rattle.meta_model.specs.declared.lv.Lv.{Lv}
@@ -43,9 +44,18 @@ use Rattle.group_ops.specs.Planning.{asks_of, change_of, refusal_of}
 
 -- a physical volume of 15 extents of 8,192 sectors, on a disk with this name
 abbrev pv : ℕ → List ℕ → List ℕ × Pv
-pv id name =
-    (codes "pv" ++ id ∷ [], record { id = id ∷ []; device = name; allocatable = true; missing = false; dev_size = 131072; pe_start = 2048;
-        pe_count = 15 })
+pv id name = (
+  codes "pv" ++ id ∷ [],
+  record {
+    id = id ∷ [];
+    device = name;
+    allocatable = true;
+    missing = false;
+    dev_size = 131072;
+    pe_start = 2048;
+    pe_count = 15;
+  },
+)
 
 -- a logical volume of these segments, visible or not
 abbrev lv : List ℕ → ℕ → Bool → List Segment → List ℕ × Lv
@@ -141,7 +151,7 @@ row_front = refl
 abbrev two : List (List ℕ × Lv)
 two =
     lv (codes "data") 1 true (segment 0 4 (Striped 0 (leg 0 0 ∷ [])) ∷ [])
-        ∷ lv (codes "home") 2 true (segment 0 2 (Striped 0 (leg 1 0 ∷ [])) ∷ []) ∷ []
+    ∷ lv (codes "home") 2 true (segment 0 2 (Striped 0 (leg 1 0 ∷ [])) ∷ []) ∷ []
 
 row_others : shortened_volume (codes "data") 1 (group two)
     ≡ record (group (lv (codes "data") 1 true (segment 0 1 (Striped 0 (leg 0 0 ∷ [])) ∷ [])
@@ -322,13 +332,21 @@ row_longer_stripes = refl
 -- a new volume of so much, on so many stripes, with so many mirrors
 abbrev wanted : Amount → ℕ → ℕ → NewVolume
 wanted amount stripes mirrors =
-    record { vg = codes "vg0"; lv = codes "new"; amount = amount; stripes = stripes; stripe_size = 128; mirrors = mirrors;
-        contiguous = false; pvs = [] }
+    record {
+      vg = codes "vg0";
+      lv = codes "new";
+      amount = amount;
+      stripes = stripes;
+      stripe_size = 128;
+      mirrors = mirrors;
+      contiguous = false;
+      pvs = [];
+    }
 
 -- two stripes have half of the extents each, and three of five; each leg of a mirror has all; a sector more than an extent is two
 row_created_shares : map (share_for 8192)
     (wanted (Extents 5) 1 0 ∷ wanted (Extents 6) 2 0 ∷ wanted (Extents 5) 2 0 ∷ wanted (Extents 5) 1 2 ∷ wanted (Sectors 8193) 1 0
-        ∷ wanted (Sectors 8193) 2 0 ∷ wanted (Sectors 8192) 1 1 ∷ []) ≡ 5 ∷ 3 ∷ 3 ∷ 5 ∷ 2 ∷ 1 ∷ 1 ∷ []
+    ∷ wanted (Sectors 8193) 2 0 ∷ wanted (Sectors 8192) 1 1 ∷ []) ≡ 5 ∷ 3 ∷ 3 ∷ 5 ∷ 2 ∷ 1 ∷ 1 ∷ []
 row_created_shares = refl
 
 row_created_legs : map legs_for (wanted (Extents 1) 1 0 ∷ wanted (Extents 1) 2 0 ∷ wanted (Extents 1) 8 0 ∷ wanted (Extents 1) 1 1
@@ -360,9 +378,9 @@ row_stripe_pieces = refl
 row_stripes_of :
     map
     (λ (kind : SegKind). stripes_row (group (lv (codes "s") 7 true (striped ∷ []) ∷ lv (codes "t") 8 true (striped ∷ segment 6 6 kind ∷ [])
-        ∷ [])))
+    ∷ [])))
     (Striped 256 (leg 0 6 ∷ leg 1 6 ∷ []) ∷ Striped 192 (leg 0 6 ∷ leg 1 6 ∷ []) ∷ Striped 0 (leg 0 6 ∷ leg 1 6 ∷ [])
-        ∷ Striped 0 (leg 0 6 ∷ []) ∷ [])
+    ∷ Striped 0 (leg 0 6 ∷ []) ∷ [])
     ≡ None ∷ Some (BadStripe 192 8192) ∷ Some (BadStripe 0 8192) ∷ None ∷ []
 row_stripes_of = refl
 

@@ -1,15 +1,15 @@
 -- Disks that read again as they did, but for areas that give a new copy of a group.
-use Rattle.std.proofs.Common.{◌≡◌, ◌⊎◌, ℕ, Bool, true, false, ◌&&◌, ◌||◌, cond, List, [], ◌∷◌, map, Option, Some, None, inl, inr, ⊎_elim,
-    refl, sym, ap, subst, ◌∙◌, not}
+use Rattle.std.proofs.Common.{◌≡◌, ◌⊎◌, ℕ, Bool, true, false, ◌&&◌, ◌||◌, cond, List, [], ◌∷◌, map, Option, Some, None, inl, inr, ⊎_elim}
+use Rattle.std.proofs.Common.{refl, sym, ap, subst, ◌∙◌, not}
 use Rattle.std.specs.Prelude.{filter, filter_map, option_map, unwrap_or}
 use Rattle.std.specs.List.{AllByRecursion, cons_option, list_any}
 use Rattle.std.proofs.lemmas.Bool.{or_left, or_right, false≢true}
 use Rattle.std.proofs.lemmas.Option.{same_Some}
 use Rattle.meta_model.specs.declared.group.Group.{Group}
 use Rattle.meta_model.specs.declared.pv.Pv.{Pv}
-use Rattle.scan_rules.specs.Decision.{Area, AreaReading, Conflict, Copy, DuplicatePv, Found, FoundGroup, GivesNoLater, HasShape, Held,
-    HoldsNone, NoCopy, NoGroup, PvShape, Reading, SameAreas, SameHeaders, SamePv, ScanAnswer, TwoGroups, Unsupported, decide_scan, gives,
-    group_found, has_id, holds, is_held, is_listed, lists, same_bytes}
+use Rattle.scan_rules.specs.Decision.{Area, AreaReading, Conflict, Copy, DuplicatePv, Found, FoundGroup, GivesNoLater, HasShape, Held}
+use Rattle.scan_rules.specs.Decision.{HoldsNone, NoCopy, NoGroup, PvShape, Reading, SameAreas, SameHeaders, SamePv, ScanAnswer, TwoGroups}
+use Rattle.scan_rules.specs.Decision.{Unsupported, decide_scan, gives, group_found, has_id, holds, is_held, is_listed, lists, same_bytes}
 use Rattle.scan_rules.specs.Found.{is_missing, missing_of}
 use Rattle.scan_rules.proofs.Scanning.{same_bytes_to, scan_finds}
 use Rattle.image_scans.proofs.AreaReadings.{AreasGive, DisksGive, GivenHas, PvGives, each_given}
@@ -147,7 +147,7 @@ module _ (group : Group) (text : List ℕ) (passed : List (List ℕ)) where
   pv_new (Some a) (Some b) again s =
       ⊎_elim
       (λ it. inl (ap (λ (x : Bool). x && list_any (gives text) (filter_map (λ (area : Area). area.reading) b.areas))
-          (ap (lists group) (sym again.0) ∙ it.0) ∙ it.1))
+      (ap (lists group) (sym again.0) ∙ it.0) ∙ it.1))
       (λ same. inr (λ i. Some (record { id = sym again.0 i; areas = same i })))
       (areas_new (lists group a.id) a.areas b.areas again.1)
 
@@ -180,7 +180,7 @@ areas_as_before new [] (b ∷ bs) again = absurd again
 areas_as_before new (a ∷ as') [] again = absurd again
 areas_as_before new (a ∷ as') (b ∷ bs) again =
     λ i. record { start = sym again.0 i; sectors = sym again.1 i; reading = none_new new a.reading b.reading again.2 i }
-        ∷ areas_as_before new as' bs again.3 i
+    ∷ areas_as_before new as' bs again.3 i
 
 pv_as_before : (new : AreaReading) (a b : Option Found) → PvAgain (λ id. false) (λ id r. false) new a b → b ≡ a
 pv_as_before new None None again = refl
@@ -210,8 +210,15 @@ finds_by : (disks : List Reading) (group : Group) (text : List ℕ) (answer : Sc
     → group_found answer ≡ Some (group, text) → Finds disks group text
 finds_by disks group text (FoundGroup held stale strays missing) is has =
     let both : (held.group, held.text) ≡ (group, text) = same_Some (held.group, held.text) (group, text) has in
-    record { held = held; stale = stale; strays = strays; missing = missing; is = is; group_is = ap (λ (p : Group × List ℕ). p.0) both;
-        text_is = ap (λ (p : Group × List ℕ). p.1) both }
+    record {
+      held = held;
+      stale = stale;
+      strays = strays;
+      missing = missing;
+      is = is;
+      group_is = ap (λ (p : Group × List ℕ). p.0) both;
+      text_is = ap (λ (p : Group × List ℕ). p.1) both;
+    }
 finds_by disks group text NoGroup is has = absurd cc
 finds_by disks group text (DuplicatePv a b) is has = absurd cc
 finds_by disks group text (NoCopy rs) is has = absurd cc
@@ -224,7 +231,7 @@ pub finds_newest : (group : Group) (text : List ℕ) (disks : List Reading) → 
     → DisksGive (λ disk. GivesNoLater group text) disks → is_held group text disks ≡ true → Finds disks group text
 finds_newest group text disks shape all held =
     finds_by disks group text (decide_scan disks) refl
-        (scan_finds group text disks shape (each_given (GivesNoLater group text) disks all) held)
+    (scan_finds group text disks shape (each_given (GivesNoLater group text) disks all) held)
 
 -- ---- what is missing
 
@@ -242,14 +249,14 @@ same_ids id [] (b ∷ bs) same = absurd same
 same_ids id (a ∷ as') [] same = absurd same
 same_ids id (a ∷ as') (b ∷ bs) same =
     ap (λ (x : Bool). x || list_any (has_id id) as') (id_on id a.pv b.pv same.1)
-        ∙ ap (λ (x : Bool). has_id id b || x) (same_ids id as' bs same.2)
+    ∙ ap (λ (x : Bool). has_id id b || x) (same_ids id as' bs same.2)
 
 pub none_missing : (disks : List Reading) (pvs : List (List ℕ × Pv)) → AllByRecursion (λ pv. is_missing disks pv ≡ false) pvs
     → missing_of disks pvs ≡ []
 none_missing disks [] all = refl
 none_missing disks (pv ∷ pvs) all =
     ap (λ (b : Bool). map (λ (p : List ℕ × Pv). p.1.id) (cond b (pv ∷ filter (is_missing disks) pvs) (filter (is_missing disks) pvs))) all.0
-        ∙ none_missing disks pvs all.1
+    ∙ none_missing disks pvs all.1
 
 -- which physical volumes are missing is told by ids
 kept_same : (pv : List ℕ × Pv) (b : Bool) (xs ys : List (List ℕ × Pv))

@@ -1,6 +1,6 @@
 -- One area on the way of a commit: it gives what it gave, or the new text.
-use Rattle.std.proofs.Common.{◌≡◌, ◌≤◌, ◌⊎◌, ℕ, ◌+◌, ◌/◌, Bool, true, false, List, length, Option, Some, None, Result, Ok, inl, inr, ⊎_elim,
-    refl, sym, ap, subst, ◌∙◌, arith}
+use Rattle.std.proofs.Common.{◌≡◌, ◌≤◌, ◌⊎◌, ℕ, ◌+◌, ◌/◌, Bool, true, false, List, length, Option, Some, None, Result, Ok, inl, inr, ⊎_elim}
+use Rattle.std.proofs.Common.{refl, sym, ap, subst, ◌∙◌, arith}
 use Rattle.std.proofs.lemmas.Option.{same_Some}
 use Rattle.disk_model.specs.Steps.{Image}
 use Rattle.pv_header.specs.declared.extent_list.Extent.{Extent}
@@ -89,13 +89,13 @@ HasHeader text pv base image found =
 abbrev pub IsCleared : ℕ → Image → (AreaReading → Bool) → AreaFound → Type 0
 IsCleared pv image bare found =
     (held : Area × Option Locn) × (held_area pv found ≡ Some held) × CanTake held
-        × (image pv (found.area.offset / 512) ≡ header_bytes (header_of held.0 None None)) × ((r : AreaReading) → bare r ≡ true)
+    × (image pv (found.area.offset / 512) ≡ header_bytes (header_of held.0 None None)) × ((r : AreaReading) → bare r ≡ true)
 
 -- what is known of an area
 abbrev pub IsKnown : List ℕ → ℕ → Image → Image → Bool → (AreaReading → Bool) → AreaFound → Type 0
 IsKnown text pv base image may bare found =
     (((held : Area × Option Locn) → held_area pv found ≡ Some held → IsOnTheWay text base image may held)
-        × HasHeader text pv base image found) ⊎ IsCleared pv image bare found
+    × HasHeader text pv base image found) ⊎ IsCleared pv image bare found
 
 module _ (text : List ℕ) (group : Group) (passed : List (List ℕ)) (copy : IsCopyOf text group passed) (may : Bool)
     (bare : AreaReading → Bool) (pv : ℕ) (base image : Image) (extent : Extent) (before : AreaOf)
@@ -142,10 +142,10 @@ module _ (text : List ℕ) (group : Group) (passed : List (List ℕ)) (copy : Is
   of_new entry r allowed was shows =
       let locn : Locn = new_entry text (own, entry) in
       let names : IsEntry sector extent.offset extent.size (Text locn) =
-          subst (λ (s : List ℕ). IsEntry s extent.offset extent.size (Text locn)) first_sector shows.header in
+      subst (λ (s : List ℕ). IsEntry s extent.offset extent.size (Text locn)) first_sector shows.header in
       let header = header_of_text sector extent.offset extent.size locn names in
       make (Ok header.0) (Text locn) (Some new) (header.1, header.2, header.3) names
-          (new, refl, stored_copy text group passed (own, entry) (stored_bytes (image pv) own locn) copy shows.ring)
+      (new, refl, stored_copy text group passed (own, entry) (stored_bytes (image pv) own locn) copy shows.ring)
       (subst (λ (o : Option AreaReading). GivesAgain new may bare o (Some new)) (sym was) (inr (inl (refl, allowed))))
 
   -- the text that stood there
@@ -153,17 +153,17 @@ module _ (text : List ℕ) (group : Group) (passed : List (List ℕ)) (copy : Is
       → ShowsBy (old_reading (text_in base)) image (own, Some locn) → Reads
   of_text locn given was stored shows =
       let names : IsEntry sector extent.offset extent.size (Text locn) =
-          subst (λ (s : List ℕ). IsEntry s extent.offset extent.size (Text locn)) first_sector shows.header in
+      subst (λ (s : List ℕ). IsEntry s extent.offset extent.size (Text locn)) first_sector shows.header in
       let header = header_of_text sector extent.offset extent.size locn names in
       make (Ok header.0) (Text locn) (Some given) (header.1, header.2, header.3) names
-          (given, refl, subst (λ (bytes : List ℕ). IsStored locn bytes given) (sym shows.ring) stored) (again_same (Some given) was)
+      (given, refl, subst (λ (bytes : List ℕ). IsStored locn bytes given) (sym shows.ring) stored) (again_same (Some given) was)
 
   -- none, by a header that names none
   of_none : (header : MdaHeader) → GivesAgain new may bare before.reading (Some HoldsNone) → IsHeader sector header
       → header.start ≡ extent.offset → header.size ≡ extent.size → header.committed ≡ None → header.ignored ≡ false → Reads
   of_none header again is starts sized none seen =
       make (Ok header) Nothing (Some HoldsNone) (is, starts, sized) (entry_nothing sector extent.offset extent.size header is none seen)
-          refl again
+      refl again
 
   may_hold_none : (r : AreaReading) → before.reading ≡ Some r → bare r ≡ true → GivesAgain new may bare before.reading (Some HoldsNone)
   may_hold_none r was is_bare =
@@ -175,13 +175,13 @@ module _ (text : List ℕ) (group : Group) (passed : List (List ℕ)) (copy : Is
       ⊎_elim
       (λ (nothing : IsEntry (sectors_of own image 0) extent.offset extent.size Nothing).
       let e : ◌≡◌ {A = HeaderEntry} (Text locn) Nothing =
-          one_entry sector extent.offset extent.size (Text locn) Nothing is
-              (subst (λ (s : List ℕ). IsEntry s extent.offset extent.size Nothing) first_sector nothing) in
+      one_entry sector extent.offset extent.size (Text locn) Nothing is
+      (subst (λ (s : List ℕ). IsEntry s extent.offset extent.size Nothing) first_sector nothing) in
       absurd cc)
       (λ refused.
       let e : ◌≡◌ {A = HeaderEntry} (Text locn) (RefusedFor refused.0) =
       one_entry sector extent.offset extent.size (Text locn) (RefusedFor refused.0) is
-          (subst (λ (s : List ℕ). IsEntry s extent.offset extent.size (RefusedFor refused.0)) first_sector refused.1) in absurd cc)
+      (subst (λ (s : List ℕ). IsEntry s extent.offset extent.size (RefusedFor refused.0)) first_sector refused.1) in absurd cc)
       names
 
   module _ (header : Result MdaHeader MdaRefusal) where
@@ -194,7 +194,7 @@ module _ (text : List ℕ) (group : Group) (passed : List (List ℕ)) (copy : Is
         → IsGiven (image pv) own entry before.reading → Reads
     of_base entry same found names given =
         make header entry before.reading (subst (λ (s : List ℕ). IsMdaFound s extent header) (sym same) found)
-            (subst (λ (s : List ℕ). IsEntry s extent.offset extent.size entry) (sym same) names) given (again_same before.reading refl)
+        (subst (λ (s : List ℕ). IsEntry s extent.offset extent.size entry) (sym same) names) given (again_same before.reading refl)
 
     -- no text was committed there, or the header was refused
     of_nothing : (entry : HeaderEntry) (r : AreaReading) → held_by own entry ≡ Some (own, None) → before.reading ≡ Some r
@@ -209,21 +209,21 @@ module _ (text : List ℕ) (group : Group) (passed : List (List ℕ)) (copy : Is
         (λ written.
         let is : (own, None) ≡ written.0 = same_Some (own, None) written.0 (sym held ∙ written.1) in
         let fits : need (length text + 1) ≤ room own.size None =
-            subst (λ (h : Area × Option Locn). need (length text + 1) ≤ room h.0.size h.1) (sym is) written.2 in
+        subst (λ (h : Area × Option Locn). need (length text + 1) ≤ room h.0.size h.1) (sym is) written.2 in
         ⊎_elim
         (λ first.
         let here : sector ≡ header_bytes (header_before text (own, None)) =
-            first ∙ ap (λ (h : Area × Option Locn). header_bytes (header_before text h)) (sym is) in
+        first ∙ ap (λ (h : Area × Option Locn). header_bytes (header_before text h)) (sym is) in
         of_none (header_before text (own, None)) again
-            (subst (λ (s : List ℕ). IsHeader s (header_before text (own, None))) (sym here) (before_read text (own, None) way.take fits))
-            refl refl refl refl)
+        (subst (λ (s : List ℕ). IsHeader s (header_before text (own, None))) (sym here) (before_read text (own, None) way.take fits))
+        refl refl refl refl)
         (λ last.
         let here : sector ≡ header_bytes (header_after text (own, None)) =
-            last ∙ ap (λ (h : Area × Option Locn). header_bytes (header_after text h)) (sym is) in
+        last ∙ ap (λ (h : Area × Option Locn). header_bytes (header_after text h)) (sym is) in
         let read : IsHeader sector (header_after text (own, None)) =
-            subst (λ (s : List ℕ). IsHeader s (header_after text (own, None))) (sym here) (after_read text (own, None) way.take fits) in
+        subst (λ (s : List ℕ). IsHeader s (header_after text (own, None))) (sym here) (after_read text (own, None) way.take fits) in
         absurd (not_both (new_entry text (own, None))
-            (entry_text sector (header_after text (own, None)) (new_entry text (own, None)) read refl refl) old.header))
+        (entry_text sector (header_after text (own, None)) (new_entry text (own, None)) read refl refl) old.header))
         written.3)
         has)
         (λ made. of_new None r made.1 was made.0)
@@ -242,14 +242,14 @@ module _ (text : List ℕ) (group : Group) (passed : List (List ℕ)) (copy : Is
         → HasHeader text pv base image (found_with entry) → Reads
     by_entry Ignored found names given read way has =
         ⊎_elim (λ same. of_base Ignored same found names given)
-            (λ written. absurd (let e : ◌≡◌ {A = Option (Area × Option Locn)} None (Some written.0) = written.1 in cc)) has
+        (λ written. absurd (let e : ◌≡◌ {A = Option (Area × Option Locn)} None (Some written.0) = written.1 in cc)) has
     by_entry Nothing found names given read way has =
         of_nothing Nothing HoldsNone refl given (again_same (Some HoldsNone) given) found names given (way (own, None) refl) has
     by_entry (Text locn) found names given read way has = of_some locn given.0 given.1 given.2 (way (own, Some locn) refl)
     by_entry (RefusedFor refusal) found names given read way has =
         ⊎_elim
         (λ is_bare. of_nothing (RefusedFor refusal) (Refused (HeaderRefused refusal)) refl given
-            (may_hold_none (Refused (HeaderRefused refusal)) given is_bare) found names given (way (own, None) refl) has)
+        (may_hold_none (Refused (HeaderRefused refusal)) given is_bare) found names given (way (own, None) refl) has)
         (λ none. absurd none)
         (subst (IsRead bare) given read)
 
@@ -259,7 +259,7 @@ module _ (text : List ℕ) (group : Group) (passed : List (List ℕ)) (copy : Is
     by_clearing entry o held given take here is_bare =
         let r = some_given entry o held given in
         of_none (header_of own None None) (may_hold_none r.0 r.1 (is_bare r.0))
-            (subst (λ (s : List ℕ). IsHeader s (header_of own None None)) (sym here) (empty_header_read own take.0)) refl refl refl refl
+        (subst (λ (s : List ℕ). IsHeader s (header_of own None None)) (sym here) (empty_header_read own take.0)) refl refl refl refl
       where
         some_given : (e : HeaderEntry) (x : Option Locn) → held_by own e ≡ Some (own, x) → IsGiven (base pv) own e before.reading
             → (r : AreaReading) × (before.reading ≡ Some r)
@@ -276,12 +276,12 @@ pub area_again : (text : List ℕ) (group : Group) (passed : List (List ℕ)) �
     → ReadsAgain pv (image pv) found.area (Copy group text passed) may bare before
 area_again text group passed copy may bare pv base image found before is reads read (inl known) =
     by_entry text group passed copy may bare pv base image found.area before reads.start_is reads.sectors_is found.header found.entry is.0
-        is.1 reads.given read known.0 known.1
+    is.1 reads.given read known.0 known.1
 area_again text group passed copy may bare pv base image found before is reads read (inr cleared) =
     let same : cleared.0.0 ≡ area_on pv found.area = entry_kept (area_on pv found.area) found.entry cleared.0 cleared.1 in
     let held : held_by (area_on pv found.area) found.entry ≡ Some (area_on pv found.area, cleared.0.1) =
-        cleared.1 ∙ ap (λ (a : Area). Some (a, cleared.0.1)) same in
+    cleared.1 ∙ ap (λ (a : Area). Some (a, cleared.0.1)) same in
     by_clearing text group passed copy may bare pv base image found.area before reads.start_is reads.sectors_is found.header found.entry
-        cleared.0.1 held reads.given
+    cleared.0.1 held reads.given
     (subst (λ (a : Area). CanTake (a, cleared.0.1)) same cleared.2)
-        (cleared.3 ∙ ap (λ (a : Area). header_bytes (header_of a None None)) same) cleared.4
+    (cleared.3 ∙ ap (λ (a : Area). header_bytes (header_of a None None)) same) cleared.4

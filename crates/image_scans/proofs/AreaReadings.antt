@@ -1,14 +1,15 @@
 -- What the areas of disks give, disk by disk and area by area.
-use Rattle.std.proofs.Common.{◌≡◌, ℕ, ◌+◌, Bool, true, false, not, ◌&&◌, ◌||◌, cond, nat_le, List, [], ◌∷◌, ◌++◌, Option, Some, None, refl,
-    sym, ap, subst, ◌∙◌}
+use Rattle.std.proofs.Common.{◌≡◌, ℕ, ◌+◌, Bool, true, false, not, ◌&&◌, ◌||◌, cond, nat_le, List, [], ◌∷◌, ◌++◌, Option, Some, None, refl}
+use Rattle.std.proofs.Common.{sym, ap, subst, ◌∙◌}
 use Rattle.std.specs.Prelude.{filter_map, option_map, unwrap_or}
 use Rattle.std.specs.Option.{option_and_then}
 use Rattle.std.specs.List.{AllByRecursion, cons_option, enumerate_from, flat_map, list_any}
 use Rattle.std.proofs.lemmas.Bool.{true≢false}
 use Rattle.std.proofs.lemmas.Option.{same_Some}
 use Rattle.meta_model.specs.declared.group.Group.{Group}
-use Rattle.scan_rules.specs.Decision.{Area, AreaReading, Copy, EachArea, Found, Held, HoldsNone, Reading, Refused, best, copies,
-    copies_from, copy_of, gives, greater, is_listed, is_something, readings_in, refusal_of, refusals_from, stale_in}
+use Rattle.scan_rules.specs.Decision.{Area, AreaReading, Copy, EachArea, Found, Held, HoldsNone, Reading, Refused, best, copies}
+use Rattle.scan_rules.specs.Decision.{copies_from, copy_of, gives, greater, is_listed, is_something, readings_in, refusal_of, refusals_from}
+use Rattle.scan_rules.specs.Decision.{stale_in}
 use Rattle.scan_rules.specs.Found.{stale_if, stale_of}
 use Rattle.image_scans.proofs.Decided.{HasNothing, strays_in}
 
@@ -115,7 +116,7 @@ copies_have : (P : Group → List ℕ → List (List ℕ) → Type 0) (first : �
 copies_have P first [] all = tt
 copies_have P first (disk ∷ disks) all =
     all_append (HeldHas P) (filter_map (copy_of first) (readings_in disk)) (copies_from (first + 1) disks)
-        (copies_of_list P first (readings_in disk) all.0) (copies_have P (first + 1) disks all.1)
+    (copies_of_list P first (readings_in disk) all.0) (copies_have P (first + 1) disks all.1)
 
 pick : (P : Held → Type 0) (c d : Held) (b : Bool) → P c → P d → P (cond b c d)
 pick P c d true p q = p
@@ -191,13 +192,13 @@ copies_silent : (first : ℕ) (disks : List Reading) → EachArea IsNone disks �
 copies_silent first [] all = refl
 copies_silent first (disk ∷ disks) all =
     both_nil (filter_map (copy_of first) (readings_in disk)) (copies_from (first + 1) disks)
-        (list_silent (copy_of first) refl (readings_in disk) all.0) (copies_silent (first + 1) disks all.1)
+    (list_silent (copy_of first) refl (readings_in disk) all.0) (copies_silent (first + 1) disks all.1)
 
 refusals_silent : (first : ℕ) (disks : List Reading) → EachArea IsNone disks → refusals_from first disks ≡ []
 refusals_silent first [] all = refl
 refusals_silent first (disk ∷ disks) all =
     both_nil (filter_map (refusal_of first) (readings_in disk)) (refusals_from (first + 1) disks)
-        (list_silent (refusal_of first) refl (readings_in disk) all.0) (refusals_silent (first + 1) disks all.1)
+    (list_silent (refusal_of first) refl (readings_in disk) all.0) (refusals_silent (first + 1) disks all.1)
 
 pub copies_none : (disks : List Reading) → DisksGive (λ disk. IsNone) disks → copies_from 0 disks ≡ []
 copies_none disks all = copies_silent 0 disks (each_given IsNone disks all)
@@ -266,10 +267,10 @@ disk_settled : (group : Group) (text : List ℕ) (number : ℕ) (disk : Reading)
     → PvGives (IsSettled group text disk) disk.pv
 disk_settled group text number disk true listed none silent =
     pv_weaker (λ r. gives text r ≡ true) (IsSettled group text disk)
-        (λ r given. ((λ is. given), λ no_list. absurd (true≢false (sym listed ∙ no_list)))) disk.pv (pv_texts text number disk.pv none)
+    (λ r given. ((λ is. given), λ no_list. absurd (true≢false (sym listed ∙ no_list)))) disk.pv (pv_texts text number disk.pv none)
 disk_settled group text number disk false listed none silent =
     pv_weaker (λ r. is_something r ≡ false) (IsSettled group text disk)
-        (λ r given. ((λ is. absurd (true≢false (sym is ∙ listed))), λ no_list. given)) disk.pv (pv_silent disk.pv silent)
+    (λ r given. ((λ is. absurd (true≢false (sym is ∙ listed))), λ no_list. given)) disk.pv (pv_silent disk.pv silent)
 
 settled_from : (group : Group) (text : List ℕ) (first : ℕ) (disks : List Reading)
     → flat_map (stale_of group text) (enumerate_from first disks) ≡ []
@@ -280,7 +281,7 @@ settled_from group text first (disk ∷ disks) stale strays =
     let a = nil_parts (stale_of group text (first, disk)) (flat_map (stale_of group text) (enumerate_from (first + 1) disks)) stale in
     let b = stray_parts first (not (is_listed group disk) && list_any is_something (readings_in disk))
     (filter_map (λ (d : ℕ × Reading). cond (not (is_listed group d.1) && list_any is_something (readings_in d.1)) (Some d.0) None)
-        (enumerate_from (first + 1) disks)) strays in
+    (enumerate_from (first + 1) disks)) strays in
     (disk_settled group text first disk (is_listed group disk) refl a.0 b.0, settled_from group text (first + 1) disks a.1 b.1)
 
 pub settled : (group : Group) (text : List ℕ) (disks : List Reading) → flat_map (stale_of group text) (enumerate_from 0 disks) ≡ []

@@ -39,7 +39,7 @@ shows_one : (image : Image) (pv : ℕ) (found : AreaFound) (held : Area × Optio
 shows_one image pv found held is kept =
     let first : image pv (found.area.offset / 512) ≡ sectors_of (area_on pv found.area) image 0 = ap (image pv) (omega arith) in
     shows_by image (area_on pv found.area) found.entry held
-        (subst (λ (s : List ℕ). IsEntry s found.area.offset found.area.size found.entry) first is.1) kept
+    (subst (λ (s : List ℕ). IsEntry s found.area.offset found.area.size found.entry) first is.1) kept
 
 shows_on : (image : Image) (pv sectors : ℕ) (contents : Option PvFound) → IsContents (image pv) sectors contents
     → All (ShowsEntry image) (filter_map (held_area pv) (areas_on contents))
@@ -48,7 +48,7 @@ shows_on image pv sectors (Some (NoLabel refusal)) is = All-nil (ShowsEntry imag
 shows_on image pv sectors (Some (NoHeader label refusal)) is = All-nil (ShowsEntry image)
 shows_on image pv sectors (Some (Whole label header areas)) is =
     all_kept (ShowsEntry image) (IsAreaFound (image pv)) (held_area pv) (λ found held here kept. shows_one image pv found held here kept)
-        areas is.2.each
+    areas is.2.each
 
 pub entries_shown : (image : Image) (unread : set.FinSet nat_cmp) (first : ℕ) (disks : List Disk) (readings : List Reading)
     → AreDiskReadings image unread first disks readings → ShowsEntries (held_areas first disks) image
@@ -57,5 +57,5 @@ entries_shown image unread first [] (reading ∷ readings) are = absurd are
 entries_shown image unread first (disk ∷ disks) [] are = absurd are
 entries_shown image unread first (disk ∷ disks) (reading ∷ readings) are =
     All-append (ShowsEntry image) (filter_map (held_area first) (areas_on disk.contents)) (held_areas (first + 1) disks)
-        (shows_on image first disk.sectors disk.contents are.1.contents)
+    (shows_on image first disk.sectors disk.contents are.1.contents)
     (entries_shown image unread (first + 1) disks readings are.2)

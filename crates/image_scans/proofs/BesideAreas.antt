@@ -29,11 +29,11 @@ beside_areas disks are number sector on b held here from to =
     let read = header_read on.disk.contents on.header on.is in
     let stands = subst (λ (x : Option PvFound). ContentsCanStand number on.disk.sectors x) read.2 (are number on.disk on.there).contents in
     let there : slice_get read.1 held.number ≡ Some held.found =
-        ap (λ (l : List AreaFound). slice_get l held.number) (ap areas_on (sym read.2) ∙ ap (λ (d : Disk). areas_on d.contents) (sym same))
-            ∙ held.at in
+    ap (λ (l : List AreaFound). slice_get l held.number) (ap areas_on (sym read.2) ∙ ap (λ (d : Disk). areas_on d.contents) (sym same))
+    ∙ held.at in
     let beside : IsBesideArea sector held.found.area =
-        each_area (IsBesideArea sector) read.1 held.number held.found (subst (Each (IsBesideArea sector)) (sym stands.2) on.beside.beside)
-            there in
+    each_area (IsBesideArea sector) read.1 held.number held.found (subst (Each (IsBesideArea sector)) (sym stands.2) on.beside.beside)
+    there in
     let area : b.0 ≡ area_on b.0.pv held.found.area = entry_kept (area_on b.0.pv held.found.area) held.found.entry b held.is in
     let starts : b.0.start ≡ held.found.area.offset = ap (λ (a : Area). a.start) area in
     let sized : b.0.size ≡ held.found.area.size = ap (λ (a : Area). a.size) area in

@@ -1,6 +1,6 @@
 -- A scan of an image that differs from the base only behind labels and beside metadata areas finds the same.
-use Rattle.std.proofs.Common.{◌≡◌, ◌≤◌, ◌<◌, ◌⊎◌, ℕ, zero, suc, ◌+◌, ◌*◌, ◌/◌, List, [], ◌∷◌, map, Option, Some, None, inl, inr, ⊎_elim,
-    refl, sym, ap, subst, ◌∙◌, arith}
+use Rattle.std.proofs.Common.{◌≡◌, ◌≤◌, ◌<◌, ◌⊎◌, ℕ, zero, suc, ◌+◌, ◌*◌, ◌/◌, List, [], ◌∷◌, map, Option, Some, None, inl, inr, ⊎_elim}
+use Rattle.std.proofs.Common.{refl, sym, ap, subst, ◌∙◌, arith}
 use Rattle.std.specs.Prelude.{slice_get}
 use Rattle.std.specs.FinSet as set
 use Rattle.std.specs.List.{AllByRecursion as Each}
@@ -46,7 +46,7 @@ module _ (base image : Image) (pv : ℕ) where
   abbrev SameIn : AreaFound → Type 0
   SameIn found =
       (sector : ℕ) → found.area.offset / 512 ≤ sector → sector < found.area.offset / 512 + found.area.size / 512
-          → image pv sector ≡ base pv sector
+      → image pv sector ≡ base pv sector
 
   -- ---- an area
 
@@ -63,12 +63,14 @@ module _ (base image : Image) (pv : ℕ) where
     text_same locn named =
         let inside : IsInside found.area.size locn = subst (LiesInside found.area.size) named usable.text in
         let names : IsEntry (base pv (found.area.offset / 512)) found.area.offset found.area.size (Text locn) =
-            subst (IsEntry (base pv (found.area.offset / 512)) found.area.offset found.area.size) named stood.1 in
+        subst (IsEntry (base pv (found.area.offset / 512)) found.area.offset found.area.size) named stood.1 in
         let shows : ShowsBy (old_reading (text_in base)) image (own, Some locn) =
         shows_alike (old_reading (text_in base)) (own, Some locn) base image usable.area (sized base own (Some locn) inside)
-            (λ k within. same (found.area.offset / 512 + k) (omega arith) (omega (arith, within)))
-        (record { header = subst (λ (n : ℕ). IsEntry (base pv n) found.area.offset found.area.size (Text locn)) (omega arith) names;
-            ring = refl })
+        (λ k within. same (found.area.offset / 512 + k) (omega arith) (omega (arith, within)))
+        (record {
+          header = subst (λ (n : ℕ). IsEntry (base pv n) found.area.offset found.area.size (Text locn)) (omega arith) names;
+          ring = refl;
+        })
         in
         shows.ring
 
@@ -81,9 +83,10 @@ module _ (base image : Image) (pv : ℕ) where
     given_same reading (RefusedFor refusal) named given = given
 
     area_found : IsAreaFound (image pv) found
-    area_found =
-        (subst (λ (s : List ℕ). IsMdaFound s found.area found.header) first_same stood.0,
-            subst (λ (s : List ℕ). IsEntry s found.area.offset found.area.size found.entry) first_same stood.1)
+    area_found = (
+      subst (λ (s : List ℕ). IsMdaFound s found.area found.header) first_same stood.0,
+      subst (λ (s : List ℕ). IsEntry s found.area.offset found.area.size found.entry) first_same stood.1,
+    )
 
     area_read : (area : AreaOf) → IsAreaReading pv (base pv) found area → IsAreaReading pv (image pv) found area
     area_read area reads =
@@ -124,8 +127,11 @@ module _ (base image : Image) (pv : ℕ) where
           (
             subst (λ (l : List (List ℕ)). IsFirstLabel l label) four found.0,
             subst (λ (s : List ℕ). Reads s (sectors * 512) header) (at_label label found.0) found.1,
-            record { in_order = found.2.in_order; each = All-from_recursion (IsAreaFound (image pv)) founds
-                (areas_found sectors founds usable same stood) },
+            record {
+              in_order = found.2.in_order;
+              each = All-from_recursion (IsAreaFound (image pv)) founds
+                  (areas_found sectors founds usable same stood);
+            },
           ),
           (reads.0, areas_read sectors founds own.areas usable same stood reads.1),
         )
@@ -136,9 +142,14 @@ module _ (base image : Image) (pv : ℕ) where
     contents_same None o stands same found reads = (tt, reads)
     contents_same (Some (NoLabel refusal)) o stands same found reads =
         (subst (λ (l : List (List ℕ)). IsLabelRefusal l refusal) four found, reads)
-    contents_same (Some (NoHeader label refusal)) o stands same found reads =
-        ((subst (λ (l : List (List ℕ)). IsFirstLabel l label) four found.0,
-            subst (λ (s : List ℕ). Refuses s (sectors * 512) refusal) (at_label label found.0) found.1, found.2), reads)
+    contents_same (Some (NoHeader label refusal)) o stands same found reads = (
+      (
+        subst (λ (l : List (List ℕ)). IsFirstLabel l label) four found.0,
+        subst (λ (s : List ℕ). Refuses s (sectors * 512) refusal) (at_label label found.0) found.1,
+        found.2,
+      ),
+      reads,
+    )
     contents_same (Some (Whole label header founds)) o stands same found reads = whole_same label header founds o stands same found reads
 
   disk_kept : (disk : Disk) (reading : Reading) → IsDisk pv disk → ((sector : ℕ) → sector < 8 → image pv sector ≡ base pv sector)
@@ -195,7 +206,7 @@ module _ (base image : Image) (disks : List Disk) (are : (pv : ℕ) (disk : Disk
         (λ on.
         let own : on.disk ≡ disk = same_Some on.disk disk (sym on.there ∙ there) in
         inr (areas_listed (IsBesideArea sector) pv disk.sectors disk.contents on.header (are pv disk there).contents
-            (ap (λ (d : Disk). header_on d.contents) (sym own) ∙ on.is) on.beside.beside))
+        (ap (λ (d : Disk). header_on d.contents) (sym own) ∙ on.is) on.beside.beside))
         (same pv sector)
 
     each_same : (founds : List AreaFound) → ((sector : ℕ)
@@ -222,7 +233,7 @@ module _ (base image : Image) (disks : List Disk) (are : (pv : ℕ) (disk : Disk
       → AreDiskReadings image unread 0 disks readings
   readings_kept unread readings reads =
       disks_kept base image unread low_same 0 disks readings
-          (λ k disk there. subst (λ (n : ℕ). IsKept base image unread low_same n disk) (omega arith) (disk_is_kept k disk there)) reads
+      (λ k disk there. subst (λ (n : ℕ). IsKept base image unread low_same n disk) (omega arith) (disk_is_kept k disk there)) reads
 
 pub scan_kept : (base image : Image) (sizes : List ℕ) (found : Found) → HasShape found
     → ((pv sector : ℕ) → (image pv sector ≡ base pv sector) ⊎ IsPlaceOn found.disks pv sector) → IsScanOf base sizes found
@@ -230,8 +241,11 @@ pub scan_kept : (base image : Image) (sizes : List ℕ) (found : Found) → HasS
 scan_kept base image sizes found shape same scan = record {
   readings = scan.readings;
   are =
-      record { sizes_is = scan.are.sizes_is; each = readings_kept base image found.disks (λ pv disk there. (shape.disks pv disk there).0)
-          same found.unread scan.readings scan.are.each };
+      record {
+        sizes_is = scan.are.sizes_is;
+        each = readings_kept base image found.disks (λ pv disk there. (shape.disks pv disk there).0)
+            same found.unread scan.readings scan.are.each;
+      };
   answer = scan.answer;
   areas = scan.areas;
   disk_of = scan.disk_of;

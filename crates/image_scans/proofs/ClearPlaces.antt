@@ -41,56 +41,56 @@ use Rattle.image_scans.proofs.Placed.{IsPlaceOn, place_beside}
 
 module _ (base : Image) (sizes : List ℕ) (found : Found) (names : List (List ℕ)) (backup : Option Backup) (line : Line) (now : ℕ)
     (given : List Part) (p : CanCarryOut base sizes found names backup line now given) (group : Group) (is_group : found.group ≡ Some group)
-    where
-  abbrev cleared_of_line : FinSet nat_cmp
-  cleared_of_line = (change_of (state_in found names backup) line now given).cleared
+  where
+    abbrev cleared_of_line : FinSet nat_cmp
+    cleared_of_line = (change_of (state_in found names backup) line now given).cleared
 
-  listed : found.disk_of ≡ disks_of group found.disks
-  listed = subst (λ (o : Option Group). IfSome o (λ g. found.disk_of ≡ disks_of g found.disks)) is_group p.shape.disk_of
+    listed : found.disk_of ≡ disks_of group found.disks
+    listed = subst (λ (o : Option Group). IfSome o (λ g. found.disk_of ≡ disks_of g found.disks)) is_group p.shape.disk_of
 
-  placed : first_misplaced group (shapes found.disks) ≡ None
-  placed = subst (λ (o : Option Group). IfSome o (λ g. first_misplaced g (shapes found.disks) ≡ None)) is_group p.shape.placed
+    placed : first_misplaced group (shapes found.disks) ≡ None
+    placed = subst (λ (o : Option Group). IfSome o (λ g. first_misplaced g (shapes found.disks) ≡ None)) is_group p.shape.placed
 
-  scanned : AreScanned found.disks found.areas
-  scanned = state_scanned (state_in found names backup) (is_state base sizes found names backup line now given p)
+    scanned : AreScanned found.disks found.areas
+    scanned = state_scanned (state_in found names backup) (is_state base sizes found names backup line now given p)
 
-  held : All (IsHeldOn found.disks) found.areas
-  held = subst (All (IsHeldOn found.disks)) (sym p.shape.areas) (all_held found.disks scanned.each)
+    held : All (IsHeldOn found.disks) found.areas
+    held = subst (All (IsHeldOn found.disks)) (sym p.shape.areas) (all_held found.disks scanned.each)
 
-  module _ (lv sector : ℕ) (at : At) (is : primary group lv sector ≡ Some at) where
-    abbrev number : ℕ
-    number = slice_index (disks_of group found.disks) at.pv
+    module _ (lv sector : ℕ) (at : At) (is : primary group lv sector ≡ Some at) where
+      abbrev number : ℕ
+      number = slice_index (disks_of group found.disks) at.pv
 
-    on : IsPlaceOn found.disks number at.sector
-    on =
-        place_beside group found.disks (old_whole p.scan.readings found (settled base sizes found names backup line now given p) group
-            is_group).0 placed (none_missing_of found p.shape p.whole group is_group) lv sector at is
+      on : IsPlaceOn found.disks number at.sector
+      on =
+          place_beside group found.disks (old_whole p.scan.readings found (settled base sizes found names backup line now given p) group
+          is_group).0 placed (none_missing_of found p.shape p.whole group is_group) lv sector at is
 
-    no_header : (a : Area × Option Locn) → IsHeldOn found.disks a → CanTake a → covers (header_span a.0) number at.sector ≡ false
-    no_header a is_held take =
-        false_from_ne_true (covers (header_span a.0) number at.sector)
-        (λ inside.
-        let t = covers_tells (header_span a.0) number at.sector inside in
-        beside_areas found.disks scanned.each number at.sector on a is_held t.0 t.1 (omega (arith, t.2, take.0.has_ring)))
+      no_header : (a : Area × Option Locn) → IsHeldOn found.disks a → CanTake a → covers (header_span a.0) number at.sector ≡ false
+      no_header a is_held take =
+          false_from_ne_true (covers (header_span a.0) number at.sector)
+          (λ inside.
+          let t = covers_tells (header_span a.0) number at.sector inside in
+          beside_areas found.disks scanned.each number at.sector on a is_held t.0 t.1 (omega (arith, t.2, take.0.has_ring)))
 
-    uncleared : IsUncleared cleared_of_line found.disks found.areas number at.sector
-    uncleared = record {
-      labels = λ k d within.
-          inr (λ same.
-          let low : (get_or (unused_labels cleared_of_line found.disks) k d).sector < 4 =
-              (labels_can found.disks found.areas scanned cleared_of_line k d within).sector_below in
-          let behind : 8 ≤ at.sector = on.beside.behind in
-          omega (arith, low, same, behind));
-      headers =
-          All-filter (lies_on cleared_of_line) (λ (a : Area × Option Locn). covers (header_span a.0) number at.sector ≡ false) found.areas
-          (λ k d within. no_header (get_or found.areas k d) (held k d within) (each_takes found.disks found.areas scanned k d within));
-    }
+      uncleared : IsUncleared cleared_of_line found.disks found.areas number at.sector
+      uncleared = record {
+        labels = λ k d within.
+            inr (λ same.
+            let low : (get_or (unused_labels cleared_of_line found.disks) k d).sector < 4 =
+            (labels_can found.disks found.areas scanned cleared_of_line k d within).sector_below in
+            let behind : 8 ≤ at.sector = on.beside.behind in
+            omega (arith, low, same, behind));
+        headers =
+            All-filter (lies_on cleared_of_line) (λ (a : Area × Option Locn). covers (header_span a.0) number at.sector ≡ false) found.areas
+            (λ k d within. no_header (get_or found.areas k d) (held k d within) (each_takes found.disks found.areas scanned k d within));
+      }
 
-    pub place_kept : (mid image : Image) → HasFirstBatches (clears_of (state_in found names backup) line now given) mid image
-        → at_place image found.disk_of at ≡ at_place mid found.disk_of at
-    place_kept mid image h =
-        subst (λ (l : List ℕ). at_place image l at ≡ at_place mid l at) (sym listed)
-            ((p.keeps.clears.kept mid image h).others number at.sector uncleared)
+      pub place_kept : (mid image : Image) → HasFirstBatches (clears_of (state_in found names backup) line now given) mid image
+          → at_place image found.disk_of at ≡ at_place mid found.disk_of at
+      place_kept mid image h =
+          subst (λ (l : List ℕ). at_place image l at ≡ at_place mid l at) (sym listed)
+          ((p.keeps.clears.kept mid image h).others number at.sector uncleared)
 
 pub clears_keep_places : ClearsKeepPlaces
 clears_keep_places base mid image sizes found names backup line now given group p is_group h lv sector at is =

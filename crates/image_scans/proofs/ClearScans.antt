@@ -48,8 +48,10 @@ shows_same : (image other : Image) (area : Area) (entry : Option Locn) (bytes : 
     → ((sector : ℕ) → image area.pv sector ≡ other area.pv sector) → Shows area entry bytes other → Shows area entry bytes image
 shows_same image other area entry bytes same shows =
     let at : sectors_of area other ≡ sectors_of area image = λ i sector. sym (same (area.start / 512 + sector)) i in
-    record { header = subst (λ (sector_at : ℕ → List ℕ). Names area entry (sector_at 0)) at shows.header;
-        ring = subst (HasBytes area entry bytes) at shows.ring }
+    record {
+      header = subst (λ (sector_at : ℕ → List ℕ). Names area entry (sector_at 0)) at shows.header;
+      ring = subst (HasBytes area entry bytes) at shows.ring;
+    }
 
 module _ (base : Image) (sizes : List ℕ) (found : Found) (names : List (List ℕ)) (backup : Option Backup) (line : Line) (now : ℕ)
     (given : List Part) (p : CanCarryOut base sizes found names backup line now given) (group : Group)
@@ -70,7 +72,7 @@ module _ (base : Image) (sizes : List ℕ) (found : Found) (names : List (List �
   apart : ClearsOthers change
   apart =
       clears_others found names backup p.shape p.whole p.scan.readings (settled base sizes found names backup line now given p) line.number
-          line.id now given line.command p.planned p.passes group makes
+      line.id now given line.command p.planned p.passes group makes
 
   -- the image with the commit
   abbrev committed : Image
@@ -85,17 +87,17 @@ module _ (base : Image) (sizes : List ℕ) (found : Found) (names : List (List �
     group_same pv on sector =
         others_same found.disks found.areas scanned change.cleared p.keeps.clears committed image h pv
         (⊎_elim (λ cleared. absurd (true≢false (sym on ∙ apart pv cleared))) (λ other. other) (cases_Bool (set.contains change.cleared pv)))
-            sector
+        sector
 
     -- and on any other nothing is committed
     other_same : (pv : ℕ) → set.contains (set_of change.disk_of) pv ≡ false → (sector : ℕ) → committed pv sector ≡ base pv sector
     other_same pv off sector =
         off_disk state (is_state base sizes found names backup line now given p) change group makes (printed (tree_of group now))
-            (fits base sizes found names backup line now given p group makes next)
-            (can base sizes found names backup line now given p).labels
+        (fits base sizes found names backup line now given p group makes next)
+        (can base sizes found names backup line now given p).labels
         (lies base sizes found names backup line now given p).differ base
-            (ends base sizes found names backup line now given p group makes next) committed
-            (front base sizes found names backup line now given p group makes next committed all_committed) pv off sector
+        (ends base sizes found names backup line now given p group makes next) committed
+        (front base sizes found names backup line now given p group makes next committed all_committed) pv off sector
 
     each_reads : (k : ℕ) (disk : Disk) (reading : Reading) → slice_get found.disks k ≡ Some disk
         → slice_get p.scan.readings k ≡ Some reading → IsDiskReading (0 + k) (base (0 + k)) disk reading
@@ -104,16 +106,16 @@ module _ (base : Image) (sizes : List ℕ) (found : Found) (names : List (List �
         ⊎_elim
         (λ on.
         subst (λ (sector_at : ℕ → List ℕ). DiskAgain (0 + k) sector_at (lists group) any_bare made disk reading)
-            (λ i sector. sym (group_same (0 + k) on sector) i)
+        (λ i sector. sym (group_same (0 + k) on sector) i)
         (disk_bare made (0 + k) (committed (0 + k)) (lists group) disk reading
-            (disk_reads base sizes found names backup line now given p group makes next committed all_committed k disk reading at_disk
-            at_reading is)))
+        (disk_reads base sizes found names backup line now given p group makes next committed all_committed k disk reading at_disk
+        at_reading is)))
         (λ off.
         disk_cleared found.disks found.areas scanned change.cleared p.keeps.clears committed image h base
-            (shown base sizes found names backup line now given p) (printed (tree_of group now)) group []
-            (copy base sizes found names backup line now given p group makes next)
+        (shown base sizes found names backup line now given p) (printed (tree_of group now)) group []
+        (copy base sizes found names backup line now given p group makes next)
         (lists group) any_bare (λ id r. refl) (0 + k) (other_same (0 + k) off) disk
-            (subst (λ (n : ℕ). slice_get found.disks n ≡ Some disk) (omega arith) at_disk) reading is (any_pv reading.pv))
+        (subst (λ (n : ℕ). slice_get found.disks n ≡ Some disk) (omega arith) at_disk) reading is (any_pv reading.pv))
         (cases_Bool (set.contains (set_of change.disk_of) (0 + k)))
 
     reads : AllAgain image found.unread 0 (lists group) any_bare made found.disks p.scan.readings
@@ -126,13 +128,13 @@ module _ (base : Image) (sizes : List ℕ) (found : Found) (names : List (List �
         let some = (fits base sizes found names backup line now given p group makes next).committed.some in
         let there : ShowsBy (new_reading (printed (tree_of group now))) committed first =
         (subst (λ (g : Option Group). HoldsAfter g now change state.areas committed) makes.made
-            (p.keeps.found base (shown base sizes found names backup line now given p)).areas) 0 no_area some
+        (p.keeps.found base (shown base sizes found names backup line now given p)).areas) 0 no_area some
         in
         let on : set.contains (set_of change.disk_of) first.0.pv ≡ true =
-            filter_passes (is_on (set_of change.disk_of)) state.areas 0 no_area some in
+        filter_passes (is_on (set_of change.disk_of)) state.areas 0 no_area some in
         where_held base sizes found names backup line now given p group makes next image any_bare reads
         (shows_same image committed first.0 (new_reading (printed (tree_of group now)) first).0
-            (new_reading (printed (tree_of group now)) first).1 (group_same first.0.pv on) there)
+        (new_reading (printed (tree_of group now)) first).1 (group_same first.0.pv on) there)
 
 -- of any line that commits a group
 pub clears_scan : ClearsScan
@@ -149,8 +151,8 @@ clears_scan base image sizes found names backup line now given group p commits h
         → FindsVersion sizes image none_out (Some (version_of group (change_of (state_in found names backup) line now given)))
     by (makes_version c) =
         subst (λ (g : Group). FindsVersion sizes image none_out
-            (Some (version_of g (change_of (state_in found names backup) line now given))))
-            (same_Some c.group group (sym c.makes.made ∙ commits))
+        (Some (version_of g (change_of (state_in found names backup) line now given))))
+        (same_Some c.group group (sym c.makes.made ∙ commits))
         (while_cleared base sizes found names backup line now given p c.group c.makes c.next image h)
     by (makes_pv m) = absurd (other m.none)
     by (makes_nothing none labels) = absurd (other none)

@@ -1,6 +1,6 @@
 -- An image while disks are cleared: each disk reads again, but that an area may hold nothing.
-use Rattle.std.proofs.Common.{◌≡◌, ◌≤◌, ◌<◌, ◌⊎◌, ℕ, ◌+◌, ◌/◌, Bool, true, false, List, [], ◌∷◌, length, get_or, map, Option, Some, None,
-    inl, inr, ⊎_elim, refl, sym, ap, subst, ◌∙◌, arith}
+use Rattle.std.proofs.Common.{◌≡◌, ◌≤◌, ◌<◌, ◌⊎◌, ℕ, ◌+◌, ◌/◌, Bool, true, false, List, [], ◌∷◌, length, get_or, map, Option, Some, None}
+use Rattle.std.proofs.Common.{inl, inr, ⊎_elim, refl, sym, ap, subst, ◌∙◌, arith}
 use Rattle.std.specs.Prelude.{All, slice_get}
 use Rattle.std.specs.Option.{option_and_then}
 use Rattle.std.specs.Ordering.{nat_cmp}
@@ -120,250 +120,257 @@ none_in (Some (Whole label header areas)) none = absurd cc
 
 module _ (disks : List Disk) (areas : List (Area × Option Locn)) (scanned : AreScanned disks areas) (cleared : set.FinSet nat_cmp)
     (clears : ClearsImages cleared disks areas) (mid image : Image) (h : HasFirstBatches (clear_batches cleared disks areas) mid image)
-    where
-  abbrev labels : List NewLabel
-  labels = unused_labels cleared disks
+  where
+    abbrev labels : List NewLabel
+    labels = unused_labels cleared disks
 
-  abbrev on : List (Area × Option Locn)
-  on = cleared_areas cleared areas
+    abbrev on : List (Area × Option Locn)
+    on = cleared_areas cleared areas
 
-  all_on : All (IsHeldOn disks) areas
-  all_on = subst (All (IsHeldOn disks)) (sym scanned.held) (all_held disks scanned.each)
+    all_on : All (IsHeldOn disks) areas
+    all_on = subst (All (IsHeldOn disks)) (sym scanned.held) (all_held disks scanned.each)
 
-  cleared_on : All (IsHeldOn disks) on
-  cleared_on = All-filter (lies_on cleared) (IsHeldOn disks) areas all_on
+    cleared_on : All (IsHeldOn disks) on
+    cleared_on = All-filter (lies_on cleared) (IsHeldOn disks) areas all_on
 
-  -- ---- what is written
+    -- ---- what is written
 
-  writes : (pv sector : ℕ) (value : List ℕ) → AnyWrites (clear_batches cleared disks areas) pv sector value
-      → IsWrittenBy (map label_put labels) pv sector value ⊎ IsClearWrite on pv sector value
-  writes pv sector value by =
-      ⊎_elim
-      (λ label. inl (any_if (map label_put labels) pv sector value label))
-      (λ clear. inr (clear_write on pv sector value (any_if (map clear_put on) pv sector value clear)))
-      (any_append (batch_if (map label_put labels)) (batch_if (map clear_put on)) pv sector value by)
-
-  sector_in : (pv sector : ℕ) → (image pv sector ≡ mid pv sector)
-      ⊎ (IsWrittenBy (map label_put labels) pv sector (image pv sector) ⊎ IsClearWrite on pv sector (image pv sector))
-  sector_in pv sector =
-      ⊎_elim (λ same. inl same) (λ by. inr (writes pv sector (image pv sector) by))
-          (front_or (clear_batches cleared disks areas) mid image pv sector h)
-
-  label_low : (k : ℕ) → k < length labels → (get_or labels k no_label).sector < 4
-  label_low k within = (labels_can disks areas scanned cleared k no_label within).sector_below
-
-  clear_far : (pv sector : ℕ) (value : List ℕ) → IsClearWrite on pv sector value → 4 ≤ sector
-  clear_far pv sector value w =
-      let begins : 2048 ≤ (get_or on w.number no_area).0.start = cleared_far disks areas scanned cleared w.number no_area w.among in omega
-          (arith, begins, w.at)
-
-  clear_takes : (pv sector : ℕ) (value : List ℕ) (w : IsClearWrite on pv sector value) → CanTake (get_or on w.number no_area)
-  clear_takes pv sector value w = (cleared_held disks areas scanned cleared).take w.number no_area w.among
-
-  -- another disk stays as it is
-  pub others_same : (pv : ℕ) → set.contains cleared pv ≡ false → (sector : ℕ) → image pv sector ≡ mid pv sector
-  others_same pv other sector =
-      ⊎_elim
-      (λ same. same)
-      (λ by.
-      ⊎_elim
-      (λ label.
-      let w = label_where labels no_label pv sector (image pv sector) label in
-      let l : IsLabelOn cleared disks (get_or labels w.0 no_label) = labels_on cleared disks w.0 no_label w.1 in
-      absurd (true≢false (sym l.5 ∙ ap (set.contains cleared) w.2 ∙ other)))
-      (λ clear. absurd (true≢false (sym (filter_passes (lies_on cleared) areas clear.number no_area clear.among)
-          ∙ ap (set.contains cleared) clear.disk ∙ other)))
-      by)
-      (sector_in pv sector)
-
-  -- ---- a disk that the base has too
-
-  module _ (base : Image) (names : ShowsEntries areas base) (text : List ℕ) (group : Group) (passed : List (List ℕ))
-      (copy : IsCopyOf text group passed) (may : List ℕ → Bool) (bare : List ℕ → AreaReading → Bool)
-      (any : (id : List ℕ) (r : AreaReading) → bare id r ≡ true)
-      (pv : ℕ) (same_base : (sector : ℕ) → mid pv sector ≡ base pv sector) (disk : Disk) (there : slice_get disks pv ≡ Some disk) where
-    -- without a header nothing of it is written
-    bare_same : header_on disk.contents ≡ None → (sector : ℕ) → image pv sector ≡ base pv sector
-    bare_same none sector =
-        let nothing = none_in disk.contents none in
+    writes : (pv sector : ℕ) (value : List ℕ) → AnyWrites (clear_batches cleared disks areas) pv sector value
+        → IsWrittenBy (map label_put labels) pv sector value ⊎ IsClearWrite on pv sector value
+    writes pv sector value by =
         ⊎_elim
-        (λ same. same ∙ same_base sector)
+        (λ label. inl (any_if (map label_put labels) pv sector value label))
+        (λ clear. inr (clear_write on pv sector value (any_if (map clear_put on) pv sector value clear)))
+        (any_append (batch_if (map label_put labels)) (batch_if (map clear_put on)) pv sector value by)
+
+    sector_in : (pv sector : ℕ) → (image pv sector ≡ mid pv sector)
+        ⊎ (IsWrittenBy (map label_put labels) pv sector (image pv sector) ⊎ IsClearWrite on pv sector (image pv sector))
+    sector_in pv sector =
+        ⊎_elim (λ same. inl same) (λ by. inr (writes pv sector (image pv sector) by))
+        (front_or (clear_batches cleared disks areas) mid image pv sector h)
+
+    label_low : (k : ℕ) → k < length labels → (get_or labels k no_label).sector < 4
+    label_low k within = (labels_can disks areas scanned cleared k no_label within).sector_below
+
+    clear_far : (pv sector : ℕ) (value : List ℕ) → IsClearWrite on pv sector value → 4 ≤ sector
+    clear_far pv sector value w =
+        let begins : 2048 ≤ (get_or on w.number no_area).0.start = cleared_far disks areas scanned cleared w.number no_area w.among in omega
+        (arith, begins, w.at)
+
+    clear_takes : (pv sector : ℕ) (value : List ℕ) (w : IsClearWrite on pv sector value) → CanTake (get_or on w.number no_area)
+    clear_takes pv sector value w = (cleared_held disks areas scanned cleared).take w.number no_area w.among
+
+    -- another disk stays as it is
+    pub others_same : (pv : ℕ) → set.contains cleared pv ≡ false → (sector : ℕ) → image pv sector ≡ mid pv sector
+    others_same pv other sector =
+        ⊎_elim
+        (λ same. same)
         (λ by.
         ⊎_elim
         (λ label.
         let w = label_where labels no_label pv sector (image pv sector) label in
         let l : IsLabelOn cleared disks (get_or labels w.0 no_label) = labels_on cleared disks w.0 no_label w.1 in
-        let own : disk ≡ l.0 = same_Some disk l.0 (sym there ∙ ap (slice_get disks) (sym w.2) ∙ l.2) in
-        absurd (let e : ◌≡◌ {A = Option (ℕ × PvHeader)} None (Some ((get_or labels w.0 no_label).sector, l.1)) = sym nothing.0
-            ∙ ap (λ (d : Disk). option_and_then pv_in d.contents) own ∙ l.3 in cc))
-        (λ clear.
-        let o : IsHeldOn disks (get_or on clear.number no_area) = cleared_on clear.number no_area clear.among in
-        let own : disk ≡ o.disk = same_Some disk o.disk (sym there ∙ ap (slice_get disks) (sym clear.disk) ∙ o.there) in
-        absurd (let e : ◌≡◌ {A = Option AreaFound} None (Some o.found) = sym (ap (λ (l : List AreaFound). slice_get l o.number) nothing.1)
-            ∙ ap (λ (d : Disk). slice_get (areas_on d.contents) o.number) own ∙ o.at in cc))
+        absurd (true≢false (sym l.5 ∙ ap (set.contains cleared) w.2 ∙ other)))
+        (λ clear. absurd (true≢false (sym (filter_passes (lies_on cleared) areas clear.number no_area clear.among)
+        ∙ ap (set.contains cleared) clear.disk ∙ other)))
         by)
         (sector_in pv sector)
 
-    module _ (label : ℕ) (header : PvHeader) (found : List AreaFound) (is : disk.contents ≡ Some (Whole label header found))
-        (low : label < 4) where
-      of_label : (sector : ℕ) (value : List ℕ) → IsWrittenBy (map label_put labels) pv sector value
-          → (new : NewLabel) × (label ≡ sector) × (value ≡ label_bytes new) × IsSameHeader header new.header × (new.sector ≡ label)
-          × CanLabel new × IsPvHeader (label_bytes new) new.header []
-      of_label sector value by =
-          let w = label_where labels no_label pv sector value by in
-          let new : NewLabel = get_or labels w.0 no_label in
-          let l : IsLabelOn cleared disks new = labels_on cleared disks w.0 no_label w.1 in
+    -- ---- a disk that the base has too
+
+    module _ (base : Image) (names : ShowsEntries areas base) (text : List ℕ) (group : Group) (passed : List (List ℕ))
+        (copy : IsCopyOf text group passed) (may : List ℕ → Bool) (bare : List ℕ → AreaReading → Bool)
+        (any : (id : List ℕ) (r : AreaReading) → bare id r ≡ true)
+        (pv : ℕ) (same_base : (sector : ℕ) → mid pv sector ≡ base pv sector) (disk : Disk) (there : slice_get disks pv ≡ Some disk) where
+      -- without a header nothing of it is written
+      bare_same : header_on disk.contents ≡ None → (sector : ℕ) → image pv sector ≡ base pv sector
+      bare_same none sector =
+          let nothing = none_in disk.contents none in
+          ⊎_elim
+          (λ same. same ∙ same_base sector)
+          (λ by.
+          ⊎_elim
+          (λ label.
+          let w = label_where labels no_label pv sector (image pv sector) label in
+          let l : IsLabelOn cleared disks (get_or labels w.0 no_label) = labels_on cleared disks w.0 no_label w.1 in
           let own : disk ≡ l.0 = same_Some disk l.0 (sym there ∙ ap (slice_get disks) (sym w.2) ∙ l.2) in
-          let both : ◌≡◌ {A = Option (ℕ × PvHeader)} (Some (label, header)) (Some (new.sector, l.1)) =
-              sym (ap (option_and_then pv_in) is) ∙ ap (λ (d : Disk). option_and_then pv_in d.contents) own ∙ l.3 in
-          let pair : (label, header) ≡ (new.sector, l.1) = same_Some (label, header) (new.sector, l.1) both in
-          let at : label ≡ new.sector = ap (λ (x : ℕ × PvHeader). x.0) pair in (
-            new,
-            at ∙ w.3,
-            w.4,
-            subst (λ (old : PvHeader). IsSameHeader old new.header) (sym (ap (λ (x : ℕ × PvHeader). x.1) pair)) l.4,
-            sym at,
-            labels_can disks areas scanned cleared w.0 no_label w.1,
-            clears.read w.0 no_label w.1,
-          )
+          absurd (let e : ◌≡◌ {A = Option (ℕ × PvHeader)} None (Some ((get_or labels w.0 no_label).sector, l.1)) = sym nothing.0
+          ∙ ap (λ (d : Disk). option_and_then pv_in d.contents) own ∙ l.3 in cc))
+          (λ clear.
+          let o : IsHeldOn disks (get_or on clear.number no_area) = cleared_on clear.number no_area clear.among in
+          let own : disk ≡ o.disk = same_Some disk o.disk (sym there ∙ ap (slice_get disks) (sym clear.disk) ∙ o.there) in
+          absurd (let e : ◌≡◌ {A = Option AreaFound} None (Some o.found) = sym (ap (λ (l : List AreaFound). slice_get l o.number) nothing.1)
+          ∙ ap (λ (d : Disk). slice_get (areas_on d.contents) o.number) own ∙ o.at in cc))
+          by)
+          (sector_in pv sector)
 
-      label_stands : LabelStands (base pv) (image pv) label header
-      label_stands = record {
-        before = λ k less.
-            ⊎_elim
-            (λ same. same ∙ same_base k)
-            (λ by. ⊎_elim (λ own. absurd (omega (arith, less, (of_label k (image pv k) own).1)))
-                (λ clear. absurd (omega (arith, less, low, clear_far pv k (image pv k) clear))) by)
-            (sector_in pv k);
-        is =
-            ⊎_elim
-            (λ same. inl (same ∙ same_base label))
-            (λ by.
-            ⊎_elim
-            (λ own.
-            let w = of_label label (image pv label) own in
-            inr (
-              w.0.header,
-              w.3,
-              subst (λ (s : List ℕ). IsLabel s label) (sym w.2) (subst (λ (n : ℕ). IsLabel (label_bytes w.0) n) w.4 (label_read w.0 w.5)),
-              subst (λ (s : List ℕ). IsPvHeader s w.0.header []) (sym w.2) w.6,
-            ))
-            (λ clear. absurd (omega (arith, low, clear_far pv label (image pv label) clear))) by)
-            (sector_in pv label);
-      }
+      module _ (label : ℕ) (header : PvHeader) (found : List AreaFound) (is : disk.contents ≡ Some (Whole label header found))
+          (low : label < 4) where
+        of_label : (sector : ℕ) (value : List ℕ) → IsWrittenBy (map label_put labels) pv sector value
+            → (new : NewLabel) × (label ≡ sector) × (value ≡ label_bytes new) × IsSameHeader header new.header × (new.sector ≡ label)
+            × CanLabel new × IsPvHeader (label_bytes new) new.header []
+        of_label sector value by =
+            let w = label_where labels no_label pv sector value by in
+            let new : NewLabel = get_or labels w.0 no_label in
+            let l : IsLabelOn cleared disks new = labels_on cleared disks w.0 no_label w.1 in
+            let own : disk ≡ l.0 = same_Some disk l.0 (sym there ∙ ap (slice_get disks) (sym w.2) ∙ l.2) in
+            let both : ◌≡◌ {A = Option (ℕ × PvHeader)} (Some (label, header)) (Some (new.sector, l.1)) =
+            sym (ap (option_and_then pv_in) is) ∙ ap (λ (d : Disk). option_and_then pv_in d.contents) own ∙ l.3 in
+            let pair : (label, header) ≡ (new.sector, l.1) = same_Some (label, header) (new.sector, l.1) both in
+            let at : label ≡ new.sector = ap (λ (x : ℕ × PvHeader). x.0) pair in (
+              new,
+              at ∙ w.3,
+              w.4,
+              subst (λ (old : PvHeader). IsSameHeader old new.header) (sym (ap (λ (x : ℕ × PvHeader). x.1) pair)) l.4,
+              sym at,
+              labels_can disks areas scanned cleared w.0 no_label w.1,
+              clears.read w.0 no_label w.1,
+            )
 
-      -- ---- an area there
+        label_stands : LabelStands (base pv) (image pv) label header
+        label_stands = record {
+          before = λ k less.
+              ⊎_elim
+              (λ same. same ∙ same_base k)
+              (λ by. ⊎_elim (λ own. absurd (omega (arith, less, (of_label k (image pv k) own).1)))
+              (λ clear. absurd (omega (arith, less, low, clear_far pv k (image pv k) clear))) by)
+              (sector_in pv k);
+          is =
+              ⊎_elim
+              (λ same. inl (same ∙ same_base label))
+              (λ by.
+              ⊎_elim
+              (λ own.
+              let w = of_label label (image pv label) own in
+              inr (
+                w.0.header,
+                w.3,
+                subst (λ (s : List ℕ). IsLabel s label) (sym w.2) (subst (λ (n : ℕ). IsLabel (label_bytes w.0) n) w.4 (label_read w.0 w.5)),
+                subst (λ (s : List ℕ). IsPvHeader s w.0.header []) (sym w.2) w.6,
+              ))
+              (λ clear. absurd (omega (arith, low, clear_far pv label (image pv label) clear))) by)
+              (sector_in pv label);
+        }
 
-      module _ (k : ℕ) (d : AreaFound) (within : k < length found) where
-        abbrev area : AreaFound
-        area = get_or found k d
+        -- ---- an area there
 
-        placed : IsPlaced found area
-        placed = all_placed disks scanned.each pv disk there label header found is k d within
+        module _ (k : ℕ) (d : AreaFound) (within : k < length found) where
+          abbrev area : AreaFound
+          area = get_or found k d
 
-        -- a cleared area of its sectors is it
-        clear_met : (sector : ℕ) (value : List ℕ) (w : IsClearWrite on pv sector value) → area.area.offset / 512 ≤ sector
-            → sector < area.area.offset / 512 + area.area.size / 512 → held_area pv area ≡ Some (get_or on w.number no_area)
-        clear_met sector value w from to =
-            let takes : CanTake (get_or on w.number no_area) = clear_takes pv sector value w in
-            area_met disks scanned.each pv disk there label header found is k d within (get_or on w.number no_area)
-                (cleared_on w.number no_area w.among) w.disk sector (omega (arith, w.at)) (omega (arith, w.at, takes.0.has_ring)) from to
+          placed : IsPlaced found area
+          placed = all_placed disks scanned.each pv disk there label header found is k d within
 
-        header_in : IsCleared pv image (bare header.id) area ⊎ (image pv (area.area.offset / 512) ≡ base pv (area.area.offset / 512))
-        header_in =
-            let sector : ℕ = area.area.offset / 512 in
-            ⊎_elim
-            (λ same. inr (same ∙ same_base sector))
-            (λ by.
-            ⊎_elim
-            (λ own.
-            let w = label_where labels no_label pv sector (image pv sector) own in
-            let near = label_low w.0 w.1 in
-            absurd (omega (arith, near, w.3, placed.far)))
-            (λ clear. inl (get_or on clear.number no_area,
+          -- a cleared area of its sectors is it
+          clear_met : (sector : ℕ) (value : List ℕ) (w : IsClearWrite on pv sector value) → area.area.offset / 512 ≤ sector
+              → sector < area.area.offset / 512 + area.area.size / 512 → held_area pv area ≡ Some (get_or on w.number no_area)
+          clear_met sector value w from to =
+              let takes : CanTake (get_or on w.number no_area) = clear_takes pv sector value w in
+              area_met disks scanned.each pv disk there label header found is k d within (get_or on w.number no_area)
+              (cleared_on w.number no_area w.among) w.disk sector (omega (arith, w.at)) (omega (arith, w.at, takes.0.has_ring)) from to
+
+          header_in : IsCleared pv image (bare header.id) area ⊎ (image pv (area.area.offset / 512) ≡ base pv (area.area.offset / 512))
+          header_in =
+              let sector : ℕ = area.area.offset / 512 in
+              ⊎_elim
+              (λ same. inr (same ∙ same_base sector))
+              (λ by.
+              ⊎_elim
+              (λ own.
+              let w = label_where labels no_label pv sector (image pv sector) own in
+              let near = label_low w.0 w.1 in
+              absurd (omega (arith, near, w.3, placed.far)))
+              (λ clear. inl (
+                get_or on clear.number no_area,
                 clear_met sector (image pv sector) clear (omega arith) (omega (arith, placed.some)),
-                clear_takes pv sector (image pv sector) clear, clear.is, any header.id))
-            by)
-            (sector_in pv sector)
+                clear_takes pv sector (image pv sector) clear,
+                clear.is,
+                any header.id,
+              ))
+              by)
+              (sector_in pv sector)
 
-        -- where its header stays all of it does
-        all_same : image pv (area.area.offset / 512) ≡ base pv (area.area.offset / 512) → (sector : ℕ) → area.area.offset / 512 ≤ sector
-            → sector < area.area.offset / 512 + area.area.size / 512 → image pv sector ≡ base pv sector
-        all_same first sector from to =
-            ⊎_elim
-            (λ same. same ∙ same_base sector)
-            (λ by.
-            ⊎_elim
-            (λ own.
-            let w = label_where labels no_label pv sector (image pv sector) own in
-            let near = label_low w.0 w.1 in
-            absurd (omega (arith, near, w.3, placed.far, from)))
-            (λ clear.
-            let c : Area × Option Locn = get_or on clear.number no_area in
-            let own : c.0 ≡ area_on pv area.area =
-                entry_kept (area_on pv area.area) area.entry c (clear_met sector (image pv sector) clear from to) in
-            let starts : c.0.start ≡ area.area.offset = ap (λ (a : Area). a.start) own in
-            let at : area.area.offset / 512 ≡ sector = omega (arith, clear.at, starts) in
-            subst (λ (n : ℕ). image pv n ≡ base pv n) at first)
-            by)
-            (sector_in pv sector)
+          -- where its header stays all of it does
+          all_same : image pv (area.area.offset / 512) ≡ base pv (area.area.offset / 512) → (sector : ℕ) → area.area.offset / 512 ≤ sector
+              → sector < area.area.offset / 512 + area.area.size / 512 → image pv sector ≡ base pv sector
+          all_same first sector from to =
+              ⊎_elim
+              (λ same. same ∙ same_base sector)
+              (λ by.
+              ⊎_elim
+              (λ own.
+              let w = label_where labels no_label pv sector (image pv sector) own in
+              let near = label_low w.0 w.1 in
+              absurd (omega (arith, near, w.3, placed.far, from)))
+              (λ clear.
+              let c : Area × Option Locn = get_or on clear.number no_area in
+              let own : c.0 ≡ area_on pv area.area =
+              entry_kept (area_on pv area.area) area.entry c (clear_met sector (image pv sector) clear from to) in
+              let starts : c.0.start ≡ area.area.offset = ap (λ (a : Area). a.start) own in
+              let at : area.area.offset / 512 ≡ sector = omega (arith, clear.at, starts) in
+              subst (λ (n : ℕ). image pv n ≡ base pv n) at first)
+              by)
+              (sector_in pv sector)
 
-        -- what the base shows of it
-        abbrev IsShown : Area × Option Locn → Type 0
-        IsShown b = CanTake b × IsSized b.0 b.1 (text_in base b) × ShowsBy (old_reading (text_in base)) base b
+          -- what the base shows of it
+          abbrev IsShown : Area × Option Locn → Type 0
+          IsShown b = CanTake b × IsSized b.0 b.1 (text_in base b) × ShowsBy (old_reading (text_in base)) base b
 
-        in_base : (b : Area × Option Locn) → held_area pv area ≡ Some b → IsShown b
-        in_base b is_held =
-            let takes : All CanTake areas = each_takes disks areas scanned in
-            let sized = base_sized areas base takes in
-            let shows = base_shows areas base names in
-            let all : All IsShown (held_areas 0 disks) =
-                subst (All IsShown) scanned.held (λ j e in_list. (takes j e in_list, sized j e in_list, shows j e in_list)) in
-            let here : All (λ f. (x : Area × Option Locn) → held_area (0 + pv) f ≡ Some x → IsShown x) found =
-            subst (λ (c : Option PvFound). All (λ f. (x : Area × Option Locn) → held_area (0 + pv) f ≡ Some x → IsShown x) (areas_on c)) is
-                (of_held IsShown 0 disks all pv disk there)
-            in
-            here k d within b (ap (λ (n : ℕ). held_area n area) (omega arith) ∙ is_held)
+          in_base : (b : Area × Option Locn) → held_area pv area ≡ Some b → IsShown b
+          in_base b is_held =
+              let takes : All CanTake areas = each_takes disks areas scanned in
+              let sized = base_sized areas base takes in
+              let shows = base_shows areas base names in
+              let all : All IsShown (held_areas 0 disks) =
+              subst (All IsShown) scanned.held (λ j e in_list. (takes j e in_list, sized j e in_list, shows j e in_list)) in
+              let here : All (λ f. (x : Area × Option Locn) → held_area (0 + pv) f ≡ Some x → IsShown x) found =
+              subst (λ (c : Option PvFound). All (λ f. (x : Area × Option Locn) → held_area (0 + pv) f ≡ Some x → IsShown x) (areas_on c))
+              is
+              (of_held IsShown 0 disks all pv disk there)
+              in
+              here k d within b (ap (λ (n : ℕ). held_area n area) (omega arith) ∙ is_held)
 
-        old_shown : image pv (area.area.offset / 512) ≡ base pv (area.area.offset / 512) → (b : Area × Option Locn)
-            → held_area pv area ≡ Some b → ShowsBy (old_reading (text_in base)) image b
-        old_shown first b is_held =
-            let s : IsShown b = in_base b is_held in
-            let own : b.0 ≡ area_on pv area.area = entry_kept (area_on pv area.area) area.entry b is_held in
-            let starts : b.0.start ≡ area.area.offset = ap (λ (a : Area). a.start) own in
-            let sized : b.0.size ≡ area.area.size = ap (λ (a : Area). a.size) own in
-            let here : b.0.pv ≡ pv = ap (λ (a : Area). a.pv) own in
-            shows_alike (old_reading (text_in base)) b base image s.0.0 s.1
-            (λ sector inside.
-            subst (λ (n : ℕ). image n (b.0.start / 512 + sector) ≡ base n (b.0.start / 512 + sector)) (sym here)
-            (all_same first (b.0.start / 512 + sector) (omega (arith, starts)) (omega (arith, inside, starts, sized)))) s.2
+          old_shown : image pv (area.area.offset / 512) ≡ base pv (area.area.offset / 512) → (b : Area × Option Locn)
+              → held_area pv area ≡ Some b → ShowsBy (old_reading (text_in base)) image b
+          old_shown first b is_held =
+              let s : IsShown b = in_base b is_held in
+              let own : b.0 ≡ area_on pv area.area = entry_kept (area_on pv area.area) area.entry b is_held in
+              let starts : b.0.start ≡ area.area.offset = ap (λ (a : Area). a.start) own in
+              let sized : b.0.size ≡ area.area.size = ap (λ (a : Area). a.size) own in
+              let here : b.0.pv ≡ pv = ap (λ (a : Area). a.pv) own in
+              shows_alike (old_reading (text_in base)) b base image s.0.0 s.1
+              (λ sector inside.
+              subst (λ (n : ℕ). image n (b.0.start / 512 + sector) ≡ base n (b.0.start / 512 + sector)) (sym here)
+              (all_same first (b.0.start / 512 + sector) (omega (arith, starts)) (omega (arith, inside, starts, sized)))) s.2
 
-        known : IsKnown text pv base image (may header.id) (bare header.id) area
-        known =
-            ⊎_elim
-            (λ gone. inr gone)
-            (λ first. inl ((λ held is_held. record { shows = inl (old_shown first held is_held); take = (in_base held is_held).0 }),
-                inl first))
-            header_in
+          known : IsKnown text pv base image (may header.id) (bare header.id) area
+          known =
+              ⊎_elim
+              (λ gone. inr gone)
+              (λ first. inl (
+                (λ held is_held. record { shows = inl (old_shown first held is_held); take = (in_base held is_held).0 }),
+                inl first,
+              ))
+              header_in
 
-    with_header : (reading : Reading) → IsDiskReading pv (base pv) disk reading → PvMayBeRefused bare reading.pv → (header : PvHeader)
-        → header_on disk.contents ≡ Some header → DiskAgain pv (image pv) may bare (Copy group text passed) disk reading
-    with_header reading read given header has =
-        let w = header_read disk.contents header has in
-        let stands = subst (λ (c : Option PvFound). ContentsCanStand pv disk.sectors c) w.2 (scanned.each pv disk there).contents in
-        subst (λ (n : ℕ). DiskAgain pv (image pv) may bare (Copy group text passed) disk (record { sectors = n; pv = reading.pv }))
-            (sym read.sectors_is)
-        (disk_again text group passed copy may bare pv base image disk.sectors disk.contents reading.pv read.contents read.pv_is given w.0
-            header w.1 w.2
-        (label_stands w.0 header w.1 w.2 stands.0)
-        (recursion_from_All (IsKnown text pv base image (may header.id) (bare header.id)) w.1
-            (λ k d within. known w.0 header w.1 w.2 stands.0 k d within)))
+      with_header : (reading : Reading) → IsDiskReading pv (base pv) disk reading → PvMayBeRefused bare reading.pv → (header : PvHeader)
+          → header_on disk.contents ≡ Some header → DiskAgain pv (image pv) may bare (Copy group text passed) disk reading
+      with_header reading read given header has =
+          let w = header_read disk.contents header has in
+          let stands = subst (λ (c : Option PvFound). ContentsCanStand pv disk.sectors c) w.2 (scanned.each pv disk there).contents in
+          subst (λ (n : ℕ). DiskAgain pv (image pv) may bare (Copy group text passed) disk (record { sectors = n; pv = reading.pv }))
+          (sym read.sectors_is)
+          (disk_again text group passed copy may bare pv base image disk.sectors disk.contents reading.pv read.contents read.pv_is given w.0
+          header w.1 w.2
+          (label_stands w.0 header w.1 w.2 stands.0)
+          (recursion_from_All (IsKnown text pv base image (may header.id) (bare header.id)) w.1
+          (λ k d within. known w.0 header w.1 w.2 stands.0 k d within)))
 
-    -- the disk reads again
-    pub disk_cleared : (reading : Reading) → IsDiskReading pv (base pv) disk reading → PvMayBeRefused bare reading.pv
-        → DiskAgain pv (image pv) may bare (Copy group text passed) disk reading
-    disk_cleared reading read given = by (header_on disk.contents) refl
-      where
-        by : (o : Option PvHeader) → header_on disk.contents ≡ o → DiskAgain pv (image pv) may bare (Copy group text passed) disk reading
-        by None none = disk_same pv (base pv) (image pv) may bare (Copy group text passed) disk reading (bare_same none) read
-        by (Some header) has = with_header reading read given header has
+      -- the disk reads again
+      pub disk_cleared : (reading : Reading) → IsDiskReading pv (base pv) disk reading → PvMayBeRefused bare reading.pv
+          → DiskAgain pv (image pv) may bare (Copy group text passed) disk reading
+      disk_cleared reading read given = by (header_on disk.contents) refl
+        where
+          by : (o : Option PvHeader) → header_on disk.contents ≡ o → DiskAgain pv (image pv) may bare (Copy group text passed) disk reading
+          by None none = disk_same pv (base pv) (image pv) may bare (Copy group text passed) disk reading (bare_same none) read
+          by (Some header) has = with_header reading read given header has

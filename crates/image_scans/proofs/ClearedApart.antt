@@ -1,6 +1,6 @@
 -- A disk that a group lets go is none of those to which a version is committed.
-use Rattle.std.proofs.Common.{◌≡◌, ◌≢◌, ◌<◌, ℕ, zero, suc, true, false, List, [], ◌∷◌, ◌++◌, length, map, Option, Some, None, ⊎_elim, refl,
-    sym, ap, subst, ◌∙◌, arith}
+use Rattle.std.proofs.Common.{◌≡◌, ◌≢◌, ◌<◌, ℕ, zero, suc, true, false, List, [], ◌∷◌, ◌++◌, length, map, Option, Some, None, ⊎_elim, refl}
+use Rattle.std.proofs.Common.{sym, ap, subst, ◌∙◌, arith}
 use Rattle.std.specs.Prelude.{AllPairs, IfSome, slice_get, slice_index}
 use Rattle.std.specs.List.{AllByRecursion as Each, list_any, remove}
 use Rattle.std.specs.Ordering.{nat_cmp}
@@ -10,8 +10,8 @@ use Rattle.std.proofs.lemmas.List.{length-map}
 use Rattle.std.proofs.lemmas.List.Elements.{All-cons, All-nil, recursion_from_All}
 use Rattle.std.proofs.lemmas.Option.{same_Some}
 use Rattle.command_table.specs.declared.command.Command.{Command}
-use Rattle.command_table.specs.declared.command.Command.TheVariants.{Lvcreate, Lvextend, Lvreduce, Lvremove, Lvrename, Pvcreate,
-    Vgcfgrestore, Vgcreate, Vgextend, Vgreduce, Vgremove, Vgrename}
+use Rattle.command_table.specs.declared.command.Command.TheVariants.{Lvcreate, Lvextend, Lvreduce, Lvremove, Lvrename, Pvcreate}
+use Rattle.command_table.specs.declared.command.Command.TheVariants.{Vgcfgrestore, Vgcreate, Vgextend, Vgreduce, Vgremove, Vgrename}
 use Rattle.pv_header.specs.declared.header.PvHeader.{PvHeader}
 use Rattle.meta_model.specs.declared.group.Group.{Group}
 use Rattle.meta_model.specs.declared.lv.Lv.{Lv}
@@ -77,7 +77,7 @@ module _ (more : List (List ℕ)) where
   first_differs row rows pairs =
       each_map (λ (id : List ℕ). row.1.id ≢ id) (λ (other : Row). other.1.id) rows more
       (recursion_from_All (λ (id : List ℕ). row.1.id ≢ id) (map (λ (other : Row). other.1.id) rows ++ more)
-          (λ k d within. pairs 0 (suc k) d (omega arith) (omega (arith, within))))
+      (λ k d within. pairs 0 (suc k) d (omega arith) (omega (arith, within))))
 
   none_has : (id : List ℕ) (rows : List Row) → Each (λ (other : Row). id ≢ other.1.id) rows
       → list_any (λ (other : Row). same_bytes other.1.id id) rows ≡ true → ⊥
@@ -94,13 +94,13 @@ module _ (more : List (List ℕ)) where
   has_left [] k row there pairs any = absurd cc
   has_left (first ∷ rows) zero row there pairs any =
       none_has row.1.id rows (subst (λ (r : Row). Each (λ (other : Row). r.1.id ≢ other.1.id) rows) (same_Some first row there)
-          (first_differs first rows pairs)) any
+      (first_differs first rows pairs)) any
   has_left (first ∷ rows) (suc k) row there pairs any =
       ⊎_elim
       (λ here. each_at (λ (other : Row). first.1.id ≢ other.1.id) rows k row there (first_differs first rows pairs)
-          (same_bytes_tells first.1.id row.1.id here))
+      (same_bytes_tells first.1.id row.1.id here))
       (λ later. has_left rows k row there (λ i j d before within. pairs (suc i) (suc j) d (omega (arith, before)) (omega (arith, within)))
-          later)
+      later)
       (or_cases (same_bytes first.1.id row.1.id) (list_any (λ (o : Row). same_bytes o.1.id row.1.id) (remove rows k)) any)
 
 -- ---- vgreduce
@@ -118,7 +118,7 @@ module _ (found : Found) (names : List (List ℕ)) (backup : Option Backup) (sha
   within : left.number < length left.old.pvs
   within =
       let count : length found.disk_of ≡ length left.old.pvs =
-          ap length listed_are ∙ length-map left.old.pvs (λ (row : Row). disk_with found.disks row.1.id) in
+      ap length listed_are ∙ length-map left.old.pvs (λ (row : Row). disk_with found.disks row.1.id) in
       let less = left.listed in
       omega (arith, count, less)
 
@@ -131,10 +131,10 @@ module _ (found : Found) (names : List (List ℕ)) (backup : Option Backup) (sha
   own_disk =
       let present : is_missing (shapes found.disks) gone.0 ≡ false =
       each_at (λ (row : Row). is_missing (shapes found.disks) row ≡ false) left.old.pvs left.number gone.0 gone.1
-          (all_there (shapes found.disks) left.old.pvs (none_missing_of found shape whole left.old left.there))
+      (all_there (shapes found.disks) left.old.pvs (none_missing_of found shape whole left.old left.there))
       in
       disk_found gone.0.1.id found.disks (not_missing state gone.0 gone.0.1.missing (list_any (has_id gone.0.1.id) (shapes found.disks))
-          refl refl present)
+      refl refl present)
 
   number_is : slice_index found.disk_of left.number ≡ disk_with found.disks gone.0.1.id
   number_is = ap (λ (l : List ℕ). slice_index l left.number) listed_are ∙ gone.2
@@ -144,7 +144,7 @@ module _ (found : Found) (names : List (List ℕ)) (backup : Option Backup) (sha
       let own : pv ≡ slice_index found.disk_of left.number =
       of_set (λ (n : ℕ). n ≡ slice_index found.disk_of left.number) (slice_index found.disk_of left.number ∷ [])
       (All-cons (λ (n : ℕ). n ≡ slice_index found.disk_of left.number) (slice_index found.disk_of left.number) [] refl
-          (All-nil (λ (n : ℕ). n ≡ slice_index found.disk_of left.number))) pv
+      (All-nil (λ (n : ℕ). n ≡ slice_index found.disk_of left.number))) pv
       (subst (λ (c : Change). set.contains c.cleared pv ≡ true) left.change_is has)
       in
       own ∙ number_is
@@ -152,17 +152,17 @@ module _ (found : Found) (names : List (List ℕ)) (backup : Option Backup) (sha
   not_listed : (pv : ℕ) → pv ≡ disk_with found.disks gone.0.1.id → IsListedOn group found.disks pv → ⊥
   not_listed pv at listed =
       let same : own_disk.disk ≡ listed.disk =
-          same_Some own_disk.disk listed.disk (sym own_disk.there ∙ ap (slice_get found.disks) (sym at) ∙ listed.there) in
+      same_Some own_disk.disk listed.disk (sym own_disk.there ∙ ap (slice_get found.disks) (sym at) ∙ listed.there) in
       let header : own_disk.header ≡ listed.header =
-          same_Some own_disk.header listed.header (sym own_disk.is ∙ ap (λ (d : Disk). header_on d.contents) same ∙ listed.is) in
+      same_Some own_disk.header listed.header (sym own_disk.is ∙ ap (λ (d : Disk). header_on d.contents) same ∙ listed.is) in
       let id : listed.header.id ≡ gone.0.1.id = ap (λ (h : PvHeader). h.id) (sym header) ∙ own_disk.same in
       let next : reduced_group left.old left.number ≡ group =
-          same_Some (reduced_group left.old left.number) group (ap (λ (c : Change). c.group) (sym left.change_is) ∙ makes.made) in
+      same_Some (reduced_group left.old left.number) group (ap (λ (c : Change). c.group) (sym left.change_is) ∙ makes.made) in
       let any : lists (reduced_group left.old left.number) gone.0.1.id ≡ true =
-          ap (λ (g : Group). lists g gone.0.1.id) next ∙ ap (lists group) (sym id) ∙ listed.listed in
+      ap (λ (g : Group). lists g gone.0.1.id) next ∙ ap (lists group) (sym id) ∙ listed.listed in
       let differ : IdsDiffer left.old = (old_whole readings found settled left.old left.there).0 Ids in
       has_left (map (λ (lv : List ℕ × Lv). lv.1.id) left.old.lvs) left.old.pvs left.number gone.0 gone.1
-          (λ i j d before inside. differ (suc i) (suc j) d (omega (arith, before)) (omega (arith, inside))) any
+      (λ i j d before inside. differ (suc i) (suc j) d (omega (arith, before)) (omega (arith, inside))) any
 
   leaves_apart : ClearsOthers change
   leaves_apart pv has =
@@ -179,29 +179,30 @@ no_clears change none pv has =
 
 module _ (found : Found) (names : List (List ℕ)) (backup : Option Backup) (shape : HasShape found) (whole : FoundIsWhole found)
     (readings : List Reading) (settled : IsSettledScan readings found) (number : ℕ) (id : Option (List ℕ)) (now : ℕ) (given : List Part)
-    where
-  abbrev change_by : Command → Change
-  change_by command = change_of (state_in found names backup) (record { number = number; id = id; command = command }) now given
+  where
+    abbrev change_by : Command → Change
+    change_by command = change_of (state_in found names backup) (record { number = number; id = id; command = command }) now given
 
-  others_by : (command : Command) → IsPlanned id command → clears command ≡ false → ClearsOthers (change_by command)
-  others_by command planned other =
-      no_clears (change_by command) (none_cleared (state_in found names backup) number id command now given planned other)
+    others_by : (command : Command) → IsPlanned id command → clears command ≡ false → ClearsOthers (change_by command)
+    others_by command planned other =
+        no_clears (change_by command) (none_cleared (state_in found names backup) number id command now given planned other)
 
-  pub clears_others : (command : Command) → IsPlanned id command
-      → refusal_of (state_in found names backup) (record { number = number; id = id; command = command }) now given ≡ None → (group : Group)
-      → MakesGroup (state_in found names backup) (change_by command) group → ClearsOthers (change_by command)
-  clears_others (Vgreduce vg pv) planned none group makes =
-      leaves_apart found names backup shape whole readings settled (vgreduce_change (state_in found names backup) pv) now
-          (leaves_next (state_in found names backup) vg pv now none) group makes
-  clears_others (Vgremove vg) planned none group makes = absurd (let e : ◌≡◌ {A = Option Group} None (Some group) = makes.made in cc)
-  clears_others (Pvcreate pv copies) planned none group makes = others_by (Pvcreate pv copies) planned refl
-  clears_others (Vgcreate vg extent_size pvs) planned none group makes = others_by (Vgcreate vg extent_size pvs) planned refl
-  clears_others (Vgextend vg pvs) planned none group makes = others_by (Vgextend vg pvs) planned refl
-  clears_others (Vgcfgrestore vg text) planned none group makes = others_by (Vgcfgrestore vg text) planned refl
-  clears_others (Vgrename vg new) planned none group makes = others_by (Vgrename vg new) planned refl
-  clears_others (Lvcreate new) planned none group makes = others_by (Lvcreate new) planned refl
-  clears_others (Lvextend path growth pvs) planned none group makes = others_by (Lvextend path growth pvs) planned refl
-  clears_others (Lvreduce path amount) planned none group makes = others_by (Lvreduce path amount) planned refl
-  clears_others (Lvremove path) planned none group makes = others_by (Lvremove path) planned refl
-  clears_others (Lvrename vg old new) planned none group makes = others_by (Lvrename vg old new) planned refl
-  clears_others command planned none group makes = absurd planned
+    pub clears_others : (command : Command) → IsPlanned id command
+        → refusal_of (state_in found names backup) (record { number = number; id = id; command = command }) now given ≡ None
+        → (group : Group)
+        → MakesGroup (state_in found names backup) (change_by command) group → ClearsOthers (change_by command)
+    clears_others (Vgreduce vg pv) planned none group makes =
+        leaves_apart found names backup shape whole readings settled (vgreduce_change (state_in found names backup) pv) now
+        (leaves_next (state_in found names backup) vg pv now none) group makes
+    clears_others (Vgremove vg) planned none group makes = absurd (let e : ◌≡◌ {A = Option Group} None (Some group) = makes.made in cc)
+    clears_others (Pvcreate pv copies) planned none group makes = others_by (Pvcreate pv copies) planned refl
+    clears_others (Vgcreate vg extent_size pvs) planned none group makes = others_by (Vgcreate vg extent_size pvs) planned refl
+    clears_others (Vgextend vg pvs) planned none group makes = others_by (Vgextend vg pvs) planned refl
+    clears_others (Vgcfgrestore vg text) planned none group makes = others_by (Vgcfgrestore vg text) planned refl
+    clears_others (Vgrename vg new) planned none group makes = others_by (Vgrename vg new) planned refl
+    clears_others (Lvcreate new) planned none group makes = others_by (Lvcreate new) planned refl
+    clears_others (Lvextend path growth pvs) planned none group makes = others_by (Lvextend path growth pvs) planned refl
+    clears_others (Lvreduce path amount) planned none group makes = others_by (Lvreduce path amount) planned refl
+    clears_others (Lvremove path) planned none group makes = others_by (Lvremove path) planned refl
+    clears_others (Lvrename vg old new) planned none group makes = others_by (Lvrename vg old new) planned refl
+    clears_others command planned none group makes = absurd planned

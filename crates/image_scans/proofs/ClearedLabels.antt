@@ -18,8 +18,8 @@ use Rattle.image_scans.proofs.Labels.{IsSameHeader}
 abbrev pub IsLabelOn : set.FinSet nat_cmp → List Disk → NewLabel → Type 0
 IsLabelOn cleared disks label =
     (disk : Disk) × (old : PvHeader) × (slice_get disks label.disk ≡ Some disk)
-        × (option_and_then pv_in disk.contents ≡ Some (label.sector, old)) × IsSameHeader old label.header
-        × (set.contains cleared label.disk ≡ true)
+    × (option_and_then pv_in disk.contents ≡ Some (label.sector, old)) × IsSameHeader old label.header
+    × (set.contains cleared label.disk ≡ true)
 
 label_by : (cleared : set.FinSet nat_cmp) (all : List Disk) (number : ℕ) (disk : Disk) → slice_get all number ≡ Some disk
     → set.contains cleared number ≡ true → (o : Option (ℕ × PvHeader)) → option_and_then pv_in disk.contents ≡ o → (label : NewLabel)
@@ -28,7 +28,7 @@ label_by : (cleared : set.FinSet nat_cmp) (all : List Disk) (number : ℕ) (disk
 label_by cleared all number disk there on None is label has = absurd cc
 label_by cleared all number disk there on (Some pv) is label has =
     subst (IsLabelOn cleared all) (same_Some (record { disk = number; sector = pv.0; header = unused pv.1 }) label has)
-        (disk, pv.1, there, is, record { id = refl; held = refl; areas = refl }, on)
+    (disk, pv.1, there, is, record { id = refl; held = refl; areas = refl }, on)
 
 label_if : (cleared : set.FinSet nat_cmp) (all : List Disk) (number : ℕ) (disk : Disk) → slice_get all number ≡ Some disk → (b : Bool)
     → set.contains cleared number ≡ b → (label : NewLabel)
@@ -50,7 +50,7 @@ labels_from cleared all first [] there = All-nil (IsLabelOn cleared all)
 labels_from cleared all first (disk ∷ disks) there =
     let here : slice_get all first ≡ Some disk = subst (λ (n : ℕ). slice_get all n ≡ Some disk) (omega arith) (there 0 disk refl) in
     one_label (IsLabelOn cleared all) (unused_label cleared (first, disk))
-        (filter_map (unused_label cleared) (enumerate_from (first + 1) disks))
+    (filter_map (unused_label cleared) (enumerate_from (first + 1) disks))
     (λ label has. label_if cleared all first disk here (set.contains cleared first) refl label has)
     (labels_from cleared all (first + 1) disks (λ k d is. subst (λ (n : ℕ). slice_get all n ≡ Some d) (omega arith) (there (suc k) d is)))
 

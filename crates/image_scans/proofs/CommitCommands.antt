@@ -1,6 +1,6 @@
 -- The lines that commit a group: vgcreate where none was found, vgextend and those of a next version where one was.
-use Rattle.std.proofs.Common.{◌≡◌, ◌≤◌, ℕ, ◌<◌, ◌%◌, ◌^◌, false, List, [], ◌∷◌, ◌++◌, map, Option, Some, None, refl, sym, ap, subst, ◌∙◌,
-    arith}
+use Rattle.std.proofs.Common.{◌≡◌, ◌≤◌, ℕ, ◌<◌, ◌%◌, ◌^◌, false, List, [], ◌∷◌, ◌++◌, map, Option, Some, None, refl, sym, ap, subst, ◌∙◌}
+use Rattle.std.proofs.Common.{arith}
 use Rattle.std.specs.Prelude.{IfSome, IsSomeAnd, slice_index, unwrap_or}
 use Rattle.std.specs.Ordering.{nat_cmp}
 use Rattle.std.specs.FinSet as set
@@ -76,8 +76,8 @@ create_none : (state : GroupState) (base : Group) (names : List (List ℕ)) (now
 create_none state base names now none =
     let rows = none_holds (new_rows state base names now) none in
     all_none (create_rows state base (added_of state names))
-        (each_front (λ row. row ≡ None) (create_rows state base (added_of state names))
-        (text_row state base [] (added_of state names) now ∷ []) rows.1)
+    (each_front (λ row. row ≡ None) (create_rows state base (added_of state names))
+    (text_row state base [] (added_of state names) now ∷ []) rows.1)
 
 create_by : (state : GroupState) (base : Group) (names : List (List ℕ)) (now : ℕ) (o : Option Group)
     → first_refusal (option_map_or (λ (group : Group). Some (GroupStands group.name) ∷ []) o (new_rows state base names now)) ≡ None
@@ -98,7 +98,7 @@ vgcreate_commits found names backup is id vg extent_size pvs now planned none =
     let parts = create_by state base pvs now found.group none in
     let whole : IsWhole (extended base (added_of state pvs)) =
     created state is (unwrap_or id []) vg extent_size pvs (id_is id planned.0) planned.1 planned.2 planned.3 planned.4
-        (create_none state base pvs now parts.1)
+    (create_none state base pvs now parts.1)
     in
     record {
       group = extended base (added_of state pvs);
@@ -128,8 +128,8 @@ extend_none : (state : GroupState) (vg : List ℕ) (names : List (List ℕ)) (no
 extend_none state vg names now group none =
     let rows = none_holds (found_rows state vg names now group) none in
     all_none (extend_rows state group (added_of state names))
-        (each_front (λ row. row ≡ None) (extend_rows state group (added_of state names))
-        (text_row state (next_version group) state.disk_of (added_of state names) now ∷ []) rows.1.1.1.1)
+    (each_front (λ row. row ≡ None) (extend_rows state group (added_of state names))
+    (text_row state (next_version group) state.disk_of (added_of state names) now ∷ []) rows.1.1.1.1)
 
 pub none_missing_of : (found : Found) → HasShape found → FoundIsWhole found → (group : Group) → found.group ≡ Some group
     → missing_of (shapes found.disks) group.pvs ≡ []
@@ -146,16 +146,19 @@ unfolding extended
 vgextend_commits found names backup shape whole is readings settled vg pvs now group there none =
     let state : GroupState = state_in found names backup in
     let listed : found.disk_of ≡ disks_of group found.disks =
-        subst (λ (o : Option Group). IfSome o (λ g. found.disk_of ≡ disks_of g found.disks)) there shape.disk_of in
+    subst (λ (o : Option Group). IfSome o (λ g. found.disk_of ≡ disks_of g found.disks)) there shape.disk_of in
     let old = old_whole readings found settled group there in
     let good : IsWhole (extended (next_version group) (added_of state pvs)) =
-        next_is_whole state is group pvs listed old.0 old.1 (extend_none state vg pvs now group none) in
+    next_is_whole state is group pvs listed old.0 old.1 (extend_none state vg pvs now group none) in
     record {
       group = extended (next_version group) (added_of state pvs);
       makes =
           makes_group state is (next_version group) found.disk_of pvs
-              (record { disks_is = sym listed; there = all_there (shapes found.disks) group.pvs
-              (none_missing_of found shape whole group there) }) good;
+          (record {
+            disks_is = sym listed;
+            there = all_there (shapes found.disks) group.pvs
+                (none_missing_of found shape whole group there);
+          }) good;
       next = subst (λ (o : Option Group). IsNext o (extended (next_version group) (added_of state pvs))) (sym there) (refl, omega arith);
     }
 
@@ -186,23 +189,23 @@ next_commits found names backup shape whole is readings settled change now time 
     let state : GroupState = state_in found names backup in
     let there : found.group ≡ Some made.old = made.there in
     let listed : found.disk_of ≡ disks_of made.old found.disks =
-        subst (λ (o : Option Group). IfSome o (λ g. found.disk_of ≡ disks_of g found.disks)) there shape.disk_of in
+    subst (λ (o : Option Group). IfSome o (λ g. found.disk_of ≡ disks_of g found.disks)) there shape.disk_of in
     let old = old_whole readings found settled made.old there in
     let pvs : disks_of made.next found.disks ≡ disks_of made.old found.disks =
-        ap (λ (l : List (List ℕ × Pv)). map (λ (pv : List ℕ × Pv). disk_with found.disks pv.1.id) l) made.same_pvs in
+    ap (λ (l : List (List ℕ × Pv)). map (λ (pv : List ℕ × Pv). disk_with found.disks pv.1.id) l) made.same_pvs in
     let present : missing_of (shapes found.disks) made.next.pvs ≡ [] =
-        ap (missing_of (shapes found.disks)) made.same_pvs ∙ none_missing_of found shape whole made.old there in
+    ap (missing_of (shapes found.disks)) made.same_pvs ∙ none_missing_of found shape whole made.old there in
     let makes : MakesGroup state (change_with made.next found.disk_of (added_of state [])) (extended made.next (added_of state [])) =
     makes_group state is made.next found.disk_of []
-        (record { disks_is = pvs ∙ sym listed; there = all_there (shapes found.disks) made.next.pvs present })
-        (made.whole is old.0 old.1 time)
+    (record { disks_is = pvs ∙ sym listed; there = all_there (shapes found.disks) made.next.pvs present })
+    (made.whole is old.0 old.1 time)
     in
     subst (Commits found state) (version_is state made.zero made.next ∙ sym made.change_is)
     (record {
       group = extended made.next (added_of state []);
       makes =
           with_others state (change_with made.next found.disk_of (added_of state [])) made.zero set.empty
-              (extended made.next (added_of state [])) makes;
+          (extended made.next (added_of state [])) makes;
       next = subst (λ (o : Option Group). IsNext o made.next) (sym there) (sym made.same_id, omega (arith, made.next_seqno));
     })
 
@@ -217,18 +220,18 @@ leaves_commits found names backup shape whole is readings settled change now lef
     let state : GroupState = state_in found names backup in
     let there : found.group ≡ Some left.old = left.there in
     let listed : found.disk_of ≡ disks_of left.old found.disks =
-        subst (λ (o : Option Group). IfSome o (λ g. found.disk_of ≡ disks_of g found.disks)) there shape.disk_of in
+    subst (λ (o : Option Group). IfSome o (λ g. found.disk_of ≡ disks_of g found.disks)) there shape.disk_of in
     let old = old_whole readings found settled left.old there in
     let rest : List ℕ = remove found.disk_of left.number in
     let next : Group = reduced_group left.old left.number in
     let pvs : disks_of next found.disks ≡ rest =
-        map-remove (λ (pv : List ℕ × Pv). disk_with found.disks pv.1.id) left.old.pvs left.number
-            ∙ ap (λ (l : List ℕ). remove l left.number) (sym listed) in
+    map-remove (λ (pv : List ℕ × Pv). disk_with found.disks pv.1.id) left.old.pvs left.number
+    ∙ ap (λ (l : List ℕ). remove l left.number) (sym listed) in
     let IsThere : List ℕ × Pv → Type 0 = λ pv. is_missing (shapes found.disks) pv ≡ false in
     let present : Each IsThere next.pvs =
     recursion_from_All IsThere next.pvs (all_without IsThere left.old.pvs left.number
-        (All-from_recursion IsThere left.old.pvs
-        (all_there (shapes found.disks) left.old.pvs (none_missing_of found shape whole left.old there))))
+    (All-from_recursion IsThere left.old.pvs
+    (all_there (shapes found.disks) left.old.pvs (none_missing_of found shape whole left.old there))))
     in
     let makes : MakesGroup state (change_with next rest (added_of state [])) (extended next (added_of state [])) =
     makes_group state is next rest [] (record { disks_is = pvs; there = present }) (left.whole is old.0 old.1)
@@ -238,6 +241,6 @@ leaves_commits found names backup shape whole is readings settled change now lef
       group = next;
       makes =
           with_others state (version_change_on rest next) [] (set_of (slice_index found.disk_of left.number ∷ [])) next
-              (subst (λ (c : Change). MakesGroup state c next) (version_on state rest next) makes);
+          (subst (λ (c : Change). MakesGroup state c next) (version_on state rest next) makes);
       next = subst (λ (o : Option Group). IsNext o next) (sym there) (refl, omega arith);
     })

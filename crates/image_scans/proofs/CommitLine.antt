@@ -1,6 +1,6 @@
 -- A line that commits a group: what is found on its way, and once all is written.
-use Rattle.std.proofs.Common.{◌≡◌, ◌<◌, ◌⊎◌, ℕ, ◌+◌, ◌^◌, Bool, true, List, [], ◌++◌, length, get_or, map, take, Option, Some, None, inl,
-    sym, ap, subst, ◌∙◌, arith, false}
+use Rattle.std.proofs.Common.{◌≡◌, ◌<◌, ◌⊎◌, ℕ, ◌+◌, ◌^◌, Bool, true, List, [], ◌++◌, length, get_or, map, take, Option, Some, None, inl}
+use Rattle.std.proofs.Common.{sym, ap, subst, ◌∙◌, arith, false}
 use Rattle.std.specs.Prelude.{All, slice_get}
 use Rattle.std.proofs.lemmas.List.{take_all}
 use Rattle.std.proofs.lemmas.List.Elements.{All-filter, filter_passes}
@@ -59,7 +59,7 @@ all_written batches base = record {
   among = omega arith;
   either =
       λ pv sector. inl (sym (ap (λ (l : List (List Put)). with_batches l base pv sector)
-          (take_all (length batches) batches (omega arith))));
+      (take_all (length batches) batches (omega arith))));
 }
 
 module _ (base : Image) (sizes : List ℕ) (found : Found) (names : List (List ℕ)) (backup : Option Backup) (line : Line) (now : ℕ)
@@ -85,7 +85,7 @@ module _ (base : Image) (sizes : List ℕ) (found : Found) (names : List (List �
   pub shown : ShowsEntries state.areas base
   shown =
       subst (λ (l : List (Area × Option Locn)). ShowsEntries l base) (sym p.scan.areas)
-          (entries_shown base found.unread 0 found.disks p.scan.readings p.scan.are.each)
+      (entries_shown base found.unread 0 found.disks p.scan.readings p.scan.are.each)
 
   pub headers : SameHeaders (shapes found.disks) p.scan.readings
   headers = readings_shaped base found.unread 0 found.disks p.scan.readings p.scan.are.each
@@ -94,7 +94,7 @@ module _ (base : Image) (sizes : List ℕ) (found : Found) (names : List (List �
   abbrev batches_with : Option Group → List (List Put)
   batches_with g =
       batch_if (new_area_puts g change.labels) ++ batch_if (map label_put change.labels)
-          ++ commit_batches g now (areas_of change state.areas)
+      ++ commit_batches g now (areas_of change state.areas)
 
   module _ (group : Group) (makes : MakesGroup state change group) (next : IsNext found.group group) where
     abbrev text : List ℕ
@@ -115,12 +115,12 @@ module _ (base : Image) (sizes : List ℕ) (found : Found) (names : List (List �
     pub placed : first_misplaced group (shapes found.disks) ≡ None
     placed =
         subst (λ (o : Option Group). ArePlaced state.disks o) makes.made
-            (change_is_placed state line now given is_state p.passes p.shape.placed)
+        (change_is_placed state line now given is_state p.passes p.shape.placed)
 
     pub ends : All (HasLabel (with_batches (batches_with (Some group)) base)) change.labels
     ends =
         subst (λ (g : Option Group). All (HasLabel (with_batches (batches_with g) base)) change.labels) makes.made
-            (p.keeps.found base shown).labels
+        (p.keeps.found base shown).labels
 
     -- where the first area of the group shows the text, the new version is found
     pub where_held : (image : Image) (bare : List ℕ → AreaReading → Bool)
@@ -131,15 +131,15 @@ module _ (base : Image) (sizes : List ℕ) (found : Found) (names : List (List �
         let held : is_held group text read.read ≡ true =
         text_held image group text found.disks read.there read.read read.at
         (again_give NotRefused new tt tt (lists group) bare p.scan.readings read.read read.again
-            (settled_read p.scan.readings found settled)) (get_or own 0 no_area)
+        (settled_read p.scan.readings found settled)) (get_or own 0 no_area)
         (All-filter (is_on (set_of change.disk_of)) (IsHeldOn state.disks) state.areas
-            (subst (All (IsHeldOn state.disks)) (sym is_state.areas) (all_held state.disks is_state.disks)) 0 no_area fits.committed.some)
+        (subst (All (IsHeldOn state.disks)) (sym is_state.areas) (all_held state.disks is_state.disks)) 0 no_area fits.committed.some)
         (of_set (IsListedOn group state.disks) change.disk_of makes.listed (get_or own 0 no_area).0.pv
-            (filter_passes (is_on (set_of change.disk_of)) state.areas 0 no_area fits.committed.some))
+        (filter_passes (is_on (set_of change.disk_of)) state.areas 0 no_area fits.committed.some))
         shows
         in
         new_found image sizes found p.shape p.whole p.scan.readings p.scan.are.sizes_is headers settled group text copy next placed
-            makes.there change.disk_of makes.disks_is bare read held
+        makes.there change.disk_of makes.disks_is bare read held
 
     module _ (image : Image) (h : HasFirstBatches (batches_of state line now given) base image) where
       pub front : HasFirstBatches (batches_with (Some group)) base image
@@ -157,10 +157,10 @@ module _ (base : Image) (sizes : List ℕ) (found : Found) (names : List (List �
           let zero_less : 0 + k ≡ k = omega arith in
           subst (λ (n : ℕ). DiskAgain n (image n) (lists group) (λ id r. false) new disk reading) (sym zero_less)
           (each_again state is_state change group makes text fits can.labels lies.differ base ends image front [] copy kept k disk reading
-              at_disk
+          at_disk
           (subst (λ (n : ℕ). IsDiskReading n (base n) disk reading) zero_less is)
           (none_refused (λ id r. false) reading.pv
-              (gives_at NotRefused p.scan.readings k reading (settled_read p.scan.readings found settled) at_reading)))
+          (gives_at NotRefused p.scan.readings k reading (settled_read p.scan.readings found settled) at_reading)))
 
       again : AllAgain image found.unread 0 (lists group) (λ id r. false) new found.disks p.scan.readings
       again = all_again base image found.unread 0 (lists group) (λ id r. false) new found.disks p.scan.readings p.scan.are.each disk_reads
@@ -169,7 +169,7 @@ module _ (base : Image) (sizes : List ℕ) (found : Found) (names : List (List �
           ⊎ FindsVersion sizes image none_out (Some (version_of group change))
       on_the_way =
           either_found image sizes found p.shape p.whole p.scan.readings p.scan.are.sizes_is headers settled group text copy next placed
-              makes.there change.disk_of makes.disks_is again p.scan.answer
+          makes.there change.disk_of makes.disks_is again p.scan.answer
 
       pub with_text : All (ShowsBy (new_reading text) image) own → FindsVersion sizes image none_out (Some (version_of group change))
       with_text shows = where_held image (λ id r. false) again (shows 0 no_area fits.committed.some)
@@ -180,7 +180,7 @@ module _ (base : Image) (sizes : List ℕ) (found : Found) (names : List (List �
       unpublished : HasFirstBatches (batches_with (Some group)) base image
       unpublished =
           subst (λ (g : Option Group). HasFirstBatches (batches_with g) base image) makes.made
-              (of_submitted n (batches_of state line now given) base image h)
+          (of_submitted n (batches_of state line now given) base image h)
 
       stays : All (ShowsBy (old_reading (text_in base)) image) state.areas
       stays = p.keeps.unpublished base image n group shown makes.made less h
@@ -192,19 +192,19 @@ module _ (base : Image) (sizes : List ℕ) (found : Found) (names : List (List �
           let zero_less : 0 + k ≡ k = omega arith in
           subst (λ (n : ℕ). DiskAgain n (image n) (λ id. false) (λ id r. false) new disk reading) (sym zero_less)
           (each_reads state is_state change group makes text fits can.labels lies.differ base ends image unpublished (λ id. false) [] copy
-              (λ id listed j d within. inl (stays j d within)) k disk reading at_disk
+          (λ id listed j d within. inl (stays j d within)) k disk reading at_disk
           (subst (λ (n : ℕ). IsDiskReading n (base n) disk reading) zero_less is)
           (none_refused (λ id r. false) reading.pv
-              (gives_at NotRefused p.scan.readings k reading (settled_read p.scan.readings found settled) at_reading))))
+          (gives_at NotRefused p.scan.readings k reading (settled_read p.scan.readings found settled) at_reading))))
 
       pub before_publishing : FindsVersion sizes image none_out (version_in found)
       before_publishing =
           same_version image sizes found p.whole p.scan.readings p.scan.answer as_it_was.there as_it_was.read
-              (as_it_was.sizes_is ∙ p.scan.are.sizes_is) as_it_was.are
+          (as_it_was.sizes_is ∙ p.scan.are.sizes_is) as_it_was.are
           (ap decide_scan (as_before new p.scan.readings as_it_was.read as_it_was.again)) as_it_was.ids
 
     pub at_the_end : FindsVersion sizes (with_batches (batches_of state line now given) base) none_out (Some (version_of group change))
     at_the_end =
         let image : Image = with_batches (batches_of state line now given) base in
         with_text image (all_written (batches_of state line now given) base)
-            (subst (λ (g : Option Group). HoldsAfter g now change state.areas image) makes.made (p.keeps.found base shown).areas)
+        (subst (λ (g : Option Group). HoldsAfter g now change state.areas image) makes.made (p.keeps.found base shown).areas)

@@ -1,6 +1,6 @@
 -- An image on the way of a change that commits a group: each disk reads again, but for areas that give the new text.
-use Rattle.std.proofs.Common.{◌≡◌, ◌≢◌, ◌≤◌, ◌<◌, ◌⊎◌, ℕ, ◌+◌, ◌/◌, Bool, true, false, List, [], ◌∷◌, ◌++◌, length, get_or, map, Option,
-    Some, None, inl, inr, ⊎_elim, refl, sym, ap, subst, ◌∙◌, arith}
+use Rattle.std.proofs.Common.{◌≡◌, ◌≢◌, ◌≤◌, ◌<◌, ◌⊎◌, ℕ, ◌+◌, ◌/◌, Bool, true, false, List, [], ◌∷◌, ◌++◌, length, get_or, map, Option}
+use Rattle.std.proofs.Common.{Some, None, inl, inr, ⊎_elim, refl, sym, ap, subst, ◌∙◌, arith}
 use Rattle.std.specs.Prelude.{All, slice_get}
 use Rattle.std.specs.FinSet as set
 use Rattle.std.specs.List.{AllByRecursion as Each}
@@ -109,7 +109,7 @@ module _ (state : GroupState) (is_state : IsState state) (change : Change) (grou
   own_held : All (IsHeldOn state.disks) own
   own_held =
       All-filter (lies_on (set_of change.disk_of)) (IsHeldOn state.disks) state.areas
-          (subst (All (IsHeldOn state.disks)) (sym is_state.areas) (all_held state.disks is_state.disks))
+      (subst (All (IsHeldOn state.disks)) (sym is_state.areas) (all_held state.disks is_state.disks))
 
   -- a label, or a sector of an area of the group
   pub writes : (pv sector : ℕ) (value : List ℕ) → AnyWrites batches pv sector value
@@ -128,7 +128,7 @@ module _ (state : GroupState) (is_state : IsState state) (change : Change) (grou
   abbrev IsLabelOn : NewLabel → Type 0
   IsLabelOn label =
       (disk : Disk) × (old : PvHeader) × (slice_get state.disks label.disk ≡ Some disk)
-          × (option_and_then pv_in disk.contents ≡ Some (label.sector, old)) × IsSameHeader old label.header
+      × (option_and_then pv_in disk.contents ≡ Some (label.sector, old)) × IsSameHeader old label.header
 
   labels_on : All IsLabelOn change.labels
   labels_on =
@@ -168,8 +168,8 @@ module _ (state : GroupState) (is_state : IsState state) (change : Change) (grou
       ∙ ⊎_elim
       (λ same. same ∙ there)
       (λ by. absurd (near_kept label.disk label.sector (can k d within).sector_below (with_batches commit first label.disk label.sector)
-          (commit_writes text own fits.committed.take own_rooms label.disk label.sector (with_batches commit first label.disk label.sector)
-          by)))
+      (commit_writes text own fits.committed.take own_rooms label.disk label.sector (with_batches commit first label.disk label.sector)
+      by)))
       (batches_or commit first label.disk label.sector)
 
   label_written : (pv sector : ℕ) (value : List ℕ) → IsWrittenBy label_puts pv sector value → WritesLabel pv sector value
@@ -202,16 +202,16 @@ module _ (state : GroupState) (is_state : IsState state) (change : Change) (grou
         let w = label_where change.labels some_label pv sector (image pv sector) label in
         let others : Each (λ n. n ≢ pv) (disks_added makes.all) =
         each_back (λ n. n ≢ pv) makes.first (disks_added makes.all)
-            (subst (Each (λ n. n ≢ pv)) makes.disk_of_is (absent set.empty change.disk_of pv off).1)
+        (subst (Each (λ n. n ≢ pv)) makes.disk_of_is (absent set.empty change.disk_of pv off).1)
         in
         let apart : All (λ (l : NewLabel). l.disk ≢ pv) change.labels =
         subst (All (λ (l : NewLabel). l.disk ≢ pv)) (sym makes.labels_is)
-            (All-map (λ (l : NewLabel). l.disk ≢ pv) label_of makes.all (added_apart pv makes.all others))
+        (All-map (λ (l : NewLabel). l.disk ≢ pv) label_of makes.all (added_apart pv makes.all others))
         in
         absurd (apart w.0 some_label w.1 w.2))
         (λ area.
         let on : set.contains (set_of change.disk_of) (get_or own area.number no_area).0.pv ≡ true =
-            filter_passes (lies_on (set_of change.disk_of)) state.areas area.number no_area area.among in
+        filter_passes (lies_on (set_of change.disk_of)) state.areas area.number no_area area.among in
         absurd (true≢false (sym on ∙ ap (set.contains (set_of change.disk_of)) area.disk ∙ off)))
         (writes pv sector (image pv sector) by))
         (front_or batches base image pv sector h)
@@ -252,7 +252,7 @@ module _ (state : GroupState) (is_state : IsState state) (change : Change) (grou
             let w : WritesLabel pv label (image pv label) = label_written pv label (image pv label) at in
             let same : header ≡ w.on.1 = (of_label label (image pv label) w).1 in
             let has : HasLabel (with_batches batches base) w.label =
-                subst (HasLabel (with_batches batches base)) w.label_is (ends w.number some_label w.among) in
+            subst (HasLabel (with_batches batches base)) w.label_is (ends w.number some_label w.among) in
             inr (
               w.label.header,
               subst (λ (old : PvHeader). IsSameHeader old w.label.header) (sym same) w.on.4,
@@ -270,16 +270,16 @@ module _ (state : GroupState) (is_state : IsState state) (change : Change) (grou
           let found : AreaFound = get_or areas k d in
           let sector : ℕ = found.area.offset / 512 in
           let placed : All (IsPlaced areas) areas =
-              subst (λ (c : Option PvFound). All (IsPlaced (areas_on c)) (areas_on c)) is
-                  (areas_placed pv disk.sectors disk.contents (is_state.disks pv disk there).contents) in
+          subst (λ (c : Option PvFound). All (IsPlaced (areas_on c)) (areas_on c)) is
+          (areas_placed pv disk.sectors disk.contents (is_state.disks pv disk there).contents) in
           ⊎_elim
           (λ same. inl same)
           (λ by.
           ⊎_elim
           (λ at. let w : WritesLabel pv sector (image pv sector) = label_written pv sector (image pv sector) at in absurd
-              (omega (arith, w.can_label.sector_below, w.at, (placed k d within).far)))
+          (omega (arith, w.can_label.sector_below, w.at, (placed k d within).far)))
           (λ area. inr (header_met state.disks is_state.disks text own own_held own_rooms pv disk there label header areas is k d within
-              (image pv sector) area))
+          (image pv sector) area))
           (writes pv sector (image pv sector) by))
           (front_or batches base image pv sector h)
 
@@ -298,14 +298,14 @@ module _ (state : GroupState) (is_state : IsState state) (change : Change) (grou
         known k d within = inl (
           λ held is_held.
               let here : held.0.pv ≡ pv =
-                  ap (λ (a : Area). a.pv) (entry_kept (area_on pv (get_or areas k d).area) (get_or areas k d).entry held is_held) in
+              ap (λ (a : Area). a.pv) (entry_kept (area_on pv (get_or areas k d).area) (get_or areas k d).entry held is_held) in
               let all : All (λ found. (x : Area × Option Locn) → held_area (0 + pv) found ≡ Some x → OnWay x) areas =
               subst (λ (c : Option PvFound). All (λ found. (x : Area × Option Locn) → held_area (0 + pv) found ≡ Some x → OnWay x)
-                  (areas_on c)) is
+              (areas_on c)) is
               (of_held OnWay 0 state.disks (subst (All OnWay) is_state.areas ways) pv disk there)
               in
               all k d within held (ap (λ (n : ℕ). held_area n (get_or areas k d)) (omega arith) ∙ is_held)
-                  (ap (set.contains (set_of change.disk_of)) here ∙ on_group),
+              (ap (set.contains (set_of change.disk_of)) here ∙ on_group),
           headers k d within,
         )
 
@@ -324,12 +324,12 @@ module _ (state : GroupState) (is_state : IsState state) (change : Change) (grou
           let w = header_read disk.contents listed.header (ap (λ (x : Disk). header_on x.contents) same ∙ listed.is) in
           let stands = subst (λ (c : Option PvFound). ContentsCanStand pv disk.sectors c) w.2 (is_state.disks pv disk there).contents in
           subst (λ (n : ℕ). DiskAgain pv (image pv) may (λ id r. false) new disk (record { sectors = n; pv = reading.pv }))
-              (sym read.sectors_is)
+          (sym read.sectors_is)
           (disk_again text group passed copy may (λ id r. false) pv base image disk.sectors disk.contents reading.pv read.contents
-              read.pv_is given w.0 listed.header w.1 w.2
+          read.pv_is given w.0 listed.header w.1 w.2
           (label_stands pv disk there w.0 listed.header w.1 w.2 stands.0)
           (recursion_from_All (IsKnown text pv base image (may listed.header.id) (λ r. false)) w.1
-              (known pv disk there w.0 listed.header w.1 w.2 stands.0 (may listed.header.id) (kept listed.header.id listed.listed) on)))
+          (known pv disk there w.0 listed.header w.1 w.2 stands.0 (may listed.header.id) (kept listed.header.id listed.listed) on)))
 
       pub each_reads : (pv : ℕ) (disk : Disk) (reading : Reading) → slice_get state.disks pv ≡ Some disk
           → IsDiskReading pv (base pv) disk reading → PvMayBeRefused (λ id r. false) reading.pv
@@ -347,4 +347,4 @@ module _ (state : GroupState) (is_state : IsState state) (change : Change) (grou
         → DiskAgain pv (image pv) (lists group) (λ id r. false) (Copy group text passed) disk reading
     each_again passed copy kept =
         each_reads (lists group) passed copy (λ id listed k d within. kept_or_made text base image (lists group id) listed
-            (get_or state.areas k d) (kept k d within))
+        (get_or state.areas k d) (kept k d within))

@@ -1,6 +1,6 @@
 -- What a scan finds on the way of a change that commits a group, and at its end.
-use Rattle.std.proofs.Common.{◌≡◌, ◌≢◌, ◌<◌, ◌⊎◌, ℕ, Bool, true, false, not, ◌||◌, List, [], ◌∷◌, map, Option, Some, None, IfSome, inl, inr,
-    ⊎_elim, refl, sym, ap, subst, ◌∙◌, arith}
+use Rattle.std.proofs.Common.{◌≡◌, ◌≢◌, ◌<◌, ◌⊎◌, ℕ, Bool, true, false, not, ◌||◌, List, [], ◌∷◌, map, Option, Some, None, IfSome, inl, inr}
+use Rattle.std.proofs.Common.{⊎_elim, refl, sym, ap, subst, ◌∙◌, arith}
 use Rattle.std.specs.Prelude.{option_map}
 use Rattle.std.specs.Option.{option_map_or}
 use Rattle.std.specs.FinSet as set
@@ -9,8 +9,9 @@ use Rattle.std.specs.Ordering.{nat_cmp}
 use Rattle.disk_model.specs.Steps.{Image}
 use Rattle.meta_model.specs.declared.group.Group.{Group}
 use Rattle.meta_model.specs.declared.pv.Pv.{Pv}
-use Rattle.scan_rules.specs.Decision.{AreaReading, Conflict, Copy, DuplicatePv, FoundGroup, GivesNoLater, HasShape as IsShaped, NoCopy,
-    NoGroup, PvShape, Reading, SameHeaders, ScanAnswer, TwoGroups, Unsupported, decide_scan, first_misplaced, is_held, lists}
+use Rattle.scan_rules.specs.Decision.{AreaReading, Conflict, Copy, DuplicatePv, FoundGroup, GivesNoLater, HasShape as IsShaped, NoCopy}
+use Rattle.scan_rules.specs.Decision.{NoGroup, PvShape, Reading, SameHeaders, ScanAnswer, TwoGroups, Unsupported, decide_scan}
+use Rattle.scan_rules.specs.Decision.{first_misplaced, is_held, lists}
 use Rattle.scan_rules.specs.Found.{is_missing, missing_of}
 use Rattle.scan_rules.proofs.SameShape.{same_shape}
 use Rattle.vg_found.specs.declared.disk.Disk.{Disk}
@@ -34,8 +35,11 @@ use Rattle.image_scans.proofs.SettledBase.{IsNoneOr, IsSettledScan, none_later, 
 -- what was found, of other disks
 abbrev found_on : Found → List Disk → Found
 found_on found disks =
-    record found { disks = disks; areas = held_areas 0 disks;
-        disk_of = option_map_or (λ (group : Group). disks_of group disks) found.group [] }
+    record found {
+      disks = disks;
+      areas = held_areas 0 disks;
+      disk_of = option_map_or (λ (group : Group). disks_of group disks) found.group [];
+    }
 
 -- an answer that was found is found of other disks too
 moved : (answer : ScanAnswer) (found : Found) (disks : List Disk) → IsFoundBy answer found → IsFoundBy answer (found_on found disks)
@@ -103,21 +107,21 @@ no_later readings found group text copy next (settled_some held parts some old_c
     let differ : held.text ≢ text =
     λ same.
     let one : held.group ≡ group =
-        one_copy text held.group group held.passed [] (subst (λ (t : List ℕ). IsCopyOf t held.group held.passed) same old_copy) copy in
+    one_copy text held.group group held.passed [] (subst (λ (t : List ℕ). IsCopyOf t held.group held.passed) same old_copy) copy in
     let seqno : held.group.seqno ≡ group.seqno = ap (λ (g : Group). g.seqno) one in
     omega (arith, seqno, step.1)
     in
     disks_weaker (λ disk. IsNoneOr held.group held.text) (λ disk. GivesNoLater group text)
-        (λ disk. older_given held.group held.text group text step.0 step.1 differ) readings given
+    (λ disk. older_given held.group held.text group text step.0 step.1 differ) readings given
 
 module _ (image : Image) (sizes : List ℕ) (found : Found) (shape : HasShape found) (whole : IsWhole found) (readings : List Reading)
     (sizes_are : map (λ (d : Disk). d.sectors) found.disks ≡ sizes) (headers : SameHeaders (shapes found.disks) readings)
     (settled : IsSettledScan readings found) (group : Group) (text : List ℕ) (copy : IsCopyOf text group [])
-        (next : IsNext found.group group) (placed : first_misplaced group (shapes found.disks) ≡ None)
+    (next : IsNext found.group group) (placed : first_misplaced group (shapes found.disks) ≡ None)
     (there : Each (λ (pv : List ℕ × Pv). is_missing (shapes found.disks) pv ≡ false) group.pvs) (disk_of : List ℕ)
-        (disks_is : disks_of group found.disks ≡ disk_of)
+    (disks_is : disks_of group found.disks ≡ disk_of)
     (bare : List ℕ → AreaReading → Bool) (again : AllAgain image found.unread 0 (lists group) bare (Copy group text []) found.disks
-        readings) where
+    readings) where
   new_shape : IsShaped group again.read
   new_shape =
       same_shape group readings again.read (again_headers (lists group) bare (Copy group text []) readings again.read again.again)
@@ -126,7 +130,7 @@ module _ (image : Image) (sizes : List ℕ) (found : Found) (shape : HasShape fo
   new_given : DisksGive (λ disk. GivesNoLater group text) again.read
   new_given =
       again_give (GivesNoLater group text) (Copy group text []) (refl, inl (refl, refl)) tt (lists group) bare readings again.read
-          again.again (no_later readings found group text copy next settled)
+      again.again (no_later readings found group text copy next settled)
 
   none_away : missing_of again.read group.pvs ≡ []
   none_away = none_missing again.read group.pvs (each_there group.pvs there)
@@ -135,8 +139,8 @@ module _ (image : Image) (sizes : List ℕ) (found : Found) (shape : HasShape fo
       still pv is =
           ap (λ (b : Bool). pv.1.missing || not b)
           (sym (same_ids pv.1.id (shapes found.disks) readings headers
-              ∙ same_ids pv.1.id readings again.read (again_headers (lists group) bare (Copy group text []) readings again.read
-              again.again)))
+          ∙ same_ids pv.1.id readings again.read (again_headers (lists group) bare (Copy group text []) readings again.read
+          again.again)))
           ∙ is
 
       each_there : (pvs : List (List ℕ × Pv)) → Each (λ (pv : List ℕ × Pv). is_missing (shapes found.disks) pv ≡ false) pvs
@@ -164,7 +168,7 @@ module _ (image : Image) (sizes : List ℕ) (found : Found) (shape : HasShape fo
   of_finds : Finds again.read group text → FindsVersion sizes image none_out (Some new_version)
   of_finds f =
       let parts : IsFoundWith again.read f.held f.stale f.strays f.missing =
-          found_parts again.read f.held f.stale f.strays f.missing f.is in
+      found_parts again.read f.held f.stale f.strays f.missing f.is in
       let version : Group → Version = λ g. record { group = g; disk_of = disks_of g again.there } in
       record {
         found = found_anew f;
@@ -179,8 +183,8 @@ module _ (image : Image) (sizes : List ℕ) (found : Found) (shape : HasShape fo
         whole = sym parts.missing_are ∙ ap (λ (g : Group). missing_of again.read g.pvs) f.group_is ∙ none_away;
         version_is =
             ap (λ (g : Group). Some (version g)) f.group_is
-                ∙ ap (λ (l : List ℕ). Some (record { group = group; disk_of = l }))
-                (disks_by_ids group found.disks again.there again.ids ∙ disks_is);
+            ∙ ap (λ (l : List ℕ). Some (record { group = group; disk_of = l }))
+            (disks_by_ids group found.disks again.there again.ids ∙ disks_is);
       }
 
   -- where the new text is held, the new version is found
@@ -192,9 +196,9 @@ pub either_found : (image : Image) (sizes : List ℕ) (found : Found) (shape : H
     (readings : List Reading) (sizes_are : map (λ (d : Disk). d.sectors) found.disks ≡ sizes)
     (headers : SameHeaders (shapes found.disks) readings)
     (settled : IsSettledScan readings found) (group : Group) (text : List ℕ) (copy : IsCopyOf text group [])
-        (next : IsNext found.group group) (placed : first_misplaced group (shapes found.disks) ≡ None)
+    (next : IsNext found.group group) (placed : first_misplaced group (shapes found.disks) ≡ None)
     (there : Each (λ (pv : List ℕ × Pv). is_missing (shapes found.disks) pv ≡ false) group.pvs) (disk_of : List ℕ)
-        (disks_is : disks_of group found.disks ≡ disk_of)
+    (disks_is : disks_of group found.disks ≡ disk_of)
     → (again : AllAgain image found.unread 0 (lists group) (λ id r. false) (Copy group text []) found.disks readings)
     → IsFoundBy (decide_scan readings) found
     → FindsVersion sizes image none_out (version_in found)
@@ -202,7 +206,7 @@ pub either_found : (image : Image) (sizes : List ℕ) (found : Found) (shape : H
 either_found image sizes found shape whole readings sizes_are headers settled group text copy next placed there disk_of disks_is again by =
     ⊎_elim
     (λ held. inr (new_found image sizes found shape whole readings sizes_are headers settled group text copy next placed there disk_of
-        disks_is (λ id r. false) again held))
+    disks_is (λ id r. false) again held))
     (λ same. inl (same_version image sizes found whole readings by again.there again.read (again.sizes_is ∙ sizes_are) again.are
-        (ap decide_scan same) again.ids))
+    (ap decide_scan same) again.ids))
     (held_or_same group text [] readings again.read again.again)

@@ -19,7 +19,7 @@ use Rattle.image_scans.proofs.Front.{AnyWrites}
 abbrev pub IsRingOrHeader : List ℕ → Area × Option Locn → ℕ → List ℕ → Type 0
 IsRingOrHeader text a sector value =
     (a.0.start / 512 + 1 ≤ sector) ⊎ ((sector ≡ a.0.start / 512)
-        × ((value ≡ header_bytes (header_before text a)) ⊎ (value ≡ header_bytes (header_after text a))))
+    × ((value ≡ header_bytes (header_before text a)) ⊎ (value ≡ header_bytes (header_after text a))))
 
 -- a sector of an area of the list
 pub record IsAreaWrite (text : List ℕ) (areas : List (Area × Option Locn)) (pv sector : ℕ) (value : List ℕ) : Type 0 where
@@ -38,7 +38,7 @@ module _ (text : List ℕ) (areas : List (Area × Option Locn)) (take : All CanT
       let w = text_where text areas no_area pv sector value by in
       let a : Area × Option Locn = get_or areas w.0 no_area in
       let put : IsTextPut text a pv sector value =
-          text_put text a (is_placed text a (take w.0 no_area w.1) (rooms w.0 no_area w.1)) pv sector value w.2 in
+      text_put text a (is_placed text a (take w.0 no_area w.1) (rooms w.0 no_area w.1)) pv sector value w.2 in
       record { number = w.0; among = w.1; disk = put.disk; from = omega (arith, put.from); to = put.to; is = inl put.from }
 
   header_writes : (a : Area × Option Locn) → CanTake a → (pv sector : ℕ) → IsTrue (covers (header_span a.0) pv sector)
@@ -53,8 +53,14 @@ module _ (text : List ℕ) (areas : List (Area × Option Locn)) (take : All CanT
       let w = header_where text areas no_area pv sector value by in
       let a : Area × Option Locn = get_or areas w.0 no_area in
       let at = header_writes a (take w.0 no_area w.1) pv sector w.2 in
-      record { number = w.0; among = w.1; disk = at.0; from = omega (arith, at.1); to = at.2;
-          is = inr (sym at.1, inl (header_value a.0 (header_bytes (header_before text a)) value sector at.1 w.3)) }
+      record {
+        number = w.0;
+        among = w.1;
+        disk = at.0;
+        from = omega (arith, at.1);
+        to = at.2;
+        is = inr (sym at.1, inl (header_value a.0 (header_bytes (header_before text a)) value sector at.1 w.3));
+      }
 
   publish_write : (pv sector : ℕ) (value : List ℕ) → IsWrittenBy (publish_of (map (area_writes text) areas)) pv sector value
       → IsAreaWrite text areas pv sector value
@@ -62,8 +68,14 @@ module _ (text : List ℕ) (areas : List (Area × Option Locn)) (take : All CanT
       let w = publish_where text areas no_area pv sector value by in
       let a : Area × Option Locn = get_or areas w.0 no_area in
       let at = header_writes a (take w.0 no_area w.1) pv sector w.2 in
-      record { number = w.0; among = w.1; disk = at.0; from = omega (arith, at.1); to = at.2;
-          is = inr (sym at.1, inr (header_value a.0 (header_bytes (header_after text a)) value sector at.1 w.3)) }
+      record {
+        number = w.0;
+        among = w.1;
+        disk = at.0;
+        from = omega (arith, at.1);
+        to = at.2;
+        is = inr (sym at.1, inr (header_value a.0 (header_bytes (header_after text a)) value sector at.1 w.3));
+      }
 
   pub commit_writes : (pv sector : ℕ) (value : List ℕ)
       → AnyWrites (texts_of (map (area_writes text) areas) ∷ headers_of (map (area_writes text) areas)

@@ -5,10 +5,11 @@ use Rattle.std.specs.Option.{option_and_then}
 use Rattle.std.specs.List.{enumerate_from, flat_map, list_any}
 use Rattle.meta_model.specs.declared.group.Group.{Group}
 use Rattle.scan_rules.specs.declared.copy_refusal.CopyRefusal.{CopyRefusal}
-use Rattle.scan_rules.specs.Decision.{Conflict, DuplicatePv, FoundGroup, Held, NoCopy, NoGroup, PvShape, Reading, ScanAnswer, TwoGroups,
-    Unsupported, best, conflict, copies, copies_from, decide_scan, duplicates, first_duplicate, first_misplaced, found, found_with, greater,
-    ids_from, is_held, is_listed, is_something, misshapen, misshapen_by, no_copy, readings_in, refusals, refusals_from, same_bytes,
-    sum_agrees, two_groups, unsupported}
+use Rattle.scan_rules.specs.Decision.{Conflict, DuplicatePv, FoundGroup, Held, NoCopy, NoGroup, PvShape, Reading, ScanAnswer, TwoGroups}
+use Rattle.scan_rules.specs.Decision.{Unsupported, best, conflict, copies, copies_from, decide_scan, duplicates, first_duplicate}
+use Rattle.scan_rules.specs.Decision.{first_misplaced, found, found_with, greater, ids_from, is_held, is_listed, is_something, misshapen}
+use Rattle.scan_rules.specs.Decision.{misshapen_by, no_copy, readings_in, refusals, refusals_from, same_bytes, sum_agrees, two_groups}
+use Rattle.scan_rules.specs.Decision.{unsupported}
 use Rattle.scan_rules.specs.Found.{missing_of, stale_of}
 
 -- ---- the tests
@@ -58,9 +59,9 @@ two_groups_only (c ∷ cs) =
 conflict_only : (cs : List Held) → OnlyRefuses (conflict cs)
 conflict_only cs =
     chained (λ (b : Held). option_map (λ (d : Held). Conflict b.disk d.disk b.group.seqno)
-        (find (λ (d : Held). d.group.seqno == b.group.seqno && not (same_bytes d.text b.text)) cs)) (best cs) (λ b.
+    (find (λ (d : Held). d.group.seqno == b.group.seqno && not (same_bytes d.text b.text)) cs)) (best cs) (λ b.
     mapped (λ (d : Held). Conflict b.disk d.disk b.group.seqno)
-        (find (λ (d : Held). d.group.seqno == b.group.seqno && not (same_bytes d.text b.text)) cs) (λ d. tt))
+    (find (λ (d : Held). d.group.seqno == b.group.seqno && not (same_bytes d.text b.text)) cs) (λ d. tt))
 
 shape_only : (misplaced : Option ℕ) (held : Bool) (disk : ℕ)
     → OnlyRefuses (unwrap_or (option_map (λ (d : ℕ). Some (PvShape d)) misplaced) (cond held None (Some (PvShape disk))))
@@ -71,7 +72,7 @@ shape_only (Some d) held disk = tt
 misshapen_only : (cs : List Held) (disks : List Reading) → OnlyRefuses (misshapen cs disks)
 misshapen_only cs disks =
     chained (λ (b : Held). misshapen_by b disks) (best cs)
-        (λ b. shape_only (first_misplaced b.group disks) (is_held b.group b.text disks) b.disk)
+    (λ b. shape_only (first_misplaced b.group disks) (is_held b.group b.text disks) b.disk)
 
 -- each test before the answer was passed
 pub record Passes (disks : List Reading) (answer : ScanAnswer) : Type 0 where
@@ -94,14 +95,14 @@ passes disks answer nothing is =
     let f4 : ScanAnswer = unwrap_or (unsupported cs rs) f3 in
     let f5 : ScanAnswer = unwrap_or (no_copy cs rs) f4 in
     let a : (duplicates disks ≡ None) × (f5 ≡ answer) =
-        past (duplicates disks) f5 answer (mapped (λ (pair : ℕ × ℕ). DuplicatePv pair.0 pair.1) (first_duplicate (ids_from 0 disks))
-            (λ pair. tt)) nothing is in
+    past (duplicates disks) f5 answer (mapped (λ (pair : ℕ × ℕ). DuplicatePv pair.0 pair.1) (first_duplicate (ids_from 0 disks))
+    (λ pair. tt)) nothing is in
     let b : (no_copy cs rs ≡ None) × (f4 ≡ answer) = past (no_copy cs rs) f4 answer (no_copy_only cs rs) nothing a.1 in
     let c : (unsupported cs rs ≡ None) × (f3 ≡ answer) = past (unsupported cs rs) f3 answer (unsupported_only cs rs) nothing b.1 in
     let d : (two_groups cs ≡ None) × (f2 ≡ answer) = past (two_groups cs) f2 answer (two_groups_only cs) nothing c.1 in
     let e : (conflict cs ≡ None) × (f1 ≡ answer) = past (conflict cs) f1 answer (conflict_only cs) nothing d.1 in
     let f : (misshapen cs disks ≡ None) × (found cs disks ≡ answer) =
-        past (misshapen cs disks) (found cs disks) answer (misshapen_only cs disks) nothing e.1 in
+    past (misshapen cs disks) (found cs disks) answer (misshapen_only cs disks) nothing e.1 in
     record { apart = a.0; copy = b.0; supported = c.0; one_group = d.0; agree = e.0; shape = f.0; is = f.1 }
 
 -- ---- a group that was found
@@ -127,18 +128,18 @@ missing_of_answer _ = []
 abbrev pub strays_in : Group → List Reading → List ℕ
 strays_in group disks =
     filter_map (λ (d : ℕ × Reading). cond (not (is_listed group d.1) && list_any is_something (readings_in d.1)) (Some d.0) None)
-        (enumerate_from 0 disks)
+    (enumerate_from 0 disks)
 
 -- what is known of a group that was found
 pub record IsFoundWith (disks : List Reading) (held : Held) (stale : List (ℕ × ℕ)) (strays : List ℕ) (missing : List (List ℕ)) : Type 0
-    where
-  pub apart : first_duplicate (ids_from 0 disks) ≡ None
-  pub best_is : best (copies disks) ≡ Some held
-  pub placed : first_misplaced held.group disks ≡ None
-  pub is_held_is : is_held held.group held.text disks ≡ true
-  pub stale_are : flat_map (stale_of held.group held.text) (enumerate_from 0 disks) ≡ stale
-  pub strays_are : strays_in held.group disks ≡ strays
-  pub missing_are : missing_of disks held.group.pvs ≡ missing
+  where
+    pub apart : first_duplicate (ids_from 0 disks) ≡ None
+    pub best_is : best (copies disks) ≡ Some held
+    pub placed : first_misplaced held.group disks ≡ None
+    pub is_held_is : is_held held.group held.text disks ≡ true
+    pub stale_are : flat_map (stale_of held.group held.text) (enumerate_from 0 disks) ≡ stale
+    pub strays_are : strays_in held.group disks ≡ strays
+    pub missing_are : missing_of disks held.group.pvs ≡ missing
 
 no_pair : (o : Option (ℕ × ℕ)) → option_map (λ (pair : ℕ × ℕ). DuplicatePv pair.0 pair.1) o ≡ None → o ≡ None
 no_pair None is = refl
@@ -162,10 +163,10 @@ found_parts disks held stale strays missing is =
     let p : Passes disks answer = passes disks answer (λ nothing. nothing) is in
     let b : best (copies disks) ≡ Some held = best_found disks (best (copies disks)) answer held p.is refl in
     let shape : misshapen_by held disks ≡ None =
-        sym (ap (λ (o : Option Held). option_and_then (λ (x : Held). misshapen_by x disks) o) b) ∙ p.shape in
+    sym (ap (λ (o : Option Held). option_and_then (λ (x : Held). misshapen_by x disks) o) b) ∙ p.shape in
     let well = well_by (first_misplaced held.group disks) (is_held held.group held.text disks) held.disk shape in
     let with : found_with disks held ≡ answer =
-        sym (ap (λ (o : Option Held). unwrap_or (option_map (found_with disks) o) NoGroup) b) ∙ p.is in
+    sym (ap (λ (o : Option Held). unwrap_or (option_map (found_with disks) o) NoGroup) b) ∙ p.is in
     record {
       apart = no_pair (first_duplicate (ids_from 0 disks)) p.apart;
       best_is = b;
@@ -210,7 +211,7 @@ nothing_found disks h =
     λ pair cs rs.
     unwrap_or (option_map (λ (p : ℕ × ℕ). DuplicatePv p.0 p.1) pair)
     (unwrap_or (no_copy cs rs) (unwrap_or (unsupported cs rs)
-        (unwrap_or (two_groups cs) (unwrap_or (conflict cs) (unwrap_or (misshapen cs disks) (found cs disks)))))) in
+    (unwrap_or (two_groups cs) (unwrap_or (conflict cs) (unwrap_or (misshapen cs disks) (found cs disks)))))) in
     ap (λ (o : Option (ℕ × ℕ)). tests o (copies_from 0 disks) (refusals_from 0 disks)) h.apart
     ∙ ap (λ (cs : List Held). tests None cs (refusals_from 0 disks)) h.no_copies
     ∙ ap (λ (rs : List (ℕ × CopyRefusal)). tests None [] rs) h.no_refusals

@@ -1,6 +1,6 @@
 -- One disk on the way of a commit: what stands there, and that it reads again but for areas that give the new text.
-use Rattle.std.proofs.Common.{◌≡◌, ◌<◌, ◌⊎◌, ℕ, zero, suc, ◌+◌, ◌*◌, Bool, cond, List, [], ◌∷◌, map, Option, Some, None, inl, inr, ⊎_elim,
-    refl, sym, ap, subst, ◌∙◌, arith}
+use Rattle.std.proofs.Common.{◌≡◌, ◌<◌, ◌⊎◌, ℕ, zero, suc, ◌+◌, ◌*◌, Bool, cond, List, [], ◌∷◌, map, Option, Some, None, inl, inr, ⊎_elim}
+use Rattle.std.proofs.Common.{refl, sym, ap, subst, ◌∙◌, arith}
 use Rattle.std.specs.Prelude.{slice_get}
 use Rattle.std.specs.FinSet as set
 use Rattle.std.specs.List.{AllByRecursion as Each}
@@ -52,9 +52,9 @@ areas_again text group passed copy may bare pv base image [] (area ∷ before) r
 areas_again text group passed copy may bare pv base image (found ∷ founds) [] reads is given known = absurd reads
 areas_again text group passed copy may bare pv base image (found ∷ founds) (area ∷ before) reads is given known =
     let one : ReadsAgain pv (image pv) found.area (Copy group text passed) may bare area =
-        area_again text group passed copy may bare pv base image found area is.0 reads.0 given.0 known.0 in
+    area_again text group passed copy may bare pv base image found area is.0 reads.0 given.0 known.0 in
     let later : AreasReadAgain pv (image pv) (Copy group text passed) may bare founds before =
-        areas_again text group passed copy may bare pv base image founds before reads.1 is.1 given.1 known.1 in
+    areas_again text group passed copy may bare pv base image founds before reads.1 is.1 given.1 known.1 in
     record {
       found = one.found ∷ later.found;
       areas = one.area ∷ later.areas;
@@ -159,10 +159,10 @@ module _ (text : List ℕ) (group : Group) (passed : List (List ℕ)) (copy : Is
     whole_again =
         let list : AreasReadAgain pv (image pv) new (may own.id) (bare own.id) areas own.areas =
         areas_again text group passed copy (may own.id) (bare own.id) pv base image areas own.areas reads
-            (recursion_from_All (IsAreaFound (base pv)) areas found.2.each) given known
+        (recursion_from_All (IsAreaFound (base pv)) areas found.2.each) given known
         in
         let are : AreAreasFound (image pv) header.areas list.found =
-            record { in_order = list.same ∙ found.2.in_order; each = All-from_recursion (IsAreaFound (image pv)) list.found list.is } in
+        record { in_order = list.same ∙ found.2.in_order; each = All-from_recursion (IsAreaFound (image pv)) list.found list.is } in
         let at = there in
         record {
           there = record { sectors = sectors; contents = Some (Whole label at.0 list.found) };
@@ -198,9 +198,9 @@ pub disk_again : (text : List ℕ) (group : Group) (passed : List (List ℕ)) �
     (record { sectors = sectors; pv = read })
 disk_again text group passed copy may bare pv base image sectors contents read found reads given label header areas is stands known =
     subst (λ (c : Option PvFound). DiskAgain pv (image pv) may bare (Copy group text passed) (record { sectors = sectors; contents = c })
-        (record { sectors = sectors; pv = read })) (sym is)
+    (record { sectors = sectors; pv = read })) (sym is)
     (by read (subst (λ (c : Option PvFound). IsContents (base pv) sectors c) is found)
-        (subst (λ (c : Option PvFound). IsPvReading pv (base pv) c read) is reads) given)
+    (subst (λ (c : Option PvFound). IsPvReading pv (base pv) c read) is reads) given)
   where
     by : (o : Option PvOf) → IsFound (base pv) sectors (Whole label header areas)
         → IsPvReading pv (base pv) (Some (Whole label header areas)) o → PvMayBeRefused bare o
@@ -209,7 +209,7 @@ disk_again text group passed copy may bare pv base image sectors contents read f
     by None f r g = absurd r
     by (Some own) f r g =
         whole_again text group passed copy may bare pv base image sectors label header areas f stands own r.0 r.1 g
-            (subst (λ (id : List ℕ). Each (IsKnown text pv base image (may id) (bare id)) areas) (sym r.0) known)
+        (subst (λ (id : List ℕ). Each (IsKnown text pv base image (may id) (bare id)) areas) (sym r.0) known)
 
 -- ---- all disks
 
@@ -237,7 +237,7 @@ pub record AllAgain (image : Image) (unread : set.FinSet nat_cmp) (first : ℕ) 
 abbrev pub EachAgain : Image → Image → (List ℕ → Bool) → (List ℕ → AreaReading → Bool) → AreaReading → ℕ → List Disk → List Reading → Type 0
 EachAgain base image may bare new first disks readings =
     (k : ℕ) (disk : Disk) (reading : Reading) → slice_get disks k ≡ Some disk → slice_get readings k ≡ Some reading
-        → IsDiskReading (first + k) (base (first + k)) disk reading
+    → IsDiskReading (first + k) (base (first + k)) disk reading
     → DiskAgain (first + k) (image (first + k)) may bare new disk reading
 
 pub all_again : (base image : Image) (unread : set.FinSet nat_cmp) (first : ℕ) (may : List ℕ → Bool) (bare : List ℕ → AreaReading → Bool)
@@ -249,14 +249,14 @@ all_again base image unread first may bare new [] (reading ∷ readings) are eac
 all_again base image unread first may bare new (disk ∷ disks) [] are each = absurd are
 all_again base image unread first may bare new (disk ∷ disks) (reading ∷ readings) are each =
     let own : IsDiskReading (first + 0) (base (first + 0)) disk reading =
-        subst (λ (n : ℕ). IsDiskReading n (base n) disk reading) (omega arith) are.1 in
+    subst (λ (n : ℕ). IsDiskReading n (base n) disk reading) (omega arith) are.1 in
     let one : DiskAgain first (image first) may bare new disk reading =
-        subst (λ (n : ℕ). DiskAgain n (image n) may bare new disk reading) (omega arith) (each 0 disk reading refl refl own) in
+    subst (λ (n : ℕ). DiskAgain n (image n) may bare new disk reading) (omega arith) (each 0 disk reading refl refl own) in
     let later : AllAgain image unread (first + 1) may bare new disks readings =
     all_again base image unread (first + 1) may bare new disks readings are.2
     (λ k d r at_disk at_reading is.
     subst (λ (n : ℕ). DiskAgain n (image n) may bare new d r) (omega arith)
-        (each (suc k) d r at_disk at_reading (subst (λ (n : ℕ). IsDiskReading n (base n) d r) (omega arith) is)))
+    (each (suc k) d r at_disk at_reading (subst (λ (n : ℕ). IsDiskReading n (base n) d r) (omega arith) is)))
     in
     record {
       there = one.there ∷ later.there;

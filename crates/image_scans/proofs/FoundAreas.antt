@@ -1,6 +1,7 @@
 -- Where the metadata areas of a disk lie: behind the sectors of labels, and beside one another, also those that are ignored.
-use Rattle.std.proofs.Common.{◌≡◌, ◌<◌, ◌≤◌, ◌⊎◌, ℕ, zero, suc, ◌+◌, ◌*◌, ◌%◌, ◌==◌, not, ◌||◌, nat_lt, Bool, true, false, cond, eqb, ltb,
-    min, max, List, [], ◌∷◌, ◌++◌, length, get_or, map, Option, Some, None, inl, inr, ⊎_elim, refl, sym, ap, subst, ◌∙◌, arith}
+use Rattle.std.proofs.Common.{◌≡◌, ◌<◌, ◌≤◌, ◌⊎◌, ℕ, zero, suc, ◌+◌, ◌*◌, ◌%◌, ◌==◌, not, ◌||◌, nat_lt, Bool, true, false, cond, eqb, ltb}
+use Rattle.std.proofs.Common.{min, max, List, [], ◌∷◌, ◌++◌, length, get_or, map, Option, Some, None, inl, inr, ⊎_elim, refl, sym, ap}
+use Rattle.std.proofs.Common.{subst, ◌∙◌, arith}
 use Rattle.std.specs.Prelude.{filter_map, find, slice_get, All, AllPairs}
 use Rattle.std.specs.List.{cons_option}
 use Rattle.std.specs.Option.{option_or}
@@ -48,7 +49,7 @@ module _ (p : Extent × Extent → Bool) where
       → (find p (map (λ other. (x, other)) xs) ≡ None) × (find p (pairs_of xs) ≡ None)
   none_later x xs none =
       none_of_two (find p (map (λ other. (x, other)) xs)) (find p (pairs_of xs))
-          (sym (find-append p (map (λ other. (x, other)) xs) (pairs_of xs)) ∙ none)
+      (sym (find-append p (map (λ other. (x, other)) xs) (pairs_of xs)) ∙ none)
 
   none_pairs : (xs : List Extent) → find p (pairs_of xs) ≡ None → AllPairs (λ x y. p (x, y) ≡ false) xs
   none_pairs [] none = λ i j d before within. absurd (omega (arith, within))
@@ -74,10 +75,10 @@ unfolding shares_byte
 lie_beside all bytes a b some some' none =
     let ends : min (end_of all bytes a) (end_of all bytes b) ≡ min (a.offset + a.size) (b.offset + b.size) =
     ap (λ (n : ℕ). min n (end_of all bytes b)) (has_end all bytes a some)
-        ∙ ap (λ (n : ℕ). min (a.offset + a.size) n) (has_end all bytes b some')
+    ∙ ap (λ (n : ℕ). min (a.offset + a.size) n) (has_end all bytes b some')
     in
     let below : ltb (max a.offset b.offset) (min (a.offset + a.size) (b.offset + b.size)) ≡ false =
-        ap (λ (n : ℕ). ltb (max a.offset b.offset) n) (sym ends) ∙ none in
+    ap (λ (n : ℕ). ltb (max a.offset b.offset) n) (sym ends) ∙ none in
     let upto : min (a.offset + a.size) (b.offset + b.size) ≤ max a.offset b.offset = grind (arith, nat_tests) in
     elim (cases_lt b.offset (a.offset + a.size)) [ inl before ↦ inr (omega arith) | inr from ↦ inl from ]
 
@@ -97,7 +98,7 @@ shaped_far area none =
     (λ (near : area.offset < 2048).
     let odd : Bool = not (area.offset % 512 == 0) || not (area.size % 512 == 0) in
     absurd (true≢false (sym (or_left (odd || nat_lt area.offset 2048) (nat_lt area.size 1536)
-        (or_right odd (nat_lt area.offset 2048) (lt-ltb area.offset 2048 near))) ∙ none)))
+    (or_right odd (nat_lt area.offset 2048) (lt-ltb area.offset 2048 near))) ∙ none)))
     (λ (far : 2048 ≤ area.offset). far)
     (cases_lt area.offset 2048)
 
@@ -113,7 +114,7 @@ length_map (found ∷ founds) = ap suc (length_map founds)
 
 module _ (pv sectors : ℕ) (data_areas : List Extent) (founds : List AreaFound) (bytes : ℕ) (usable : All (IsUsable pv sectors) founds)
     (shaped : find is_misshapen (map (λ (found : AreaFound). found.area) founds) ≡ None)
-        (apart : first_overlap (data_areas ++ map (λ (found : AreaFound). found.area) founds) bytes ≡ None) where
+    (apart : first_overlap (data_areas ++ map (λ (found : AreaFound). found.area) founds) bytes ≡ None) where
   abbrev extents : List Extent
   extents = map (λ (found : AreaFound). found.area) founds
 
@@ -123,16 +124,16 @@ module _ (pv sectors : ℕ) (data_areas : List Extent) (founds : List AreaFound)
       let all : List Extent = data_areas ++ extents in
       let shares : Extent × Extent → Bool = λ pair. shares_byte all bytes pair.0 pair.1 in
       let none : AllPairs (λ x y. shares (x, y) ≡ false) extents =
-          none_pairs shares extents (none_behind shares data_areas extents apart) in
+      none_pairs shares extents (none_behind shares data_areas extents apart) in
       let pair : shares (get_or extents i d.area, get_or extents j d.area) ≡ false =
-          none i j d.area before (omega (arith, within, length_map founds)) in
+      none i j d.area before (omega (arith, within, length_map founds)) in
       let both : shares_byte all bytes (get_or founds i d).area (get_or founds j d).area ≡ false =
       ap (λ (x : Extent). shares (x, (get_or founds j d).area)) (sym (get_or_map founds i d))
-          ∙ ap (λ (y : Extent). shares (get_or extents i d.area, y)) (sym (get_or_map founds j d)) ∙ pair
+      ∙ ap (λ (y : Extent). shares (get_or extents i d.area, y)) (sym (get_or_map founds j d)) ∙ pair
       in
       lie_beside all bytes (get_or founds i d).area (get_or founds j d).area
-          (omega (arith, (usable i d (omega (arith, before, within))).area.has_ring)) (omega (arith, (usable j d within).area.has_ring))
-          both
+      (omega (arith, (usable i d (omega (arith, before, within))).area.has_ring)) (omega (arith, (usable j d within).area.has_ring))
+      both
 
   same_or_beside : (i j : ℕ) (d : AreaFound) → i < length founds → j < length founds
       → (get_or founds j d ≡ get_or founds i d) ⊎ LieBeside (get_or founds j d).area (get_or founds i d).area
@@ -150,7 +151,7 @@ module _ (pv sectors : ℕ) (data_areas : List Extent) (founds : List AreaFound)
       let here : IsUsable pv sectors (get_or founds k d) = usable k d within in
       let none : is_misshapen (get_or founds k d).area ≡ false =
       subst (λ (e : Extent). is_misshapen e ≡ false) (get_or_map founds k d)
-          (All-from_find is_misshapen extents shaped k d.area (omega (arith, within, length_map founds))) in
+      (All-from_find is_misshapen extents shaped k d.area (omega (arith, within, length_map founds))) in
       record {
         far = shaped_far (get_or founds k d).area none;
         starts = here.area.start_is_whole;
@@ -158,7 +159,7 @@ module _ (pv sectors : ℕ) (data_areas : List Extent) (founds : List AreaFound)
         some = here.area.has_ring;
         beside = λ j e within'.
             subst (λ (f : AreaFound). (f ≡ get_or founds k d) ⊎ LieBeside f.area (get_or founds k d).area)
-                (get_or_default founds j d e within')
+            (get_or_default founds j d e within')
             (same_or_beside k j d within within');
       }
 
@@ -170,7 +171,7 @@ areas_placed pv sectors (Some (NoHeader label refusal)) stands = All-nil (IsPlac
 areas_placed pv sectors (Some (Whole label header areas)) stands =
     let lie = stands.1.1.areas in
     all_placed pv sectors header.data_areas areas (sectors * 512) stands.3
-        (subst (λ (l : List Extent). find is_misshapen l ≡ None) (sym stands.2) lie.well_shaped)
+    (subst (λ (l : List Extent). find is_misshapen l ≡ None) (sym stands.2) lie.well_shaped)
     (subst (λ (l : List Extent). first_overlap (header.data_areas ++ l) (sectors * 512) ≡ None) (sym stands.2) lie.apart)
 
 -- ---- the areas of all disks
@@ -206,8 +207,15 @@ held_here : (all : List Disk) (pv : ℕ) (disk : Disk) → slice_get all pv ≡ 
     → IsAt (areas_on disk.contents) found → held_area pv found ≡ Some held → IsHeldOn all held
 held_here all pv disk there found held at is =
     let same : held.0.pv ≡ pv = ap (λ (a : Area). a.pv) (entry_kept (area_on pv found.area) found.entry held is) in
-    record { disk = disk; there = ap (slice_get all) same ∙ there; found = found; number = at.number; at = at.at; placed = at.placed;
-        is = ap (λ (n : ℕ). held_area n found) same ∙ is }
+    record {
+      disk = disk;
+      there = ap (slice_get all) same ∙ there;
+      found = found;
+      number = at.number;
+      at = at.at;
+      placed = at.placed;
+      is = ap (λ (n : ℕ). held_area n found) same ∙ is;
+    }
 
 abbrev IsThere : List Disk → ℕ → List Disk → Type 0
 IsThere all pv disks = (k : ℕ) (disk : Disk) → slice_get disks k ≡ Some disk → IsDisk (pv + k) disk × (slice_get all (pv + k) ≡ Some disk)
@@ -216,19 +224,22 @@ held_from : (all : List Disk) (pv : ℕ) (disks : List Disk) → IsThere all pv 
 held_from all pv [] each = All-nil (IsHeldOn all)
 held_from all pv (disk ∷ disks) each =
     let first : IsDisk pv disk × (slice_get all pv ≡ Some disk) =
-        subst (λ (n : ℕ). IsDisk n disk × (slice_get all n ≡ Some disk)) (omega arith) (each 0 disk refl) in
+    subst (λ (n : ℕ). IsDisk n disk × (slice_get all n ≡ Some disk)) (omega arith) (each 0 disk refl) in
     All-append (IsHeldOn all) (filter_map (held_area pv) (areas_on disk.contents)) (held_areas (pv + 1) disks)
     (all_kept (IsHeldOn all) (IsAt (areas_on disk.contents)) (held_area pv)
-        (λ found held at is. held_here all pv disk first.1 found held at is) (areas_on disk.contents)
-    (λ k d within. record { number = k; at = got_at (areas_on disk.contents) k d within;
-        placed = areas_placed pv disk.sectors disk.contents first.0.contents k d within }))
+    (λ found held at is. held_here all pv disk first.1 found held at is) (areas_on disk.contents)
+    (λ k d within. record {
+      number = k;
+      at = got_at (areas_on disk.contents) k d within;
+      placed = areas_placed pv disk.sectors disk.contents first.0.contents k d within;
+    }))
     (held_from all (pv + 1) disks (λ k d is. subst (λ (n : ℕ). IsDisk n d × (slice_get all n ≡ Some d)) (omega arith) (each (suc k) d is)))
 
 pub all_held : (disks : List Disk) → ((pv : ℕ) (disk : Disk) → slice_get disks pv ≡ Some disk → IsDisk pv disk)
     → All (IsHeldOn disks) (held_areas 0 disks)
 all_held disks each =
     held_from disks 0 disks (λ k disk there. subst (λ (n : ℕ). IsDisk n disk × (slice_get disks n ≡ Some disk)) (omega arith)
-        (each k disk there, there))
+    (each k disk there, there))
 
 -- the parts of a list
 pub all_front : {X : Type 0} (P : X → Type 0) (xs ys : List X) → All P (xs ++ ys) → All P xs
@@ -263,13 +274,13 @@ pub of_held : (P : Area × Option Locn → Type 0) (pv : ℕ) (disks : List Disk
 of_held P pv [] all k disk there = absurd cc
 of_held P pv (first ∷ disks) all zero disk there =
     let own : All P (filter_map (held_area pv) (areas_on first.contents)) =
-        all_front P (filter_map (held_area pv) (areas_on first.contents)) (held_areas (pv + 1) disks) all in
+    all_front P (filter_map (held_area pv) (areas_on first.contents)) (held_areas (pv + 1) disks) all in
     subst (λ (d : Disk). All (λ found. (held : Area × Option Locn) → held_area (pv + 0) found ≡ Some held → P held) (areas_on d.contents))
-        (same_Some first disk there)
+    (same_Some first disk there)
     (subst (λ (n : ℕ). All (λ found. (held : Area × Option Locn) → held_area n found ≡ Some held → P held) (areas_on first.contents))
-        (omega arith) (of_kept P pv (areas_on first.contents) own))
+    (omega arith) (of_kept P pv (areas_on first.contents) own))
 of_held P pv (first ∷ disks) all (suc k) disk there =
     subst (λ (n : ℕ). All (λ found. (held : Area × Option Locn) → held_area n found ≡ Some held → P held) (areas_on disk.contents))
-        (omega arith)
+    (omega arith)
     (of_held P (pv + 1) disks (all_back P (filter_map (held_area pv) (areas_on first.contents)) (held_areas (pv + 1) disks) all) k disk
-        there)
+    there)

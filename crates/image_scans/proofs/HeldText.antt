@@ -1,6 +1,6 @@
 -- An area that shows a text gives it, and so a disk of the group holds it.
-use Rattle.std.proofs.Common.{◌≡◌, ℕ, zero, suc, ◌/◌, Bool, true, false, ◌&&◌, List, [], ◌∷◌, map, Option, Some, None, refl, sym, ap, subst,
-    ◌∙◌, arith}
+use Rattle.std.proofs.Common.{◌≡◌, ℕ, zero, suc, ◌/◌, Bool, true, false, ◌&&◌, List, [], ◌∷◌, map, Option, Some, None, refl, sym, ap, subst}
+use Rattle.std.proofs.Common.{◌∙◌, arith}
 use Rattle.std.specs.Prelude.{All, filter_map, option_map, slice_get, unwrap_or}
 use Rattle.std.specs.List.{cons_option, list_any}
 use Rattle.std.proofs.lemmas.Bool.{or_left, or_right}
@@ -17,8 +17,8 @@ use Rattle.mda_ring.specs.declared.area.Area.{Area}
 use Rattle.mda_ring.specs.Texts.{without_zero}
 use Rattle.mda_ring.proofs.TextBytes.{without_zero-zero}
 use Rattle.meta_model.specs.declared.group.Group.{Group}
-use Rattle.scan_rules.specs.Decision.{Area as AreaOf, AreaReading, Copy, Found as PvOf, HoldsNone, Reading, Refused, gives, holds, is_held,
-    is_listed, lists, same_bytes}
+use Rattle.scan_rules.specs.Decision.{Area as AreaOf, AreaReading, Copy, Found as PvOf, HoldsNone, Reading, Refused, gives, holds, is_held}
+use Rattle.scan_rules.specs.Decision.{is_listed, lists, same_bytes}
 use Rattle.scan_rules.proofs.Scanning.{same_bytes_tells, same_bytes_to}
 use Rattle.disk_contents.specs.declared.contents.AreaFound.{AreaFound}
 use Rattle.disk_contents.specs.declared.contents.PvFound.{PvFound}
@@ -63,7 +63,7 @@ areas_hold : (text : List ℕ) (areas : List AreaOf) (k : ℕ) (area : AreaOf) (
 areas_hold text [] k area given there is has = absurd cc
 areas_hold text (first ∷ areas) zero area given there is has =
     any_first text first.reading (filter_map (λ (a : AreaOf). a.reading) areas) given
-        (ap (λ (a : AreaOf). a.reading) (same_Some first area there) ∙ is) has
+    (ap (λ (a : AreaOf). a.reading) (same_Some first area there) ∙ is) has
 areas_hold text (first ∷ areas) (suc k) area given there is has =
     any_later text first.reading (filter_map (λ (a : AreaOf). a.reading) areas) (areas_hold text areas k area given there is has)
 
@@ -76,7 +76,7 @@ held_at group text readings k reading own n area given there is listed at reads 
     (ap
     (λ (o : Option PvOf).
     unwrap_or (option_map (λ (pv : PvOf). lists group pv.id) o) false
-        && list_any (gives text) (unwrap_or (option_map (λ (pv : PvOf). filter_map (λ (a : AreaOf). a.reading) pv.areas) o) []))
+    && list_any (gives text) (unwrap_or (option_map (λ (pv : PvOf). filter_map (λ (a : AreaOf). a.reading) pv.areas) o) []))
     is
     ∙ ap (λ (b : Bool). b && list_any (gives text) (filter_map (λ (a : AreaOf). a.reading) own.areas)) listed
     ∙ areas_hold text own.areas n area given at reads has)
@@ -120,8 +120,17 @@ reads_at pv sectors sector_at (Some (NoHeader label refusal)) read is reads n fo
 reads_at pv sectors sector_at (Some (Whole label header areas)) None is reads n found there = absurd reads
 reads_at pv sectors sector_at (Some (Whole label header areas)) (Some own) is reads n found there =
     let one = one_reads pv sector_at areas own.areas reads.1 n found there in
-    record { header = header; own = own; is = refl; header_is = refl; id_is = reads.0; area = one.0; at = one.1;
-        stands = one_stands sector_at areas is.2.each n found there; reads = one.2 }
+    record {
+      header = header;
+      own = own;
+      is = refl;
+      header_is = refl;
+      id_is = reads.0;
+      area = one.0;
+      at = one.1;
+      stands = one_stands sector_at areas is.2.each n found there;
+      reads = one.2;
+    }
 
 -- an area with the same place, by its number
 same_at : (founds others : List AreaFound) → map (λ (f : AreaFound). f.area) founds ≡ map (λ (f : AreaFound). f.area) others
@@ -176,32 +185,32 @@ text_held image group text disks there read at given held on listed shows =
     let pv : ℕ = held.0.pv in
     let t : IsThereAt image 0 pv on.disk there read = at pv on.disk on.there in
     let reading : IsDiskReading pv (image pv) t.own t.reading =
-        subst (λ (n : ℕ). IsDiskReading n (image n) t.own t.reading) (omega arith) t.is in
+    subst (λ (n : ℕ). IsDiskReading n (image n) t.own t.reading) (omega arith) t.is in
     let own = same_at (areas_on t.own.contents) (areas_on on.disk.contents) t.own_areas on.number on.found on.at in
     let r : ReadsAt pv (image pv) t.own.contents t.reading.pv on.number own.0 =
-        reads_at pv t.own.sectors (image pv) t.own.contents t.reading.pv reading.contents reading.pv_is on.number own.0 own.1 in
+    reads_at pv t.own.sectors (image pv) t.own.contents t.reading.pv reading.contents reading.pv_is on.number own.0 own.1 in
     let area : held.0 ≡ area_on pv own.0.area =
-        entry_kept (area_on pv on.found.area) on.found.entry held on.is ∙ ap (area_on pv) (sym own.2) in
+    entry_kept (area_on pv on.found.area) on.found.entry held on.is ∙ ap (area_on pv) (sym own.2) in
     let locn : Locn = new_entry text held in
     let first : sectors_of (area_on pv own.0.area) image 0 ≡ image pv (own.0.area.offset / 512) = ap (image pv) (omega arith) in
     let names : IsEntry (image pv (own.0.area.offset / 512)) own.0.area.offset own.0.area.size (Text locn) =
     subst (λ (s : List ℕ). IsEntry s own.0.area.offset own.0.area.size (Text locn)) first
-        (subst (λ (a : Area). IsEntry (sectors_of a image 0) a.start a.size (Text locn)) area shows.header)
+    (subst (λ (a : Area). IsEntry (sectors_of a image 0) a.start a.size (Text locn)) area shows.header)
     in
     let entry : own.0.entry ≡ Text locn =
-        one_entry (image pv (own.0.area.offset / 512)) own.0.area.offset own.0.area.size own.0.entry (Text locn) r.stands.1 names in
+    one_entry (image pv (own.0.area.offset / 512)) own.0.area.offset own.0.area.size own.0.entry (Text locn) r.stands.1 names in
     let g = one_given (image pv) (area_on pv own.0.area) own.0.entry locn r.area.reading entry r.reads.given in
     let bytes : stored_bytes (image pv) (area_on pv own.0.area) locn ≡ stored text =
-        ap (λ (a : Area). stored_bytes (image a.pv) a locn) (sym area) ∙ shows.ring in
+    ap (λ (a : Area). stored_bytes (image a.pv) a locn) (sym area) ∙ shows.ring in
     let pv_given : PvGives NotRefused t.reading.pv = gives_at NotRefused read pv t.reading given t.at_reading in
     let not_refused : NotRefused g.0 =
-        subst (GivenHas NotRefused) g.1 (read_at NotRefused r.own.areas (subst (PvGives NotRefused) r.is pv_given) on.number r.area r.at) in
+    subst (GivenHas NotRefused) g.1 (read_at NotRefused r.own.areas (subst (PvGives NotRefused) r.is pv_given) on.number r.area r.at) in
     let same_disk : listed.disk ≡ on.disk = same_Some listed.disk on.disk (sym listed.there ∙ on.there) in
     let has : has_header_id listed.header.id t.own ≡ true =
     t.own_ids listed.header.id ∙ ap (has_header_id listed.header.id) (sym same_disk)
-        ∙ has_own listed.header.id (header_on listed.disk.contents) listed.header listed.is refl
+    ∙ has_own listed.header.id (header_on listed.disk.contents) listed.header listed.is refl
     in
     let id : r.own.id ≡ listed.header.id = r.id_is ∙ own_header listed.header.id (header_on t.own.contents) r.header r.header_is has in
     held_at group text read pv t.reading r.own on.number r.area g.0 t.at_reading r.is
-        (ap (λ (i : List ℕ). lists group i) id ∙ listed.listed) r.at g.1
-        (gives_stored locn (stored_bytes (image pv) (area_on pv own.0.area) locn) text g.0 g.2 bytes not_refused)
+    (ap (λ (i : List ℕ). lists group i) id ∙ listed.listed) r.at g.1
+    (gives_stored locn (stored_bytes (image pv) (area_on pv own.0.area) locn) text g.0 g.2 bytes not_refused)

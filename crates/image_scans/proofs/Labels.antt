@@ -28,7 +28,7 @@ label_again old new label same is first = record {
   first = λ k before has.
       let low : label < 4 = first.among in
       first.first k before (subst (λ (s : List ℕ). IsLabel s k)
-          (of_four new k (omega (arith, before, low)) ∙ same k before ∙ sym (of_four old k (omega (arith, before, low)))) has);
+      (of_four new k (omega (arith, before, low)) ∙ same k before ∙ sym (of_four old k (omega (arith, before, low)))) has);
 }
 
 -- a header with the same id and areas

@@ -49,10 +49,10 @@ module _ (base : Image) (sizes : List ℕ) (found : Found) (names : List (List �
   nothing_written image h none labels =
       let front : HasFirstBatches [] base image =
       subst (λ (l : List NewLabel). HasFirstBatches (batches_with None l) base image) labels
-          (subst (λ (g : Option Group). HasFirstBatches (batches_with g change.labels) base image) none h)
+      (subst (λ (g : Option Group). HasFirstBatches (batches_with g change.labels) base image) none h)
       in
       subst (λ (i : Image). FindsVersion sizes i none_out (version_in found)) (λ i pv sector. sym (none_front base image front pv sector) i)
-          (base_scans base sizes found p.scan p.whole)
+      (base_scans base sizes found p.scan p.whole)
 
   pub images_scan : (image : Image) → HasFirstBatches (batches_of state line now given) base image
       → FindsOnTheWay sizes image found change change.group
@@ -61,14 +61,14 @@ module _ (base : Image) (sizes : List ℕ) (found : Found) (names : List (List �
       by : LineMakes found state change → FindsOnTheWay sizes image found change change.group
       by (makes_version c) =
           subst (FindsOnTheWay sizes image found change) (sym c.makes.made)
-              (on_the_way base sizes found names backup line now given p c.group c.makes c.next image h)
+          (on_the_way base sizes found names backup line now given p c.group c.makes c.next image h)
       by (makes_pv m) =
           subst (FindsOnTheWay sizes image found change) (sym m.none)
-              (without_disk base sizes found names backup line now given p m image h)
+          (without_disk base sizes found names backup line now given p m image h)
       by (makes_nothing none labels) =
           subst (FindsOnTheWay sizes image found change) (sym none)
           (subst (λ (l : List NewLabel). FindsVersion sizes image (is_labelled l) (version_in found)) (sym labels)
-              (nothing_written image h none labels))
+          (nothing_written image h none labels))
 
   pub unpublished_scans : (image : Image) (n : ℕ) → n < length (batches_of state line now given)
       → HasFirstBatches (take n (batches_of state line now given)) base image → (group : Group) → change.group ≡ Some group
@@ -86,11 +86,11 @@ module _ (base : Image) (sizes : List ℕ) (found : Found) (names : List (List �
       by : LineMakes found state change → FindsAtEnd sizes (with_batches (batches_of state line now given) base) found change change.group
       by (makes_version c) =
           subst (FindsAtEnd sizes (with_batches (batches_of state line now given) base) found change) (sym c.makes.made)
-              (at_the_end base sizes found names backup line now given p c.group c.makes c.next)
+          (at_the_end base sizes found names backup line now given p c.group c.makes c.next)
       by (makes_pv m) =
           subst (FindsAtEnd sizes (with_batches (batches_of state line now given) base) found change) (sym m.none)
-              (with_new_disk base sizes found names backup line now given p m)
+          (with_new_disk base sizes found names backup line now given p m)
       by (makes_nothing none labels) =
           subst (FindsAtEnd sizes (with_batches (batches_of state line now given) base) found change) (sym none)
           (nothing_written (with_batches (batches_of state line now given) base) (all_written (batches_of state line now given) base) none
-              labels)
+          labels)

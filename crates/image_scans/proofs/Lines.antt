@@ -1,14 +1,14 @@
 -- What a line makes: a version of the group, a new physical volume, or nothing.
-use Rattle.std.proofs.Common.{◌≡◌, ◌≤◌, ◌<◌, ℕ, ◌^◌, ◌||◌, nat_lt, true, false, List, [], ◌∷◌, Option, Some, None, refl, sym, ap, subst,
-    ◌∙◌}
+use Rattle.std.proofs.Common.{◌≡◌, ◌≤◌, ◌<◌, ℕ, ◌^◌, ◌||◌, nat_lt, true, false, List, [], ◌∷◌, Option, Some, None, refl, sym, ap, subst}
+use Rattle.std.proofs.Common.{◌∙◌}
 use Rattle.std.specs.Prelude.{IsSomeAnd, is_some, slice_get, unwrap_or}
 use Rattle.std.specs.Option.{option_map_or}
 use Rattle.std.proofs.lemmas.Bool.{ltb-false}
 use Rattle.std.proofs.lemmas.Option.{same_Some}
 use Rattle.command_table.specs.Options.{number_named}
 use Rattle.command_table.specs.declared.command.Command.{Command}
-use Rattle.command_table.specs.declared.command.Command.TheVariants.{Lvcreate, Lvextend, Lvreduce, Lvremove, Lvrename, Pvcreate,
-    Vgcfgrestore, Vgcreate, Vgextend, Vgreduce, Vgremove, Vgrename}
+use Rattle.command_table.specs.declared.command.Command.TheVariants.{Lvcreate, Lvextend, Lvreduce, Lvremove, Lvrename, Pvcreate}
+use Rattle.command_table.specs.declared.command.Command.TheVariants.{Vgcfgrestore, Vgcreate, Vgextend, Vgreduce, Vgremove, Vgrename}
 use Rattle.line_answers.specs.declared.op_refusal.OpRefusal.{OpRefusal}
 use Rattle.line_answers.specs.declared.op_refusal.OpRefusal.TheVariants.{IdTaken, PvUsed, TooSmall, UnknownGroup, UnknownPv}
 use Rattle.lvm_script.specs.declared.line.Line.{Line}
@@ -77,8 +77,8 @@ on_disk found state id name copies number None there none change group labels = 
 on_disk found state id name copies number (Some disk) there none change group labels =
     let rows = none_holds (disk_rows state id name number (Some disk)) none in
     let ids =
-        both_false (group_has id state.group) (stands_on_disk id state.disks)
-            (test_fails (group_has id state.group || stands_on_disk id state.disks) (IdTaken id) rows.1.1.0) in
+    both_false (group_has id state.group) (stands_on_disk id state.disks)
+    (test_fails (group_has id state.group || stands_on_disk id state.disks) (IdTaken id) rows.1.1.0) in
     makes_pv (record {
       none = group;
       number = number;
@@ -90,7 +90,7 @@ on_disk found state id name copies number (Some disk) there none change group la
       unlisted = test_fails (is_listed state number) (PvUsed name) rows.0;
       enough =
           ltb-false disk.sectors fewest_sectors (test_fails (nat_lt disk.sectors fewest_sectors) (TooSmall disk.sectors fewest_sectors)
-              rows.1.0);
+          rows.1.0);
       not_in_group = ids.0;
       on_no_disk = ids.1;
     })
@@ -126,8 +126,8 @@ next_line : (found : Found) (names : List (List ℕ)) (backup : Option Backup) �
 next_line found names backup shape whole is readings scan number id command now given time planned next takes none =
     makes_version
     (next_commits found names backup shape whole is readings scan
-        (change_of (state_in found names backup) (record { number = number; id = id; command = command }) now given) now time
-        (commits_next (state_in found names backup) number id command now given planned next takes none))
+    (change_of (state_in found names backup) (record { number = number; id = id; command = command }) now given) now time
+    (commits_next (state_in found names backup) number id command now given planned next takes none))
 
 restore_line : (found : Found) (names : List (List ℕ)) (backup : Option Backup) → IsState (state_in found names backup)
     → (readings : List Reading) → IsSettledScan readings found → (vg text : List ℕ) (now : ℕ) (o : Option Backup) → backup ≡ o
@@ -150,14 +150,14 @@ by_command : (found : Found) (names : List (List ℕ)) (backup : Option Backup) 
     (change_of (state_in found names backup) (record { number = number; id = id; command = command }) now given)
 by_command found names backup shape whole is readings scan number id (Pvcreate pv copies) now given time planned known takes none =
     by_name found (state_in found names backup) (unwrap_or id []) pv copies (number_named names pv) none
-        (pvcreate_change (state_in found names backup) (unwrap_or id []) pv copies) refl refl
+    (pvcreate_change (state_in found names backup) (unwrap_or id []) pv copies) refl refl
 by_command found names backup shape whole is readings scan number id (Vgcreate vg extent_size pvs) now given time planned known takes none =
     makes_version (vgcreate_commits found names backup is id vg extent_size pvs now planned none)
 by_command found names backup shape whole is readings scan number id (Vgextend vg pvs) now given time planned known takes none =
     extend_line found names backup shape whole is readings scan vg pvs now found.group refl none
 by_command found names backup shape whole is readings scan number id (Vgreduce vg pv) now given time planned known takes none =
     makes_version (leaves_commits found names backup shape whole is readings scan (vgreduce_change (state_in found names backup) pv) now
-        (leaves_next (state_in found names backup) vg pv now none))
+    (leaves_next (state_in found names backup) vg pv now none))
 by_command found names backup shape whole is readings scan number id (Vgremove vg) now given time planned known takes none =
     makes_nothing refl refl
 by_command found names backup shape whole is readings scan number id (Vgcfgrestore vg text) now given time planned known takes none =
@@ -181,5 +181,5 @@ pub line_makes : (base : Image) (sizes : List ℕ) (found : Found) (names : List
     → LineMakes found (state_in found names backup) (change_of (state_in found names backup) line now given)
 line_makes base sizes found names backup line now given p =
     by_command found names backup p.shape p.whole (is_state base sizes found names backup line now given p) p.scan.readings
-        (settled base sizes found names backup line now given p) line.number line.id line.command now given p.time p.planned p.given_back
-        p.takes p.passes
+    (settled base sizes found names backup line now given p) line.number line.id line.command now given p.time p.planned p.given_back
+    p.takes p.passes

@@ -1,6 +1,6 @@
 -- The groups that vgcreate and vgextend commit.
-use Rattle.std.proofs.Common.{◌≡◌, ◌<◌, ℕ, zero, suc, ◌+◌, Bool, true, false, not, ◌||◌, cond, List, [], ◌∷◌, ◌++◌, length, get_or, map,
-    Option, Some, None, ⊎_elim, refl, sym, ap, subst, ◌∙◌, add-one, append_assoc, arith}
+use Rattle.std.proofs.Common.{◌≡◌, ◌<◌, ℕ, zero, suc, ◌+◌, Bool, true, false, not, ◌||◌, cond, List, [], ◌∷◌, ◌++◌, length, get_or, map}
+use Rattle.std.proofs.Common.{Option, Some, None, ⊎_elim, refl, sym, ap, subst, ◌∙◌, add-one, append_assoc, arith}
 use Rattle.std.specs.Prelude.{All, option_map, slice_get, unwrap_or}
 use Rattle.std.specs.List.{AllByRecursion as Each, list_any}
 use Rattle.std.specs.Option.{option_and_then}
@@ -54,7 +54,7 @@ added_is state name added found =
 all_on : (state : GroupState) (names : List (List ℕ)) → All (IsAddedOn state.disks) (added_of state names)
 all_on state names =
     all_kept (IsAddedOn state.disks) (λ name. Unit {0}) (added_named state) (λ name added any found. added_is state name added found) names
-        (λ k d within. tt)
+    (λ k d within. tt)
 
 header_in_pv : (found : PvFound) (label : ℕ) (header : PvHeader) → pv_in found ≡ Some (label, header) → header_on (Some found) ≡ Some header
 header_in_pv (NoLabel refusal) label header is = absurd cc
@@ -77,7 +77,7 @@ any_front : {X : Type 0} (p : X → Bool) (xs ys : List X) → list_any p xs ≡
 any_front p [] ys any = absurd (false≢true any)
 any_front p (x ∷ xs) ys any =
     ⊎_elim (λ here. or_left (p x) (list_any p (xs ++ ys)) here) (λ later. or_right (p x) (list_any p (xs ++ ys)) (any_front p xs ys later))
-        (or_cases (p x) (list_any p xs) any)
+    (or_cases (p x) (list_any p xs) any)
 
 any_last : {X : Type 0} (p : X → Bool) (xs : List X) (x : X) → p x ≡ true → list_any p (xs ++ x ∷ []) ≡ true
 any_last p [] x is = or_left (p x) false is
@@ -120,8 +120,13 @@ disk_found id (disk ∷ disks) any = step (λ later. disk_found id disks later) 
         → HasDisk (disk ∷ disks) id
     step rest true here =
         let own = own_header id (header_on disk.contents) here in
-        record { disk = disk; there = ap (λ (b : Bool). slice_get (disk ∷ disks) (cond b 0 (disk_with disks id + 1))) here; header = own.0;
-            is = own.1; same = own.2 }
+        record {
+          disk = disk;
+          there = ap (λ (b : Bool). slice_get (disk ∷ disks) (cond b 0 (disk_with disks id + 1))) here;
+          header = own.0;
+          is = own.1;
+          same = own.2;
+        }
     step rest false here =
         let later : list_any (has_id id) (shapes disks) ≡ true =
         ⊎_elim
@@ -134,7 +139,7 @@ disk_found id (disk ∷ disks) any = step (λ later. disk_found id disks later) 
           disk = r.disk;
           there =
               ap (λ (b : Bool). slice_get (disk ∷ disks) (cond b 0 (disk_with disks id + 1))) here
-                  ∙ ap (slice_get (disk ∷ disks)) (add-one (disk_with disks id)) ∙ r.there;
+              ∙ ap (slice_get (disk ∷ disks)) (add-one (disk_with disks id)) ∙ r.there;
           header = r.header;
           is = r.is;
           same = r.same;
@@ -146,8 +151,8 @@ shape_at [] k disk header there is = absurd cc
 shape_at (first ∷ disks) zero disk header there is =
     or_left (has_id header.id (disk_shape first)) (list_any (has_id header.id) (shapes disks))
     (has_same header.id (header_on first.contents)
-        ∙ ap (λ (o : Option PvHeader). unwrap_or (option_map (λ (h : PvHeader). same_bytes h.id header.id) o) false)
-        (ap (λ (d : Disk). header_on d.contents) (same_Some first disk there) ∙ is)
+    ∙ ap (λ (o : Option PvHeader). unwrap_or (option_map (λ (h : PvHeader). same_bytes h.id header.id) o) false)
+    (ap (λ (d : Disk). header_on d.contents) (same_Some first disk there) ∙ is)
     ∙ same_bytes_to header.id header.id refl)
 shape_at (first ∷ disks) (suc k) disk header there is =
     or_right (has_id header.id (disk_shape first)) (list_any (has_id header.id) (shapes disks)) (shape_at disks k disk header there is)
@@ -170,7 +175,7 @@ module _ (lvs : List (List ℕ × Lv)) (extent_size : ℕ) where
   all_listed pvs (added ∷ more) = (
     any_added (λ (pv : List ℕ × Pv). same_bytes pv.1.id added.header.id) (pvs ++ row pvs added ∷ []) more
         (any_last (λ (pv : List ℕ × Pv). same_bytes pv.1.id added.header.id) pvs (row pvs added)
-            (same_bytes_to added.header.id added.header.id refl)),
+        (same_bytes_to added.header.id added.header.id refl)),
     all_listed (pvs ++ row pvs added ∷ []) more,
   )
 
@@ -179,7 +184,7 @@ module _ (lvs : List (List ℕ × Lv)) (extent_size : ℕ) where
   each_with P pvs [] first later = first
   each_with P pvs (added ∷ more) first later =
       each_with P (pvs ++ row pvs added ∷ []) more
-          (each_last P pvs (row pvs added) first (later.0 (pv_name (free_number (names_in pvs lvs))))) later.1
+      (each_last P pvs (row pvs added) first (later.0 (pv_name (free_number (names_in pvs lvs))))) later.1
 
   disks_with : (disks : List Disk) (pvs : List (List ℕ × Pv)) (all : List AddedPv)
       → Each (λ (added : AddedPv). disk_with disks added.header.id ≡ added.disk) all
@@ -223,7 +228,7 @@ makes_group state is base listed names known whole =
     (λ k d within.
     let o : IsAddedOn state.disks (get_or all k d) = on k d within in
     disk_with_own 0 state.disks is.differ (get_or all k d).disk o.disk (get_or all k d).header o.there
-        (header_of o.disk.contents (get_or all k d).label (get_or all k d).header o.found))
+    (header_of o.disk.contents (get_or all k d).label (get_or all k d).header o.found))
     in
     record {
       made = refl;
@@ -237,7 +242,7 @@ makes_group state is base listed names known whole =
           All-append (IsListedOn (extended base all) state.disks) listed (disks_added all)
           (subst (All (IsListedOn (extended base all) state.disks)) known.disks_is
           (All-map (IsListedOn (extended base all) state.disks) (λ (pv : List ℕ × Pv). disk_with state.disks pv.1.id) base.pvs
-              (λ k d within. listed_one all k d within)))
+          (λ k d within. listed_one all k d within)))
           (All-map (IsListedOn (extended base all) state.disks) (λ (added : AddedPv). added.disk) all
           (λ k d within.
           let o : IsAddedOn state.disks (get_or all k d) = on k d within in
@@ -248,18 +253,18 @@ makes_group state is base listed names known whole =
             is = header_of o.disk.contents (get_or all k d).label (get_or all k d).header o.found;
             listed =
                 All-from_recursion (λ (added : AddedPv). list_any (λ (pv : List ℕ × Pv). same_bytes pv.1.id added.header.id)
-                    (with_added base.lvs base.extent_size base.pvs all) ≡ true) all (all_listed base.lvs base.extent_size base.pvs all) k d
-                    within;
+                (with_added base.lvs base.extent_size base.pvs all) ≡ true) all (all_listed base.lvs base.extent_size base.pvs all) k d
+                within;
           }));
       disks_is = disks_with base.lvs base.extent_size state.disks base.pvs all own ∙ ap (λ l. l ++ disks_added all) known.disks_is;
       there =
           each_with base.lvs base.extent_size (λ (pv : List ℕ × Pv). is_missing (shapes state.disks) pv ≡ false) base.pvs all known.there
           (recursion_from_All (λ (added : AddedPv). (name : List ℕ)
-              → is_missing (shapes state.disks) (name, pv_of base.extent_size added) ≡ false) all
+          → is_missing (shapes state.disks) (name, pv_of base.extent_size added) ≡ false) all
           (λ k d within name.
           let o : IsAddedOn state.disks (get_or all k d) = on k d within in
           ap not (shape_at state.disks (get_or all k d).disk o.disk (get_or all k d).header o.there
-              (header_of o.disk.contents (get_or all k d).label (get_or all k d).header o.found))));
+          (header_of o.disk.contents (get_or all k d).label (get_or all k d).header o.found))));
     }
   where
     listed_one : (all : List AddedPv) (k : ℕ) (d : List ℕ × Pv) → k < length base.pvs
@@ -268,9 +273,9 @@ makes_group state is base listed names known whole =
     listed_one all k d within =
         let pv : List ℕ × Pv = get_or base.pvs k d in
         let present : is_missing (shapes state.disks) pv ≡ false =
-            All-from_recursion (λ (p : List ℕ × Pv). is_missing (shapes state.disks) p ≡ false) base.pvs known.there k d within in
+        All-from_recursion (λ (p : List ℕ × Pv). is_missing (shapes state.disks) p ≡ false) base.pvs known.there k d within in
         let any : list_any (has_id pv.1.id) (shapes state.disks) ≡ true =
-            not_missing state pv pv.1.missing (list_any (has_id pv.1.id) (shapes state.disks)) refl refl present in
+        not_missing state pv pv.1.missing (list_any (has_id pv.1.id) (shapes state.disks)) refl refl present in
         let found : HasDisk state.disks pv.1.id = disk_found pv.1.id state.disks any in
         record {
           disk = found.disk;
@@ -280,5 +285,5 @@ makes_group state is base listed names known whole =
           listed =
               any_added base.lvs base.extent_size (λ (p : List ℕ × Pv). same_bytes p.1.id found.header.id) base.pvs all
               (any_here (λ (p : List ℕ × Pv). same_bytes p.1.id found.header.id) base.pvs k d within
-                  (same_bytes_to pv.1.id found.header.id (sym found.same)));
+              (same_bytes_to pv.1.id found.header.id (sym found.same)));
         }

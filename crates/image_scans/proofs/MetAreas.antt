@@ -24,7 +24,7 @@ module _ (disks : List Disk) (are : (pv : ℕ) (disk : Disk) → slice_get disks
   pub all_placed : All (IsPlaced areas) areas
   all_placed =
       subst (λ (c : Option PvFound). All (IsPlaced (areas_on c)) (areas_on c)) is
-          (areas_placed pv disk.sectors disk.contents (are pv disk there).contents)
+      (areas_placed pv disk.sectors disk.contents (are pv disk there).contents)
 
   -- a held area on this disk that has a sector of an area that was found there is that area
   pub area_met : (k : ℕ) (d : AreaFound) → k < length areas → (b : Area × Option Locn) → IsHeldOn disks b → b.0.pv ≡ pv → (sector : ℕ)
@@ -36,7 +36,7 @@ module _ (disks : List Disk) (are : (pv : ℕ) (disk : Disk) → slice_get disks
       let same_disk : on.disk ≡ disk = same_Some on.disk disk (sym on.there ∙ ap (slice_get disks) here ∙ there) in
       let list : areas_on on.disk.contents ≡ areas = ap (λ (x : Disk). areas_on x.contents) same_disk ∙ ap areas_on is in
       let beside : All (λ (other : AreaFound). (other ≡ on.found) ⊎ LieBeside other.area on.found.area) areas =
-          subst (All (λ (other : AreaFound). (other ≡ on.found) ⊎ LieBeside other.area on.found.area)) list on.placed.beside in
+      subst (All (λ (other : AreaFound). (other ≡ on.found) ⊎ LieBeside other.area on.found.area)) list on.placed.beside in
       let own_area : b.0 ≡ area_on b.0.pv on.found.area = entry_kept (area_on b.0.pv on.found.area) on.found.entry b on.is in
       let starts : b.0.start ≡ on.found.area.offset = ap (λ (a : Area). a.start) own_area in
       let sized : b.0.size ≡ on.found.area.size = ap (λ (a : Area). a.size) own_area in
@@ -46,7 +46,7 @@ module _ (disks : List Disk) (are : (pv : ℕ) (disk : Disk) → slice_get disks
       (λ apart. absurd (⊎_elim
       (λ (before : found.area.offset + found.area.size ≤ on.found.area.offset). omega (arith, before, p.starts, p.sized, to', from, starts))
       (λ (behind : on.found.area.offset + on.found.area.size ≤ found.area.offset). omega
-          (arith, behind, on.placed.starts, on.placed.sized, to, from', starts, sized))
+      (arith, behind, on.placed.starts, on.placed.sized, to, from', starts, sized))
       apart))
       (beside k d within)
 
@@ -64,7 +64,7 @@ header_met disks are text own held rooms pv disk there label header areas is k d
     let p : IsPlaced areas found = all_placed disks are pv disk there label header areas is k d within in
     let met : held_area pv found ≡ Some b =
     area_met disks are pv disk there label header areas is k d within b (held w.number no_area w.among) w.disk (found.area.offset / 512)
-        w.from w.to (omega arith) (omega (arith, p.some))
+    w.from w.to (omega arith) (omega (arith, p.some))
     in
     let starts : b.0.start ≡ found.area.offset = ap (λ (a : Area). a.start) (entry_kept (area_on pv found.area) found.entry b met) in
     ⊎_elim

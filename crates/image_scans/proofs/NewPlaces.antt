@@ -1,7 +1,7 @@
 -- The first eight sectors of a new volume on their disk: beside labels and metadata areas, and beside each primary place of the
 -- group that was found. So writes within them keep all of these.
-use Rattle.std.proofs.Common.{◌≡◌, ◌≢◌, ◌≤◌, ◌<◌, ℕ, zero, suc, ◌+◌, ◌*◌, ◌-◌, true, false, List, [], ◌∷◌, ◌++◌, length, map, Some, None,
-    inl, inr, ⊎_elim, refl, sym, ap, ◌∙◌, arith}
+use Rattle.std.proofs.Common.{◌≡◌, ◌≢◌, ◌≤◌, ◌<◌, ℕ, zero, suc, ◌+◌, ◌*◌, ◌-◌, true, false, List, [], ◌∷◌, ◌++◌, length, map, Some, None}
+use Rattle.std.proofs.Common.{inl, inr, ⊎_elim, refl, sym, ap, ◌∙◌, arith}
 use Rattle.std.specs.Prelude.{option_map, slice_get, slice_index, All, AllPairs}
 use Rattle.std.specs.List.{list_any}
 use Rattle.std.proofs.lemmas.Bool.{false≢true, or_cases}
@@ -58,10 +58,10 @@ module _ {X : Type 0} (f : X → List ℕ) (more : List (List ℕ)) where
   one_place (z ∷ xs) pairs zero zero x y at_i at_j same = refl
   one_place (z ∷ xs) pairs zero (suc j) x y at_i at_j same =
       absurd (all_at (Differ (f z)) (map f xs ++ more) j (f y) (first_pairs Differ (f z) (map f xs ++ more) pairs) (image_at xs j y at_j)
-          (ap f (same_Some z x at_i) ∙ same))
+      (ap f (same_Some z x at_i) ∙ same))
   one_place (z ∷ xs) pairs (suc i) zero x y at_i at_j same =
       absurd (all_at (Differ (f z)) (map f xs ++ more) i (f x) (first_pairs Differ (f z) (map f xs ++ more) pairs) (image_at xs i x at_i)
-          (ap f (same_Some z y at_j) ∙ sym same))
+      (ap f (same_Some z y at_j) ∙ sym same))
   one_place (z ∷ xs) pairs (suc i) (suc j) x y at_i at_j same =
       ap suc (one_place xs (later_pairs Differ (f z) (map f xs ++ more) pairs) i j x y at_i at_j same)
 
@@ -71,7 +71,7 @@ module _ (group : Group) (disks : List Disk) (accepted : IsAccepted group) (ther
   disk_of_pv k pv is =
       disk_found pv.1.id disks
       (present pv.1.missing (list_any (has_id pv.1.id) (shapes disks))
-          (each_at (λ (p : List ℕ × Pv). is_missing (shapes disks) p ≡ false) group.pvs k pv (all_there (shapes disks) group.pvs there) is))
+      (each_at (λ (p : List ℕ × Pv). is_missing (shapes disks) p ≡ false) group.pvs k pv (all_there (shapes disks) group.pvs there) is))
 
   number_of_pv : (k : ℕ) (pv : List ℕ × Pv) → slice_get group.pvs k ≡ Some pv
       → slice_index (disks_of group disks) k ≡ disk_with disks pv.1.id
@@ -84,13 +84,13 @@ module _ (group : Group) (disks : List Disk) (accepted : IsAccepted group) (ther
       let x : HasDisk disks a.0.1.id = disk_of_pv pv a.0 a.1 in
       let y : HasDisk disks b.0.1.id = disk_of_pv other b.0 b.1 in
       let number : disk_with disks a.0.1.id ≡ disk_with disks b.0.1.id =
-          sym (number_of_pv pv a.0 a.1) ∙ same ∙ number_of_pv other b.0 b.1 in
+      sym (number_of_pv pv a.0 a.1) ∙ same ∙ number_of_pv other b.0 b.1 in
       let disk : x.disk ≡ y.disk = same_Some x.disk y.disk (sym x.there ∙ ap (slice_get disks) number ∙ y.there) in
       let header : x.header ≡ y.header = same_Some x.header y.header (sym x.is ∙ ap (λ (d : Disk). header_on d.contents) disk ∙ y.is) in
       let id : a.0.1.id ≡ b.0.1.id = sym x.same ∙ ap (λ (h : PvHeader). h.id) header ∙ y.same in
       one_place (λ (p : List ℕ × Pv). p.1.id) (map (λ (lv : List ℕ × Lv). lv.1.id) group.lvs) group.pvs
       (later_pairs Differ group.id (map (λ (p : List ℕ × Pv). p.1.id) group.pvs ++ map (λ (lv : List ℕ × Lv). lv.1.id) group.lvs)
-          (accepted Ids))
+      (accepted Ids))
       pv other a.0 b.0 a.1 b.1 id
 
 -- ---- writes within eight sectors of a disk
@@ -128,7 +128,7 @@ module _ (group : Group) (disks : List Disk) (accepted : IsAccepted group) (plac
     (there : missing_of (shapes disks) group.pvs ≡ [])
     (name id : List ℕ) (kind : SegKind) (given : List Part) (now : ℕ) (may : MayHave group id kind given now)
     (part : Part) (is_part : slice_get given 0 ≡ Some part) (run : PartRun) (is_run : slice_get part.runs 0 ≡ Some run) (pv : List ℕ × Pv)
-        (is_pv : slice_get group.pvs run.pv ≡ Some pv) where
+    (is_pv : slice_get group.pvs run.pv ≡ Some pv) where
   abbrev next : Group
   next = with_volume (name, new_lv id kind given now) group
 
@@ -142,7 +142,7 @@ module _ (group : Group) (disks : List Disk) (accepted : IsAccepted group) (plac
   pub first_beside : IsAccepted next → (sector : ℕ) → sector < 8 → IsPlaceOn disks disk (start + sector)
   first_beside whole sector less =
       place_beside next disks whole placed there (length group.lvs) sector (record { pv = run.pv; sector = start + sector })
-          (first_sectors group name id kind given now may accepted part is_part run is_run pv is_pv sector less)
+      (first_sectors group name id kind given now may accepted part is_part run is_run pv is_pv sector less)
 
   -- they are free in the group that was found
   pub first_free : IsAccepted next → (number sector : ℕ)
@@ -151,7 +151,7 @@ module _ (group : Group) (disks : List Disk) (accepted : IsAccepted group) (plac
   first_free whole number sector among =
       let here : covers (record { pv = disk; first = start; count = 8 }) number sector ≡ true =
       ⊎_elim (λ is. is) (λ none. absurd (false≢true none))
-          (or_cases (covers (record { pv = disk; first = start; count = 8 }) number sector) false among)
+      (or_cases (covers (record { pv = disk; first = start; count = 8 }) number sector) false among)
       in
       let t = covers_tells (record { pv = disk; first = start; count = 8 }) number sector here in
       let from : start ≤ sector = t.1 in
@@ -173,7 +173,7 @@ module _ (group : Group) (disks : List Disk) (accepted : IsAccepted group) (plac
             (λ (before : place.sector < start). absurd (omega (arith, before, at_sector, from)))
             (λ (behind : start + 8 ≤ place.sector). absurd (omega (arith, behind, at_sector, to)))
             (primary_beside_first_on group name id kind given now may accepted part is_part run is_run pv is_pv (disks_of group disks)
-                (disks_differ group disks accepted there) lv other place is (on_disk ∙ sym t.0));
+            (disks_differ group disks accepted there) lv other place is (on_disk ∙ sym t.0));
       }
 
   -- writes within them keep each primary place of the group that was found
@@ -182,4 +182,4 @@ module _ (group : Group) (disks : List Disk) (accepted : IsAccepted group) (plac
   first_keep puts all lv sector at is =
       eight_kept disk start puts (slice_index (disks_of group disks) at.pv) at.sector all
       (primary_beside_first_on group name id kind given now may accepted part is_part run is_run pv is_pv (disks_of group disks)
-          (disks_differ group disks accepted there) lv sector at is)
+      (disks_differ group disks accepted there) lv sector at is)

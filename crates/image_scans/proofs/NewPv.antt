@@ -1,6 +1,6 @@
 -- A line that makes a new physical volume: what is found with its disk left out, and once it stands there.
-use Rattle.std.proofs.Common.{◌≡◌, ◌≢◌, ◌<◌, ℕ, ◌+◌, Bool, true, false, ◌||◌, List, [], ◌∷◌, ◌++◌, length, map, flat_map, Option, Some,
-    None, inl, ⊎_elim, refl, sym, ap, subst, ◌∙◌, arith}
+use Rattle.std.proofs.Common.{◌≡◌, ◌≢◌, ◌<◌, ℕ, ◌+◌, Bool, true, false, ◌||◌, List, [], ◌∷◌, ◌++◌, length, map, flat_map, Option, Some}
+use Rattle.std.proofs.Common.{None, inl, ⊎_elim, refl, sym, ap, subst, ◌∙◌, arith}
 use Rattle.std.specs.Prelude.{All, IfSome, nat_eq, option_map, slice_get, unwrap_or}
 use Rattle.std.specs.FinSet as set
 use Rattle.std.specs.List.{AllByRecursion as Each, list_any}
@@ -14,8 +14,8 @@ use Rattle.pv_header.specs.declared.header.PvHeader.{PvHeader}
 use Rattle.meta_model.specs.declared.group.Group.{Group}
 use Rattle.meta_model.specs.declared.pv.Pv.{Pv}
 use Rattle.extent_alloc.specs.declared.part.Part.{Part}
-use Rattle.scan_rules.specs.Decision.{AreaReading, Copy, Found as PvOf, HoldsNone, Reading, Refused, SamePv, first_duplicate, ids_from,
-    is_listed, is_something, lists, same_bytes}
+use Rattle.scan_rules.specs.Decision.{AreaReading, Copy, Found as PvOf, HoldsNone, Reading, Refused, SamePv, first_duplicate, ids_from}
+use Rattle.scan_rules.specs.Decision.{is_listed, is_something, lists, same_bytes}
 use Rattle.scan_rules.proofs.Scanning.{same_bytes_tells, same_bytes_to}
 use Rattle.scan_rules.proofs.SameShape.{ids_same}
 use Rattle.disk_batch.specs.InTurn.{HasFirstBatches, Put}
@@ -99,21 +99,21 @@ module _ (base : Image) (sizes : List ℕ) (found : Found) (names : List (List �
   apart_from pv other =
       subst (All (λ (label : NewLabel). label.disk ≢ pv)) (sym m.labels_is)
       (All-cons (λ (label : NewLabel). label.disk ≢ pv) (new_label m.id m.copies m.number m.disk) [] (λ is. other (sym is))
-          (All-nil (λ (label : NewLabel). label.disk ≢ pv)))
+      (All-nil (λ (label : NewLabel). label.disk ≢ pv)))
 
   others_kept : (image : Image) → HasFirstBatches (batches_of state line now given) base image → (pv : ℕ) → pv ≢ m.number → (sector : ℕ)
       → image pv sector ≡ base pv sector
   others_kept image h pv other sector =
       let front : HasFirstBatches batches base image =
       subst (λ (g : Option Group). HasFirstBatches
-          (batch_if (new_area_puts g change.labels) ++ batch_if (map label_put change.labels)
-          ++ commit_batches g now (areas_of change state.areas)) base image) m.none h
+      (batch_if (new_area_puts g change.labels) ++ batch_if (map label_put change.labels)
+      ++ commit_batches g now (areas_of change state.areas)) base image) m.none h
       in
       front_kept batches base image pv sector
       (All-append (KeepsSector pv sector) (batch_if (flat_map area_puts change.labels) ++ batch_if (map label_put change.labels)) []
       (All-append (KeepsSector pv sector) (batch_if (flat_map area_puts change.labels)) (batch_if (map label_put change.labels))
       (all_if (KeepsSector pv sector) (flat_map area_puts change.labels)
-          (new_near change.labels (new_labels_are state line now given m.none) pv sector (inl (apart_from pv other))))
+      (new_near change.labels (new_labels_are state line now given m.none) pv sector (inl (apart_from pv other))))
       (all_if (KeepsSector pv sector) (map label_put change.labels) (labels_keep_other change.labels pv sector (apart_from pv other))))
       (All-nil (KeepsSector pv sector)))
       front
@@ -136,9 +136,9 @@ module _ (base : Image) (sizes : List ℕ) (found : Found) (names : List (List �
       → lists group header.id ≡ false
   header_unlisted group is header has =
       not_among (λ (pv : List ℕ × Pv). same_bytes pv.1.id header.id) (λ (pv : List ℕ × Pv). disk_with found.disks pv.1.id) m.number
-          group.pvs
+      group.pvs
       (λ pv same. ap (disk_with found.disks) (same_bytes_tells pv.1.id header.id same)
-          ∙ disk_with_own 0 found.disks p.shape.differ m.number m.disk header m.there has)
+      ∙ disk_with_own 0 found.disks p.shape.differ m.number m.disk header m.there has)
       (not_listed group is (listed_are group is))
 
   unlisted_pv : (group : Group) → found.group ≡ Some group → (o : Option PvHeader) → header_on m.disk.contents ≡ o → (read : Option PvOf)
@@ -158,7 +158,7 @@ module _ (base : Image) (sizes : List ℕ) (found : Found) (names : List (List �
       by (settled_some held parts some copy given all) =
           let off : is_listed held.group reading ≡ false =
           unlisted_pv held.group some (header_on m.disk.contents) refl reading.pv
-              (pv_shaped m.number m.disk.sectors (base m.number) m.disk.contents reading.pv read.contents read.pv_is)
+          (pv_shaped m.number m.disk.sectors (base m.number) m.disk.contents reading.pv read.contents read.pv_is)
           in
           subst (λ (o : Option Group). IsQuiet o reading) (sym some) (
             pv_weaker (IsSettled held.group held.text reading) IsNone (λ r is. nothing_is r (is.1 off)) reading.pv
@@ -203,7 +203,7 @@ module _ (base : Image) (sizes : List ℕ) (found : Found) (names : List (List �
   abbrev NewAt : Image → set.FinSet nat_cmp → Disk → Type 0
   NewAt image unread own =
       (reading : Reading) → slice_get p.scan.readings m.number ≡ Some reading → IsDiskReading m.number (base m.number) m.disk reading
-          → IsNewAt m.number (image m.number) unread Differs m.disk.sectors own reading
+      → IsNewAt m.number (image m.number) unread Differs m.disk.sectors own reading
 
   pub with_disk : (image : Image) → HasFirstBatches (batches_of state line now given) base image
       → (unread : set.FinSet nat_cmp) (left_out : ℕ → Bool) → ((pv : ℕ) → pv < length sizes → set.contains unread pv ≡ left_out pv)
@@ -216,13 +216,13 @@ module _ (base : Image) (sizes : List ℕ) (found : Found) (names : List (List �
       (λ pv other. others_kept image h pv (λ is. other (is ∙ sym plain))) (λ pv other. sets pv (λ is. other (is ∙ sym plain))) m.there
       (λ reading there is.
       subst (λ (n : ℕ). IsNewAt n (image n) unread Differs m.disk.sectors own reading) (sym plain)
-          (new reading there (subst (λ (n : ℕ). IsDiskReading n (base n) m.disk reading) plain is)))
+      (new reading there (subst (λ (n : ℕ). IsDiskReading n (base n) m.disk reading) plain is)))
       in
       let base_apart : first_duplicate (ids_from 0 p.scan.readings) ≡ None =
-          ap first_duplicate (sym (ids_same 0 (shapes found.disks) p.scan.readings
-              (headers base sizes found names backup line now given p))) ∙ p.shape.differ in
+      ap first_duplicate (sym (ids_same 0 (shapes found.disks) p.scan.readings
+      (headers base sizes found names backup line now given p))) ∙ p.shape.differ in
       quiet_version image sizes found p.whole.there p.scan.readings p.scan.answer unread left_out left r.there r.read
-          (r.sizes_is ∙ p.scan.are.sizes_is) r.are
+      (r.sizes_is ∙ p.scan.are.sizes_is) r.are
       (one_quiet found.group m.number Differs (λ a b rel. (rel.0, rel.1)) p.scan.readings r.read r.at)
       (one_apart m.number 0 Differs p.scan.readings (λ a b rel. rel.2) p.scan.readings r.read (λ id none. none) r.at base_apart)
       (same_disks image unread own others r)
@@ -262,9 +262,9 @@ module _ (base : Image) (sizes : List ℕ) (found : Found) (names : List (List �
   without_disk image h =
       let sectors : ℕ = m.disk.sectors in
       let in_set : set.contains out_set m.number ≡ true =
-          set.contains-from_list_nat (m.number ∷ []) m.number ∙ ap (λ (b : Bool). b || false) (eq-eqb m.number m.number refl) in
+      set.contains-from_list_nat (m.number ∷ []) m.number ∙ ap (λ (b : Bool). b || false) (eq-eqb m.number m.number refl) in
       with_disk image h out_set (is_labelled change.labels) (λ pv within. out_is pv) others_in
-          (record { sectors = sectors; contents = None }) (no_header found.group sectors)
+      (record { sectors = sectors; contents = None }) (no_header found.group sectors)
       (λ reading there read. record {
         read = record { sectors = sectors; pv = None };
         own_sectors = refl;

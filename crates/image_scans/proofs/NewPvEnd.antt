@@ -1,6 +1,6 @@
 -- Once a new physical volume stands on its disk, the disk reads as one with empty areas.
-use Rattle.std.proofs.Common.{◌≡◌, ◌≢◌, ◌≤◌, ◌<◌, ℕ, ◌+◌, ◌*◌, ◌/◌, ◌==◌, Bool, true, false, ◌||◌, cond, eqb, ltb, min, max, List, [], ◌∷◌,
-    ◌++◌, get_or, map, flat_map, Option, Some, None, Ok, inr, refl, sym, ap, subst, ◌∙◌, arith}
+use Rattle.std.proofs.Common.{◌≡◌, ◌≢◌, ◌≤◌, ◌<◌, ℕ, ◌+◌, ◌*◌, ◌/◌, ◌==◌, Bool, true, false, ◌||◌, cond, eqb, ltb, min, max, List, [], ◌∷◌}
+use Rattle.std.proofs.Common.{◌++◌, get_or, map, flat_map, Option, Some, None, Ok, inr, refl, sym, ap, subst, ◌∙◌, arith}
 use Rattle.std.specs.Prelude.{All, option_map, unwrap_or}
 use Rattle.std.specs.FinSet as set
 use Rattle.std.specs.List.{AllByRecursion as Each, list_any}
@@ -75,9 +75,10 @@ module _ (pv : ℕ) (at : ℕ → List ℕ) where
 
   each_found : (areas : List Extent) → Each IsEmpty areas → Each (IsAreaFound at) (map found_empty areas)
   each_found [] all = tt
-  each_found (area ∷ areas) all =
-      (((all.0, refl, refl), entry_nothing (at (area.offset / 512)) area.offset area.size (empty_area area) all.0 refl refl),
-          each_found areas all.1)
+  each_found (area ∷ areas) all = (
+    ((all.0, refl, refl), entry_nothing (at (area.offset / 512)) area.offset area.size (empty_area area) all.0 refl refl),
+    each_found areas all.1,
+  )
 
   each_read : (areas : List Extent) → AreAreaReadings pv at (map found_empty areas) (map read_empty areas)
   each_read [] = tt
@@ -103,7 +104,7 @@ unfolding shares_byte
 shares_not all bytes a b some below =
     let sized : eqb b.size 0 ≡ false = grind (arith, nat_tests) in
     let ends : end_of all bytes b ≡ b.offset + b.size =
-        ap (λ (t : Bool). cond t (next_start all b.offset bytes) (b.offset + b.size)) sized in
+    ap (λ (t : Bool). cond t (next_start all b.offset bytes) (b.offset + b.size)) sized in
     let last : ltb (max a.offset b.offset) (min (end_of all bytes a) (b.offset + b.size)) ≡ false = grind (arith, nat_tests) in
     ap (λ (n : ℕ). ltb (max a.offset b.offset) (min (end_of all bytes a) n)) ends ∙ last
 
@@ -117,12 +118,12 @@ lie_with bytes enough true = record {
 lie_with bytes enough false = record {
   inside =
       ap (λ (t : Bool). cond t (Some data_area) (cond (is_outside bytes one_area) (Some one_area) None))
-          (outside_not bytes data_area (omega (arith, enough)))
+      (outside_not bytes data_area (omega (arith, enough)))
       ∙ ap (λ (t : Bool). cond t (Some one_area) None) (outside_not bytes one_area (omega (arith, enough)));
   well_shaped = refl;
   apart =
       ap (λ (t : Bool). cond t (Some (data_area, one_area)) None)
-          (shares_not (data_area ∷ one_area ∷ []) bytes data_area one_area (omega arith) (omega arith));
+      (shares_not (data_area ∷ one_area ∷ []) bytes data_area one_area (omega arith) (omega arith));
 }
 
 -- ---- the label
@@ -157,7 +158,7 @@ shapes_have : (id : List ℕ) (disks : List Disk) → list_any (has_id id) (shap
 shapes_have id [] = refl
 shapes_have id (disk ∷ disks) =
     ap (λ (b : Bool). b || list_any (has_id id) (shapes disks)) (has_same id (header_on disk.contents))
-        ∙ ap (λ (b : Bool). has_header_id id disk || b) (shapes_have id disks)
+    ∙ ap (λ (b : Bool). has_header_id id disk || b) (shapes_have id disks)
 
 -- ---- the disk
 
@@ -182,49 +183,49 @@ module _ (base : Image) (sizes : List ℕ) (found : Found) (names : List (List �
   has_label : HasLabel image label
   has_label =
       All-head (HasLabel image) label [] (subst (All (HasLabel image)) m.labels_is
-          (p.keeps.found base (shown base sizes found names backup line now given p)).labels)
+      (p.keeps.found base (shown base sizes found names backup line now given p)).labels)
 
   abbrev AreEmpty : NewLabel → Type 0
   AreEmpty l =
       All (λ (area : Extent). IsHeader (sectors_of (record { pv = l.disk; start = area.offset; size = area.size }) image 0)
-          (empty_area area)) l.header.areas
+      (empty_area area)) l.header.areas
 
   areas_empty : Each (IsEmpty m.number (image m.number)) label.header.areas
   areas_empty =
       let all : All AreEmpty change.labels =
-          subst (λ (g : Option Group). HoldsAfter g now change state.areas image) m.none
-              (p.keeps.found base (shown base sizes found names backup line now given p)).areas in
+      subst (λ (g : Option Group). HoldsAfter g now change state.areas image) m.none
+      (p.keeps.found base (shown base sizes found names backup line now given p)).areas in
       let own : AreEmpty label = All-head AreEmpty label [] (subst (All AreEmpty) m.labels_is all) in
       recursion_from_All (IsEmpty m.number (image m.number)) label.header.areas
       (λ k d within.
       let area : Extent = get_or label.header.areas k d in
       let plain : sectors_of (record { pv = m.number; start = area.offset; size = area.size }) image 0
-          ≡ image m.number (area.offset / 512) = ap (image m.number) (omega arith) in
+      ≡ image m.number (area.offset / 512) = ap (image m.number) (omega arith) in
       subst (λ (s : List ℕ). IsHeader s (empty_area area)) plain (own k d within))
 
   low : label.sector < 4
   low =
       (All-head (λ (l : NewLabel). l.sector < 4) label []
-          (subst (All (λ (l : NewLabel). l.sector < 4)) m.labels_is
-          (λ k d within. ((can base sizes found names backup line now given p).labels k d within).sector_below)))
+      (subst (All (λ (l : NewLabel). l.sector < 4)) m.labels_is
+      (λ k d within. ((can base sizes found names backup line now given p).labels k d within).sector_below)))
 
   before_kept : (k : ℕ) → k < label.sector → image m.number k ≡ base m.number k
   before_kept k less =
       let h : HasFirstBatches (batch_if (flat_map area_puts change.labels) ++ batch_if (map label_put change.labels) ++ []) base image =
       subst (λ (g : Option Group). HasFirstBatches
-          (batch_if (new_area_puts g change.labels) ++ batch_if (map label_put change.labels)
-          ++ commit_batches g now (areas_of change state.areas)) base image) m.none
+      (batch_if (new_area_puts g change.labels) ++ batch_if (map label_put change.labels)
+      ++ commit_batches g now (areas_of change state.areas)) base image) m.none
       (all_written (batches_of state line now given) base)
       in
       let at_sector : All (λ (l : NewLabel). l.sector ≡ label.sector) change.labels =
       subst (All (λ (l : NewLabel). l.sector ≡ label.sector)) (sym m.labels_is)
-          (All-cons (λ (l : NewLabel). l.sector ≡ label.sector) label [] refl (All-nil (λ (l : NewLabel). l.sector ≡ label.sector)))
+      (All-cons (λ (l : NewLabel). l.sector ≡ label.sector) label [] refl (All-nil (λ (l : NewLabel). l.sector ≡ label.sector)))
       in
       front_kept (batch_if (flat_map area_puts change.labels) ++ batch_if (map label_put change.labels) ++ []) base image m.number k
       (All-append (KeepsSector m.number k) (batch_if (flat_map area_puts change.labels) ++ batch_if (map label_put change.labels)) []
       (All-append (KeepsSector m.number k) (batch_if (flat_map area_puts change.labels)) (batch_if (map label_put change.labels))
       (all_if (KeepsSector m.number k) (flat_map area_puts change.labels)
-          (new_near change.labels (new_labels_are state line now given m.none) m.number k (inr (omega (arith, less, low)))))
+      (new_near change.labels (new_labels_are state line now given m.none) m.number k (inr (omega (arith, less, low)))))
       (all_if (KeepsSector m.number k) (map label_put change.labels)
       (keeps_sector (map label_put change.labels) m.number k
       (λ value by. let w = label_where change.labels label m.number k value by in omega (arith, less, w.3, at_sector w.0 label w.1)))))
@@ -247,14 +248,17 @@ module _ (base : Image) (sizes : List ℕ) (found : Found) (names : List (List �
   stands reading before = (
     first_label (image m.number) label.sector low has_label.label
         (λ k less has. not_before (base m.number) m.disk.sectors m.disk.contents before.contents is_read k less
-            (subst (λ (s : List ℕ). IsLabel s k) (before_kept k less) has)),
-    record { fields = has_label.header; areas = let enough : 2056
-        ≤ m.disk.sectors = m.enough in lie_with (m.disk.sectors * 512) (omega (arith, enough)) (m.copies == 0) },
+        (subst (λ (s : List ℕ). IsLabel s k) (before_kept k less) has)),
+    record {
+      fields = has_label.header;
+      areas = let enough : 2056
+          ≤ m.disk.sectors = m.enough in lie_with (m.disk.sectors * 512) (omega (arith, enough)) (m.copies == 0);
+    },
     record {
       in_order = in_order m.number (image m.number) label.header.areas;
       each =
           All-from_recursion (IsAreaFound (image m.number)) (map found_empty label.header.areas)
-              (each_found m.number (image m.number) label.header.areas areas_empty);
+          (each_found m.number (image m.number) label.header.areas areas_empty);
     },
   )
 
@@ -268,14 +272,17 @@ module _ (base : Image) (sizes : List ℕ) (found : Found) (names : List (List �
   with_new_disk =
       let new = id_new found.group m.not_in_group in
       with_disk base sizes found names backup line now given p m image (all_written (batches_of state line now given) base) found.unread
-          none_out (λ pv within. none_unread found p.whole pv) (λ pv other. refl) own new.1
+      none_out (λ pv within. none_unread found p.whole pv) (λ pv other. refl) own new.1
       (λ reading there before. record {
         read = read;
         own_sectors = refl;
         own_unread = ((λ none. absurd cc), (λ unread. absurd (true≢false (sym unread ∙ none_unread found p.whole m.number))));
         is =
-            record { contents = stands reading before; sectors_is = refl;
-                pv_is = (refl, each_read m.number (image m.number) label.header.areas) };
+            record {
+              contents = stands reading before;
+              sectors_is = refl;
+              pv_is = (refl, each_read m.number (image m.number) label.header.areas);
+            };
         rel = (
           quiet_before base sizes found names backup line now given p m reading there before,
           new.0,

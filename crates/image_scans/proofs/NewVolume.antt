@@ -46,14 +46,14 @@ new_lie found names backup id new now given shape whole state_is held values tim
     let b : Beginning old given = beginning old new.lv id (kind_for new) given now may known.0 in
     let listed : found.disk_of ≡ disks_of old found.disks = found_listed found shape old made.there in
     let zeroed : (lvcreate_change state id new now given).zero
-        ≡ eight_from (slice_index (disks_of old found.disks) b.run.pv) old.extent_size b.pv.1 b.run ∷ [] =
+    ≡ eight_from (slice_index (disks_of old found.disks) b.run.pv) old.extent_size b.pv.1 b.run ∷ [] =
     ap (λ (c : Change). c.zero) made.change_is ∙ ap (λ (l : List ℕ). zeroed_at l old given) listed
-        ∙ zeroed_is (disks_of old found.disks) old given b
+    ∙ zeroed_is (disks_of old found.disks) old given b
     in
     let free : IsFree old (disks_of old found.disks) disk sector =
     first_free old found.disks known.0 (found_placed found shape old made.there) (found_there found shape whole old made.there) new.lv id
-        (kind_for new) given now may b.part b.is_part b.run b.is_run b.pv b.is_pv
+    (kind_for new) given now may b.part b.is_part b.run b.is_run b.pv b.is_pv
     (made.whole state_is known.0 known.1 time).accepted disk sector
-        (sym (ap (λ (spans : List Span). in_spans spans disk sector) zeroed) ∙ among)
+    (sym (ap (λ (spans : List Span). in_spans spans disk sector) zeroed) ∙ among)
     in
     (old, made.there, subst (λ (l : List ℕ). IsFree old l disk sector) (sym listed) free)

@@ -1,6 +1,6 @@
 -- Where a group was found, no area gives anything later.
-use Rattle.std.proofs.Common.{◌≡◌, ◌≤◌, ◌<◌, ℕ, ◌+◌, Bool, true, false, not, ◌&&◌, cond, nat_le, List, [], ◌∷◌, ◌++◌, Option, Some, None,
-    inl, inr, ⊎_elim, refl, sym, ap, subst, ◌∙◌, arith}
+use Rattle.std.proofs.Common.{◌≡◌, ◌≤◌, ◌<◌, ℕ, ◌+◌, Bool, true, false, not, ◌&&◌, cond, nat_le, List, [], ◌∷◌, ◌++◌, Option, Some, None}
+use Rattle.std.proofs.Common.{inl, inr, ⊎_elim, refl, sym, ap, subst, ◌∙◌, arith}
 use Rattle.std.specs.Prelude.{filter_map, find, option_map, unwrap_or, ◌==◌}
 use Rattle.std.specs.Option.{option_and_then}
 use Rattle.std.specs.List.{AllByRecursion, cons_option}
@@ -8,9 +8,9 @@ use Rattle.std.proofs.lemmas.Bool.{cases_lt, eq-eqb, le-leb, leb-true, true≢fa
 use Rattle.std.proofs.lemmas.Option.{same_Some}
 use Rattle.meta_model.specs.declared.group.Group.{Group}
 use Rattle.scan_rules.specs.declared.copy_refusal.CopyRefusal.{CopyRefusal}
-use Rattle.scan_rules.specs.Decision.{Area, AreaReading, Conflict, Copy, Found, FoundGroup, GivesNoLater, Held, HoldsNone, Reading, Refused,
-    TwoGroups, Unsupported, best, conflict, copies, copies_from, copy_of, decide_scan, greater, readings_in, refusal_of, refusals,
-    refusals_from, same_bytes, sum_agrees, two_groups, unsupported}
+use Rattle.scan_rules.specs.Decision.{Area, AreaReading, Conflict, Copy, Found, FoundGroup, GivesNoLater, Held, HoldsNone, Reading, Refused}
+use Rattle.scan_rules.specs.Decision.{TwoGroups, Unsupported, best, conflict, copies, copies_from, copy_of, decide_scan, greater}
+use Rattle.scan_rules.specs.Decision.{readings_in, refusal_of, refusals, refusals_from, same_bytes, sum_agrees, two_groups, unsupported}
 use Rattle.scan_rules.proofs.Scanning.{same_bytes_tells}
 use Rattle.vg_scan.specs.Texts.{IsCopyOf}
 use Rattle.image_scans.proofs.Decided.{IsFoundWith, Passes, found_parts, passes}
@@ -48,23 +48,25 @@ all_parts P (x ∷ xs) ys all = let later = all_parts P xs ys all.1 in ((all.0, 
 
 module _ {Y : Type 0} (f : ℕ → AreaReading → Option Y) (P : Y → Type 0) (Q : AreaReading → Type 0)
     (each : (disk : ℕ) (r : AreaReading) (rest : List Y) → AllByRecursion P (cons_option (f disk r) rest) → Q r × AllByRecursion P rest)
-    where
-  given_from : (disk : ℕ) (o : Option AreaReading) (rest : List AreaReading) → AllByRecursion P (filter_map (f disk) (cons_option o rest))
-      → GivenHas Q o × AllByRecursion P (filter_map (f disk) rest)
-  given_from disk None rest all = (tt, all)
-  given_from disk (Some r) rest all = each disk r (filter_map (f disk) rest) all
+  where
+    given_from : (disk : ℕ) (o : Option AreaReading) (rest : List AreaReading) → AllByRecursion P (filter_map (f disk) (cons_option o rest))
+        → GivenHas Q o × AllByRecursion P (filter_map (f disk) rest)
+    given_from disk None rest all = (tt, all)
+    given_from disk (Some r) rest all = each disk r (filter_map (f disk) rest) all
 
-  areas_from : (disk : ℕ) (areas : List Area) → AllByRecursion P (filter_map (f disk) (filter_map (λ (area : Area). area.reading) areas))
-      → AreasGive Q areas
-  areas_from disk [] all = tt
-  areas_from disk (area ∷ areas) all =
-      let parts = given_from disk area.reading (filter_map (λ (a : Area). a.reading) areas) all in (parts.0, areas_from disk areas parts.1)
+    areas_from : (disk : ℕ) (areas : List Area) → AllByRecursion P (filter_map (f disk) (filter_map (λ (area : Area). area.reading) areas))
+        → AreasGive Q areas
+    areas_from disk [] all = tt
+    areas_from disk (area ∷ areas) all =
+        let parts = given_from disk area.reading (filter_map (λ (a : Area). a.reading) areas) all in
+        (parts.0, areas_from disk areas parts.1)
 
-  pv_from : (disk : ℕ) (pv : Option Found)
-      → AllByRecursion P (filter_map (f disk) (unwrap_or (option_map (λ (p : Found). filter_map (λ (area : Area). area.reading) p.areas) pv)
-      [])) → PvGives Q pv
-  pv_from disk None all = tt
-  pv_from disk (Some pv) all = areas_from disk pv.areas all
+    pv_from : (disk : ℕ) (pv : Option Found)
+        → AllByRecursion P (filter_map (f disk) (unwrap_or
+        (option_map (λ (p : Found). filter_map (λ (area : Area). area.reading) p.areas) pv)
+        [])) → PvGives Q pv
+    pv_from disk None all = tt
+    pv_from disk (Some pv) all = areas_from disk pv.areas all
 
 abbrev HeldHas : (Group → List ℕ → List (List ℕ) → Type 0) → Held → Type 0
 HeldHas P held = P held.group held.text held.passed
@@ -139,7 +141,7 @@ greatest (c ∷ cs) b is = step (best cs) refl (λ d at. greatest cs d at) is
         → Some (greater c o) ≡ Some b → AllByRecursion (IsAtMost b.group.seqno) (c ∷ cs)
     step None at below' is' =
         let same : c.group.seqno ≡ b.group.seqno = ap (λ (h : Held). h.group.seqno)
-            (same_Some c b is') in (omega (arith, same), none_left cs at)
+        (same_Some c b is') in (omega (arith, same), none_left cs at)
     step (Some d) at below' is' = pick d (nat_le d.group.seqno c.group.seqno) refl (below' d at) is'
 
 -- ---- the tests
@@ -148,11 +150,16 @@ one_id : (cs : List Held) → two_groups cs ≡ None → (id : List ℕ) × AllB
 one_id [] none = ([], tt)
 one_id (c ∷ cs) none =
     let each =
-        find_each (λ (d : Held). not (same_bytes d.group.id c.group.id)) cs
-            (no_map (λ (d : Held). TwoGroups c.group.id d.group.id) (find (λ (d : Held). not (same_bytes d.group.id c.group.id)) cs)
-            none) in
-    (c.group.id, (refl, all_weaker (λ (d : Held). not (same_bytes d.group.id c.group.id) ≡ false) (λ (d : Held). d.group.id ≡ c.group.id)
-        (λ d no_other. same_bytes_tells d.group.id c.group.id (not_false (same_bytes d.group.id c.group.id) no_other)) cs each))
+    find_each (λ (d : Held). not (same_bytes d.group.id c.group.id)) cs
+    (no_map (λ (d : Held). TwoGroups c.group.id d.group.id) (find (λ (d : Held). not (same_bytes d.group.id c.group.id)) cs)
+    none) in (
+      c.group.id,
+      (
+        refl,
+        all_weaker (λ (d : Held). not (same_bytes d.group.id c.group.id) ≡ false) (λ (d : Held). d.group.id ≡ c.group.id)
+            (λ d no_other. same_bytes_tells d.group.id c.group.id (not_false (same_bytes d.group.id c.group.id) no_other)) cs each,
+      ),
+    )
   where
     not_false : (b : Bool) → not b ≡ false → b ≡ true
     not_false true is = refl
@@ -163,17 +170,17 @@ no_other_text : (cs : List Held) (b : Held) → best cs ≡ Some b → conflict 
 no_other_text cs b is none =
     find_each (λ (d : Held). d.group.seqno == b.group.seqno && not (same_bytes d.text b.text)) cs
     (no_map (λ (d : Held). Conflict b.disk d.disk b.group.seqno)
-        (find (λ (d : Held). d.group.seqno == b.group.seqno && not (same_bytes d.text b.text)) cs)
+    (find (λ (d : Held). d.group.seqno == b.group.seqno && not (same_bytes d.text b.text)) cs)
     (sym (ap (λ (o : Option Held). option_and_then
-        (λ (x : Held). option_map (λ (d : Held). Conflict x.disk d.disk x.group.seqno)
-        (find (λ (d : Held). d.group.seqno == x.group.seqno && not (same_bytes d.text x.text)) cs)) o) is) ∙ none))
+    (λ (x : Held). option_map (λ (d : Held). Conflict x.disk d.disk x.group.seqno)
+    (find (λ (d : Held). d.group.seqno == x.group.seqno && not (same_bytes d.text x.text)) cs)) o) is) ∙ none))
 
 plain_refusals : (cs : List Held) (rs : List (ℕ × CopyRefusal)) (b : Held) → best cs ≡ Some b → unsupported cs rs ≡ None
     → AllByRecursion IsPlainRefusal rs
 plain_refusals [] rs b is none = absurd cc
 plain_refusals (c ∷ cs) rs b is none =
     find_each (λ (r : ℕ × CopyRefusal). sum_agrees r.1) rs
-        (no_map (λ (r : ℕ × CopyRefusal). Unsupported r.0) (find (λ (r : ℕ × CopyRefusal). sum_agrees r.1) rs) none)
+    (no_map (λ (r : ℕ × CopyRefusal). Unsupported r.0) (find (λ (r : ℕ × CopyRefusal). sum_agrees r.1) rs) none)
 
 -- what is known of each copy
 abbrev IsEarlier : List ℕ → Held → Group → List ℕ → List (List ℕ) → Type 0
@@ -191,15 +198,15 @@ no_later id b own copy (Copy group text passed) is = (
         less,
         λ same.
             let one : group ≡ b.group =
-                one_copy b.text group b.group passed b.passed (subst (λ (t : List ℕ). IsCopyOf t group passed) same is.1.0) copy in
+            one_copy b.text group b.group passed b.passed (subst (λ (t : List ℕ). IsCopyOf t group passed) same is.1.0) copy in
             let e : group.seqno ≡ b.group.seqno = ap (λ (g : Group). g.seqno) one in omega (arith, less, e),
       ))
       (λ (reached : b.group.seqno ≤ group.seqno).
       let most : group.seqno ≤ b.group.seqno = is.0.1.0 in
       let e : group.seqno ≡ b.group.seqno = omega (arith, reached, most) in
       let same : text ≡ b.text =
-          same_bytes_tells text b.text (agrees (group.seqno == b.group.seqno) (same_bytes text b.text) (eq-eqb group.seqno b.group.seqno e)
-              is.0.1.1) in
+      same_bytes_tells text b.text (agrees (group.seqno == b.group.seqno) (same_bytes text b.text) (eq-eqb group.seqno b.group.seqno e)
+      is.0.1.1) in
       inl (one_copy b.text group b.group passed b.passed (subst (λ (t : List ℕ). IsCopyOf t group passed) same is.1.0) copy, same))
       (cases_lt group.seqno b.group.seqno),
 )
@@ -217,23 +224,23 @@ unfolding copies refusals
 none_later_given readings held stale strays missing is are =
     let parts : IsFoundWith readings held stale strays missing = found_parts readings held stale strays missing is in
     let p : Passes readings (FoundGroup held stale strays missing) =
-        passes readings (FoundGroup held stale strays missing) (λ nothing. nothing) is in
+    passes readings (FoundGroup held stale strays missing) (λ nothing. nothing) is in
     let cs : List Held = copies_from 0 readings in
     let ids = one_id cs p.one_group in
     let id : List ℕ = ids.0 in
     let all : AllByRecursion (HeldHas (IsEarlier id held)) cs =
     all_both (λ (c : Held). c.group.id ≡ id)
-        (λ (c : Held). (c.group.seqno ≤ held.group.seqno)
-        × ((c.group.seqno == held.group.seqno && not (same_bytes c.text held.text)) ≡ false)) cs ids.1
+    (λ (c : Held). (c.group.seqno ≤ held.group.seqno)
+    × ((c.group.seqno == held.group.seqno && not (same_bytes c.text held.text)) ≡ false)) cs ids.1
     (all_both (IsAtMost held.group.seqno) (λ (c : Held). (c.group.seqno == held.group.seqno && not (same_bytes c.text held.text)) ≡ false)
-        cs (greatest cs held parts.best_is) (no_other_text cs held parts.best_is p.agree))
+    cs (greatest cs held parts.best_is) (no_other_text cs held parts.best_is p.agree))
     in
     let given : DisksGive (λ disk. CopyHas (IsEarlier id held)) readings = copied_from (IsEarlier id held) 0 readings all in
     let own : held.group.id ≡ id = (best_copy_has (IsEarlier id held) readings given held parts.best_is).0 in
     let copy : IsCopyOf held.text held.group held.passed = best_copy_has IsItsCopy readings are held parts.best_is in
     let refused : DisksGive (λ disk. RefusesPlainly) readings =
-        refused_from 0 readings (plain_refusals cs (refusals_from 0 readings) held parts.best_is p.supported) in
+    refused_from 0 readings (plain_refusals cs (refusals_from 0 readings) held parts.best_is p.supported) in
     disks_weaker (λ disk r. CopyHas (IsEarlier id held) r × (CopyHas IsItsCopy r × RefusesPlainly r))
-        (λ disk. GivesNoLater held.group held.text) (λ disk. no_later id held own copy) readings
+    (λ disk. GivesNoLater held.group held.text) (λ disk. no_later id held own copy) readings
     (disks_both (λ disk. CopyHas (IsEarlier id held)) (λ disk r. CopyHas IsItsCopy r × RefusesPlainly r) readings given
-        (disks_both (λ disk. CopyHas IsItsCopy) (λ disk. RefusesPlainly) readings are refused))
+    (disks_both (λ disk. CopyHas IsItsCopy) (λ disk. RefusesPlainly) readings are refused))

@@ -1,6 +1,6 @@
 -- What one area gives, by what its header sector and its ring have.
-use Rattle.std.proofs.Common.{◌≡◌, ◌≤◌, ◌<◌, ◌⊎◌, ℕ, ◌+◌, ◌-◌, ◌^◌, true, false, List, [], length, Option, Some, None, inl, inr, ⊎_elim,
-    refl, sym, ap, subst, ◌∙◌, arith}
+use Rattle.std.proofs.Common.{◌≡◌, ◌≤◌, ◌<◌, ◌⊎◌, ℕ, ◌+◌, ◌-◌, ◌^◌, true, false, List, [], length, Option, Some, None, inl, inr, ⊎_elim}
+use Rattle.std.proofs.Common.{refl, sym, ap, subst, ◌∙◌, arith}
 use Rattle.std.proofs.lemmas.Bool.{cases_lt}
 use Rattle.sector_base.specs.Checksum.{checksum, lvm_crc_start}
 use Rattle.mda_header.specs.declared.entry.HeaderEntry.TheVariants.{Nothing, Text}
@@ -86,8 +86,10 @@ pub entry_text : (sector : List ℕ) (header : MdaHeader) (locn : Locn) → IsHe
     → header.ignored ≡ false → IsEntry sector header.start header.size (Text locn)
 entry_text sector header locn is named seen =
     let committed : (locn ≡ locn_at sector 40) × IsInside header.size locn = subst (IsCommitted sector header.size) named is.committed in (
-      record { of_area = record { sound = is.sound; start_is = is.start; size_is = is.size };
-          inside = subst (IsInside header.size) committed.0 committed.1 },
+      record {
+        of_area = record { sound = is.sound; start_is = is.start; size_is = is.size };
+        inside = subst (IsInside header.size) committed.0 committed.1;
+      },
       (λ bit. absurd (let e : true ≡ false = sym (is.ignored.1 bit) ∙ seen in cc)),
       committed.0,
     )
@@ -103,25 +105,25 @@ module _ (text : List ℕ) (a : Area × Option Locn) (take : CanTake a) (fits : 
   after_read =
       let ends : a.0.start + a.0.size ≤ 2 ^ 49 = take.0.ends in
       let sum : checksum lvm_crc_start (summed_bytes (header_after text a)) < 2 ^ 32 =
-          checksum_below lvm_crc_start (summed_bytes (header_after text a)) in
+      checksum_below lvm_crc_start (summed_bytes (header_after text a)) in
       header_read a.0.start a.0.size (Some (new_entry text a)) None false (omega (arith, ends)) (omega (arith, ends))
-          (checksum_below lvm_crc_start (stored text)) tt (omega (arith, sum)) made_inside tt
+      (checksum_below lvm_crc_start (stored text)) tt (omega (arith, sum)) made_inside tt
 
   -- and the one before it, where no text was committed
   pub before_read : IsHeader (header_bytes (header_of a.0 None (Some (new_entry text a)))) (header_of a.0 None (Some (new_entry text a)))
   before_read =
       let ends : a.0.start + a.0.size ≤ 2 ^ 49 = take.0.ends in
       let sum : checksum lvm_crc_start (summed_bytes (header_of a.0 None (Some (new_entry text a)))) < 2 ^ 32 =
-          checksum_below lvm_crc_start (summed_bytes (header_of a.0 None (Some (new_entry text a)))) in
+      checksum_below lvm_crc_start (summed_bytes (header_of a.0 None (Some (new_entry text a)))) in
       header_read a.0.start a.0.size None (Some (new_entry text a)) false (omega (arith, ends)) (omega (arith, ends)) tt
-          (checksum_below lvm_crc_start (stored text)) (omega (arith, sum)) tt made_inside
+      (checksum_below lvm_crc_start (stored text)) (omega (arith, sum)) tt made_inside
 
 -- the header of an area in which no text stands is read as it is
 pub empty_header_read : (area : Area) → IsArea area → IsHeader (header_bytes (header_of area None None)) (header_of area None None)
 empty_header_read area good =
     let ends : area.start + area.size ≤ 2 ^ 49 = good.ends in
     let sum : checksum lvm_crc_start (summed_bytes (header_of area None None)) < 2 ^ 32 =
-        checksum_below lvm_crc_start (summed_bytes (header_of area None None)) in
+    checksum_below lvm_crc_start (summed_bytes (header_of area None None)) in
     header_read area.start area.size None None false (omega (arith, ends)) (omega (arith, ends)) tt tt (omega (arith, sum)) tt tt
 
 -- ---- the text of a group

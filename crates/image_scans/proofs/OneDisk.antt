@@ -1,6 +1,6 @@
 -- An image in which one disk differs: the others stand and read as they did.
-use Rattle.std.proofs.Common.{◌≡◌, ◌≢◌, ◌≤◌, ◌↔◌, ℕ, zero, suc, ◌+◌, Bool, true, cond, List, [], ◌∷◌, map, Some, None, refl, sym, ap, subst,
-    ◌∙◌, arith}
+use Rattle.std.proofs.Common.{◌≡◌, ◌≢◌, ◌≤◌, ◌↔◌, ℕ, zero, suc, ◌+◌, Bool, true, cond, List, [], ◌∷◌, map, Some, None, refl, sym, ap, subst}
+use Rattle.std.proofs.Common.{◌∙◌, arith}
 use Rattle.std.specs.Prelude.{slice_get}
 use Rattle.std.specs.FinSet as set
 use Rattle.std.specs.Ordering.{nat_cmp}
@@ -47,9 +47,12 @@ module _ (base image : Image) (unread others : set.FinSet nat_cmp) where
   rest_same first [] (reading ∷ readings) are same sets = absurd are
   rest_same first (disk ∷ disks) [] are same sets = absurd are
   rest_same first (disk ∷ disks) (reading ∷ readings) are same sets =
-      let one = same_disk first disk reading (same first (omega arith)) (sets first (omega arith)) are.0 are.1 in
-      (one.0, one.1, rest_same (first + 1) disks readings are.2 (λ pv from. same pv (omega (arith, from)))
-          (λ pv from. sets pv (omega (arith, from))))
+      let one = same_disk first disk reading (same first (omega arith)) (sets first (omega arith)) are.0 are.1 in (
+        one.0,
+        one.1,
+        rest_same (first + 1) disks readings are.2 (λ pv from. same pv (omega (arith, from)))
+            (λ pv from. sets pv (omega (arith, from))),
+      )
 
   pub all_but_one : (first k : ℕ) (R : Reading → Reading → Type 0) (disk own : Disk) (disks : List Disk) (readings : List Reading)
       → AreDiskReadings base unread first disks readings
@@ -65,7 +68,7 @@ module _ (base image : Image) (unread others : set.FinSet nat_cmp) where
       let plain : first + 0 ≡ first = omega arith in
       let n : IsNewAt (first + 0) (image (first + 0)) others R disk.sectors own reading =
       new reading refl (subst (λ (n : ℕ). IsDiskReading n (base n) disk reading) (sym plain)
-          (subst (λ (x : Disk). IsDiskReading first (base first) x reading) is_disk are.1))
+      (subst (λ (x : Disk). IsDiskReading first (base first) x reading) is_disk are.1))
       in
       record {
         there = own ∷ disks;
@@ -82,14 +85,14 @@ module _ (base image : Image) (unread others : set.FinSet nat_cmp) where
       }
   all_but_one first (suc k) R disk own (d ∷ disks) (reading ∷ readings) are same sets there new =
       let one =
-          same_disk first d reading (same first (λ is. absurd (omega (arith, is)))) (sets first (λ is. absurd (omega (arith, is)))) are.0
-              are.1 in
+      same_disk first d reading (same first (λ is. absurd (omega (arith, is)))) (sets first (λ is. absurd (omega (arith, is)))) are.0
+      are.1 in
       let on : first + 1 + k ≡ first + suc k = omega arith in
       let later : AllButOne image others (first + 1) k R disk own disks readings =
       all_but_one (first + 1) k R disk own disks readings are.2 (λ pv other. same pv (λ is. other (omega (arith, is))))
-          (λ pv other. sets pv (λ is. other (omega (arith, is)))) there
+      (λ pv other. sets pv (λ is. other (omega (arith, is)))) there
       (λ r at is. subst (λ (n : ℕ). IsNewAt n (image n) others R disk.sectors own r) (sym on)
-          (new r at (subst (λ (n : ℕ). IsDiskReading n (base n) disk r) on is)))
+      (new r at (subst (λ (n : ℕ). IsDiskReading n (base n) disk r) on is)))
       in
       record {
         there = d ∷ later.there;

@@ -1,6 +1,6 @@
 -- Where primary places lie: in the extents of a physical volume, behind sector 8 of its disk and beside its metadata areas.
-use Rattle.std.proofs.Common.{◌≡◌, ◌≤◌, ◌<◌, ◌⊎◌, ℕ, zero, suc, ◌+◌, ◌*◌, ◌/◌, Bool, true, false, not, ◌&&◌, ◌||◌, nat_lt, cond, List, [],
-    ◌∷◌, map, Option, Some, None, inl, inr, ⊎_elim, refl, sym, ap, subst, ◌∙◌, arith}
+use Rattle.std.proofs.Common.{◌≡◌, ◌≤◌, ◌<◌, ◌⊎◌, ℕ, zero, suc, ◌+◌, ◌*◌, ◌/◌, Bool, true, false, not, ◌&&◌, ◌||◌, nat_lt, cond, List, []}
+use Rattle.std.proofs.Common.{◌∷◌, map, Option, Some, None, inl, inr, ⊎_elim, refl, sym, ap, subst, ◌∙◌, arith}
 use Rattle.std.specs.Prelude.{find, option_map, slice_get, slice_index, unwrap_or}
 use Rattle.std.specs.List.{AllByRecursion as Each, enumerate_from, list_any}
 use Rattle.std.proofs.lemmas.Bool.{and_from, cases_lt, false≢true, lt-ltb, ltb-false, true≢false}
@@ -36,7 +36,7 @@ on_pv group number sector pv steps at is less goes =
     let same : place ≡ at =
     same_Some place at
     (sym (ap (λ (o : Option (List ℕ × Pv)). option_map (λ (p : List ℕ × Pv). record { pv = number; sector = p.1.pe_start + sector }) o) is)
-        ∙ goes)
+    ∙ goes)
     in
     subst (IsInExtents group) same (record { pv = pv; is_pv = is; from = omega arith; to = omega (arith, less) })
 
@@ -46,12 +46,12 @@ in_extents group accepted zero lv sector at goes = absurd cc
 in_extents group accepted (suc steps) lv sector at goes =
     let d : GoesDown group lv sector steps at = goes_down group lv sector steps at goes in
     let l : ByLeg group d.m (primary_leg d.m.segment.count d.m.segment.kind d.m.at) d.spot =
-        by_leg group d.m (primary_leg d.m.segment.count d.m.segment.kind d.m.at) d.spot d.is_spot in
+    by_leg group d.m (primary_leg d.m.segment.count d.m.segment.kind d.m.at) d.spot d.is_spot in
     let meets : Meets group lv sector d.m = meets_is group lv sector d.m d.meets in
     let leads : LeadsOn group lv (spot_in group.extent_size (offset_in d.m.segment.kind d.m.at) l.it) =
-        leads_on group lv sector d.m (primary_leg d.m.segment.count d.m.segment.kind d.m.at) l.it accepted meets l.is_leg in
+    leads_on group lv sector d.m (primary_leg d.m.segment.count d.m.segment.kind d.m.at) l.it accepted meets l.is_leg in
     by d.spot (subst (LeadsOn group lv) (λ i. record { on = l.on i; sector = l.at i }) leads) d.rest
-        (λ number below here. in_extents group accepted steps number below at here)
+    (λ number below here. in_extents group accepted steps number below at here)
   where
     by : (spot : Spot) → LeadsOn group lv spot → down group spot.on steps spot.sector ≡ Some at
         → ((number below : ℕ) → down group (on.Lv number) steps below ≡ Some at → IsInExtents group at) → IsInExtents group at
@@ -89,10 +89,10 @@ one_beside start end sector area from to none =
     ⊎_elim
     (λ (inside : sector < area.offset / 512 + area.size / 512).
     let first : nat_lt start (area.offset / 512 + area.size / 512) ≡ true =
-        lt-ltb start (area.offset / 512 + area.size / 512) (omega (arith, from, inside)) in
+    lt-ltb start (area.offset / 512 + area.size / 512) (omega (arith, from, inside)) in
     let second : nat_lt (area.offset / 512) end ≡ true = lt-ltb (area.offset / 512) end (omega (arith, reached, to)) in
     absurd (true≢false (sym (and_from (nat_lt start (area.offset / 512 + area.size / 512)) (nat_lt (area.offset / 512) end) first second)
-        ∙ none)))
+    ∙ none)))
     (λ (past : area.offset / 512 + area.size / 512 ≤ sector). inr past)
     (cases_lt sector (area.offset / 512 + area.size / 512)))
     (cases_lt sector (area.offset / 512))
@@ -111,8 +111,8 @@ beside_on : (start end sector sectors : ℕ) (header : PvHeader) → start ≤ s
 beside_on start end sector sectors header from to none =
     let some : nat_lt start end ≡ true = lt-ltb start end (omega (arith, from, to)) in
     let rest =
-        and_right (nat_lt start end) (nat_lt sectors end
-            || (nat_lt start 8 || list_any (meets_area start end) (map area_shape header.areas))) some none in
+    and_right (nat_lt start end) (nat_lt sectors end
+    || (nat_lt start 8 || list_any (meets_area start end) (map area_shape header.areas))) some none in
     let inside = or_parts (nat_lt sectors end) (nat_lt start 8 || list_any (meets_area start end) (map area_shape header.areas)) rest in
     let parts = or_parts (nat_lt start 8) (list_any (meets_area start end) (map area_shape header.areas)) inside.1 in
     let begins : 8 ≤ start = ltb-false start 8 parts.0 in
@@ -140,7 +140,7 @@ placed_at group n (first ∷ disks) none zero disk there =
 placed_at group n (first ∷ disks) none (suc k) disk there =
     placed_at group (n + 1) disks
     (found_none (λ (d : ℕ × Reading). has_misplaced group d.1) n (disk_shape first) (has_misplaced group (disk_shape first))
-        (find (λ (d : ℕ × Reading). has_misplaced group d.1) (enumerate_from (n + 1) (shapes disks))) refl none).1
+    (find (λ (d : ℕ × Reading). has_misplaced group d.1) (enumerate_from (n + 1) (shapes disks))) refl none).1
     k disk there
 
 pub index_map : {X : Type 0} (f : X → ℕ) (xs : List X) (k : ℕ) (x : X) → slice_get xs k ≡ Some x → slice_index (map f xs) k ≡ f x
@@ -172,23 +172,23 @@ pub extent_beside : (group : Group) (disks : List Disk) → first_misplaced grou
 extent_beside group disks placed there at e =
     let pv : List ℕ × Pv = e.pv in
     let number : slice_index (disks_of group disks) at.pv ≡ disk_with disks pv.1.id =
-        index_map (λ (p : List ℕ × Pv). disk_with disks p.1.id) group.pvs at.pv pv e.is_pv in
+    index_map (λ (p : List ℕ × Pv). disk_with disks p.1.id) group.pvs at.pv pv e.is_pv in
     let here : is_missing (shapes disks) pv ≡ false =
-        each_at (λ (p : List ℕ × Pv). is_missing (shapes disks) p ≡ false) group.pvs at.pv pv (all_there (shapes disks) group.pvs there)
-            e.is_pv in
+    each_at (λ (p : List ℕ × Pv). is_missing (shapes disks) p ≡ false) group.pvs at.pv pv (all_there (shapes disks) group.pvs there)
+    e.is_pv in
     let d : HasDisk disks pv.1.id = disk_found pv.1.id disks (present pv.1.missing (list_any (has_id pv.1.id) (shapes disks)) here) in
     let none : has_misplaced group (disk_shape d.disk) ≡ false = placed_at group 0 disks placed (disk_with disks pv.1.id) d.disk d.there in
     let on_header : list_any (is_this_misplaced group.extent_size (disk_shape d.disk) (pv_shape d.header)) group.pvs ≡ false =
     sym (ap (λ (o : Option PvHeader). unwrap_or
-        (option_map (λ (f : PvOf). list_any (is_this_misplaced group.extent_size (disk_shape d.disk) f) group.pvs) (option_map pv_shape o))
-        false) d.is) ∙ none
+    (option_map (λ (f : PvOf). list_any (is_this_misplaced group.extent_size (disk_shape d.disk) f) group.pvs) (option_map pv_shape o))
+    false) d.is) ∙ none
     in
     let own : is_this_misplaced group.extent_size (disk_shape d.disk) (pv_shape d.header) pv ≡ false =
-        any_at (is_this_misplaced group.extent_size (disk_shape d.disk) (pv_shape d.header)) group.pvs at.pv pv e.is_pv on_header in
+    any_at (is_this_misplaced group.extent_size (disk_shape d.disk) (pv_shape d.header)) group.pvs at.pv pv e.is_pv on_header in
     let end : ℕ = pv.1.pe_start + pv.1.pe_count * group.extent_size in
     let misplaced : is_misplaced pv.1.pe_start end (disk_shape d.disk) (pv_shape d.header) ≡ false =
     and_right (same_bytes pv.1.id d.header.id) (is_misplaced pv.1.pe_start end (disk_shape d.disk) (pv_shape d.header))
-        (same_bytes_to pv.1.id d.header.id (sym d.same)) own
+    (same_bytes_to pv.1.id d.header.id (sym d.same)) own
     in
     record {
       disk = d.disk;

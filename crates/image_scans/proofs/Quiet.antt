@@ -1,13 +1,13 @@
 -- One disk that reads otherwise, where the group doesn't list it and its areas give nothing, before and after.
-use Rattle.std.proofs.Common.{◌≡◌, ◌⊎◌, ℕ, zero, suc, ◌+◌, ◌*◌, Bool, true, false, not, ◌&&◌, ◌||◌, cond, List, [], ◌∷◌, ◌++◌, Option, Some,
-    None, inl, inr, ⊎_elim, refl, sym, ap, subst, ◌∙◌}
+use Rattle.std.proofs.Common.{◌≡◌, ◌⊎◌, ℕ, zero, suc, ◌+◌, ◌*◌, Bool, true, false, not, ◌&&◌, ◌||◌, cond, List, [], ◌∷◌, ◌++◌, Option, Some}
+use Rattle.std.proofs.Common.{None, inl, inr, ⊎_elim, refl, sym, ap, subst, ◌∙◌}
 use Rattle.std.specs.Prelude.{find, option_map, unwrap_or}
 use Rattle.std.specs.List.{AllByRecursion as Each, enumerate_from, list_any}
 use Rattle.std.proofs.lemmas.Bool.{and_parts, false≢true, or_cases, or_left, or_right, true≢false}
 use Rattle.meta_model.specs.declared.group.Group.{Group}
 use Rattle.meta_model.specs.declared.pv.Pv.{Pv}
-use Rattle.scan_rules.specs.Decision.{AreaReading, Found, Reading, first_duplicate, first_misplaced, has_id, has_misplaced, holds, ids_from,
-    is_held, is_listed, is_misplaced, lists, same_bytes}
+use Rattle.scan_rules.specs.Decision.{AreaReading, Found, Reading, first_duplicate, first_misplaced, has_id, has_misplaced, holds, ids_from}
+use Rattle.scan_rules.specs.Decision.{is_held, is_listed, is_misplaced, lists, same_bytes}
 use Rattle.scan_rules.specs.Found.{is_missing, is_this_misplaced, misplaced_from, missing_of}
 use Rattle.scan_rules.proofs.Scanning.{same_bytes_tells, same_bytes_to}
 use Rattle.image_scans.proofs.Again.{all_there, none_missing}
@@ -77,7 +77,7 @@ module _ (group : Group) where
       (λ here.
       ⊎_elim
       (λ same. or_left (is_listed group b && holds text b) (is_held group text bs)
-          (ap (λ (d : Reading). is_listed group d && holds text d) same ∙ here))
+      (ap (λ (d : Reading). is_listed group d && holds text d) same ∙ here))
       (λ quiet. absurd (true≢false (sym (and_parts (is_listed group a) (holds text a) here).0 ∙ quiet.0.1)))
       but.0)
       (λ later. or_right (is_listed group b && holds text b) (is_held group text bs) (quiet_held text as' bs but.1 later))
@@ -89,7 +89,7 @@ module _ (group : Group) where
   no_pv id [] none = tt
   no_pv id (pv ∷ pvs) none =
       let parts = split (same_bytes pv.1.id id) (list_any (λ (p : List ℕ × Pv). same_bytes p.1.id id) pvs)
-          none in (parts.0, no_pv id pvs parts.1)
+      none in (parts.0, no_pv id pvs parts.1)
     where
       split : (x y : Bool) → (x || y) ≡ false → (x ≡ false) × (y ≡ false)
       split true y is = absurd (true≢false is)
@@ -101,7 +101,7 @@ module _ (group : Group) where
   misplaced_none sectors disk found [] all = refl
   misplaced_none sectors disk found (pv ∷ pvs) all =
       ap (λ (b : Bool). (b && is_misplaced pv.1.pe_start (pv.1.pe_start + pv.1.pe_count * group.extent_size) disk found)
-          || list_any (is_this_misplaced group.extent_size disk found) pvs) all.0
+      || list_any (is_this_misplaced group.extent_size disk found) pvs) all.0
       ∙ misplaced_none sectors disk found pvs all.1
 
   well_placed : (sectors : ℕ) (o : Option Found) → unwrap_or (option_map (λ (pv : Found). lists group pv.id) o) false ≡ false
@@ -124,12 +124,12 @@ module _ (group : Group) where
   placed_from n (a ∷ as') [] but none = absurd but
   placed_from n (a ∷ as') (b ∷ bs) but none =
       let parts =
-          placed_here (n, a) (has_misplaced group a) (find (λ (d : ℕ × Reading). has_misplaced group d.1) (enumerate_from (n + 1) as')) refl
-              none in
+      placed_here (n, a) (has_misplaced group a) (find (λ (d : ℕ × Reading). has_misplaced group d.1) (enumerate_from (n + 1) as')) refl
+      none in
       let here : has_misplaced group b ≡ false =
-          ⊎_elim (λ same. ap (has_misplaced group) same ∙ parts.0) (λ quiet. well_placed b.sectors b.pv quiet.1.1) but.0 in
+      ⊎_elim (λ same. ap (has_misplaced group) same ∙ parts.0) (λ quiet. well_placed b.sectors b.pv quiet.1.1) but.0 in
       ap (λ (t : Bool). option_map (λ (x : ℕ × Reading). x.0)
-          (cond t (Some (n, b)) (find (λ (d : ℕ × Reading). has_misplaced group d.1) (enumerate_from (n + 1) bs)))) here
+      (cond t (Some (n, b)) (find (λ (d : ℕ × Reading). has_misplaced group d.1) (enumerate_from (n + 1) bs)))) here
       ∙ placed_from (n + 1) as' bs but.1 parts.1
 
   pub quiet_placed : (as' bs : List Reading) → ButQuiet (Some group) as' bs → first_misplaced group as' ≡ None
@@ -251,7 +251,7 @@ find_one p k n R new [] (b ∷ bs) at none = absurd at
 find_one p k n R new (a ∷ as') [] at none = absurd at
 find_one p zero n R new (a ∷ as') (b ∷ bs) at none =
     put b.pv (new a b at.0) (subst (λ (l : List Reading). find (λ (other : ℕ × List ℕ). p other.1) (ids_from (n + 1) l) ≡ None) (sym at.1)
-        (rest a.pv none))
+    (rest a.pv none))
   where
     rest : (o : Option Found) → find (λ (other : ℕ × List ℕ). p other.1) (ids_with n o (ids_from (n + 1) as')) ≡ None
         → find (λ (other : ℕ × List ℕ). p other.1) (ids_from (n + 1) as') ≡ None
@@ -265,7 +265,7 @@ find_one p zero n R new (a ∷ as') (b ∷ bs) at none =
     put (Some pv) has is = find_with (λ (other : ℕ × List ℕ). p other.1) (n, pv.id) (ids_from (n + 1) bs) (has pv refl) is
 find_one p (suc k) n R new (a ∷ as') (b ∷ bs) at none =
     subst (λ (d : Reading). find (λ (other : ℕ × List ℕ). p other.1) (ids_with n d.pv (ids_from (n + 1) bs)) ≡ None) (sym at.0)
-        (by a.pv none (λ later. find_one p k (n + 1) R new as' bs at.1 later))
+    (by a.pv none (λ later. find_one p k (n + 1) R new as' bs at.1 later))
   where
     by : (o : Option Found) → find (λ (other : ℕ × List ℕ). p other.1) (ids_with n o (ids_from (n + 1) as')) ≡ None
         → (find (λ (other : ℕ × List ℕ). p other.1) (ids_from (n + 1) as') ≡ None
@@ -285,7 +285,7 @@ duplicate_with : (one : ℕ × List ℕ) (more : List (ℕ × List ℕ)) → fin
     → first_duplicate more ≡ None → first_duplicate (one ∷ more) ≡ None
 duplicate_with one more none rest =
     ap (λ (o : Option (ℕ × List ℕ)). unwrap_or (option_map (λ (other : ℕ × List ℕ). Some (one.0, other.0)) o) (first_duplicate more)) none
-        ∙ rest
+    ∙ rest
 
 -- a disk that is left out, or has an id of its own, is no duplicate
 pub one_apart : (k n : ℕ) (R : Reading → Reading → Type 0) (all : List Reading) → ((a b : Reading) → R a b → IsNewId all b.pv)
@@ -297,25 +297,25 @@ one_apart k n R all new [] (b ∷ bs) among at none = absurd at
 one_apart k n R all new (a ∷ as') [] among at none = absurd at
 one_apart zero n R all new (a ∷ as') (b ∷ bs) among at none =
     subst (λ (l : List Reading). first_duplicate (ids_with n b.pv (ids_from (n + 1) l)) ≡ None) (sym at.1)
-        (put b.pv (new a b at.0) (rest a.pv none))
+    (put b.pv (new a b at.0) (rest a.pv none))
   where
     rest : (o : Option Found) → first_duplicate (ids_with n o (ids_from (n + 1) as')) ≡ None → first_duplicate (ids_from (n + 1) as') ≡ None
     rest None is = is
     rest (Some pv) is =
         (duplicate_parts n (find (λ (other : ℕ × List ℕ). same_bytes pv.id other.1) (ids_from (n + 1) as'))
-            (first_duplicate (ids_from (n + 1) as')) is).1
+        (first_duplicate (ids_from (n + 1) as')) is).1
 
     put : (o : Option Found) → IsNewId all o → first_duplicate (ids_from (n + 1) as') ≡ None
         → first_duplicate (ids_with n o (ids_from (n + 1) as')) ≡ None
     put None fresh is = is
     put (Some pv) fresh is =
         duplicate_with (n, pv.id) (ids_from (n + 1) as')
-            (find_new pv.id (n + 1) as' (or_false (has_id pv.id a) (list_any (has_id pv.id) as') (among pv.id fresh)).1) is
+        (find_new pv.id (n + 1) as' (or_false (has_id pv.id a) (list_any (has_id pv.id) as') (among pv.id fresh)).1) is
 one_apart (suc k) n R all new (a ∷ as') (b ∷ bs) among at none =
     subst (λ (d : Reading). first_duplicate (ids_with n d.pv (ids_from (n + 1) bs)) ≡ None) (sym at.0)
     (by a.pv none (λ id out. (or_false (has_id id a) (list_any (has_id id) as') (among id out)).0)
     (λ later. one_apart k (n + 1) R all new as' bs (λ id out. (or_false (has_id id a) (list_any (has_id id) as') (among id out)).1) at.1
-        later))
+    later))
   where
     by : (o : Option Found) → first_duplicate (ids_with n o (ids_from (n + 1) as')) ≡ None
         → ((id : List ℕ) → list_any (has_id id) all ≡ false → unwrap_or (option_map (λ (pv : Found). same_bytes pv.id id) o) false ≡ false)
@@ -324,8 +324,8 @@ one_apart (suc k) n R all new (a ∷ as') (b ∷ bs) among at none =
     by None is out later = later is
     by (Some pv) is out later =
         let parts =
-            duplicate_parts n (find (λ (other : ℕ × List ℕ). same_bytes pv.id other.1) (ids_from (n + 1) as'))
-                (first_duplicate (ids_from (n + 1) as')) is in
+        duplicate_parts n (find (λ (other : ℕ × List ℕ). same_bytes pv.id other.1) (ids_from (n + 1) as'))
+        (first_duplicate (ids_from (n + 1) as')) is in
         duplicate_with (n, pv.id) (ids_from (n + 1) bs)
         (find_one (same_bytes pv.id) k (n + 1) R (λ x y r q has. out q.id (subst (IsNewId all) has (new x y r))) as' bs at.1 parts.0)
         (later parts.1)

@@ -7,8 +7,9 @@ use Rattle.std.specs.Ordering.{nat_cmp}
 use Rattle.disk_model.specs.Steps.{Image}
 use Rattle.meta_model.specs.declared.group.Group.{Group}
 use Rattle.meta_model.specs.declared.pv.Pv.{Pv}
-use Rattle.scan_rules.specs.Decision.{AreaReading, Conflict, DuplicatePv, FoundGroup, NoCopy, NoGroup, PvShape, TwoGroups, Unsupported,
-    GivesNoLater, HasShape as IsShaped, HoldsNone, Copy, Refused, Reading, ScanAnswer, decide_scan, first_duplicate, ids_from}
+use Rattle.scan_rules.specs.Decision.{AreaReading, Conflict, DuplicatePv, FoundGroup, NoCopy, NoGroup, PvShape, TwoGroups, Unsupported}
+use Rattle.scan_rules.specs.Decision.{GivesNoLater, HasShape as IsShaped, HoldsNone, Copy, Refused, Reading, ScanAnswer, decide_scan}
+use Rattle.scan_rules.specs.Decision.{first_duplicate, ids_from}
 use Rattle.scan_rules.specs.Found.{missing_of}
 use Rattle.vg_found.specs.declared.disk.Disk.{Disk}
 use Rattle.vg_found.specs.declared.found.Found.{Found}
@@ -45,9 +46,9 @@ SameDisks (Some group) disks there = Each (λ (pv : List ℕ × Pv). disk_with t
 module _ (image : Image) (sizes : List ℕ) (found : Found) (none_missing : found.missing ≡ []) (readings : List Reading)
     (by : IsFoundBy (decide_scan readings) found) (unread : set.FinSet nat_cmp) (left_out : ℕ → Bool)
     (left : (pv : ℕ) → pv < length sizes → set.contains unread pv ≡ left_out pv) (there : List Disk) (read : List Reading)
-        (sizes_are : map (λ (d : Disk). d.sectors) there ≡ sizes) (are : AreDiskReadings image unread 0 there read)
+    (sizes_are : map (λ (d : Disk). d.sectors) there ≡ sizes) (are : AreDiskReadings image unread 0 there read)
     (quiet : ButQuiet found.group readings read) (apart : first_duplicate (ids_from 0 read) ≡ None)
-        (same : SameDisks found.group found.disks there) where
+    (same : SameDisks found.group found.disks there) where
   -- no group
   of_none : HasNothing readings → found.group ≡ None → DisksGive (λ disk. IsNone) readings
       → FindsVersion sizes image left_out (version_in found)
@@ -62,7 +63,7 @@ module _ (image : Image) (sizes : List ℕ) (found : Found) (none_missing : foun
           are = record { sizes_is = sizes_are; each = are };
           answer =
               subst (λ (a : ScanAnswer). IsFoundBy a (record found { disks = there; areas = held_areas 0 there; unread = unread }))
-                  (sym answer) (moved_to (decide_scan readings) by);
+              (sym answer) (moved_to (decide_scan readings) by);
           areas = refl;
           disk_of = subst (λ (o : Option Group). IfSome o (λ group. found.disk_of ≡ disks_of group there)) (sym none) tt;
         };
@@ -70,8 +71,8 @@ module _ (image : Image) (sizes : List ℕ) (found : Found) (none_missing : foun
         whole = none_missing;
         version_is =
             ap (λ (o : Option Group). option_map (λ (g : Group). record { group = g; disk_of = disks_of g there }) o) none
-                ∙ sym (ap (λ (o : Option Group). option_map (λ (g : Group). record { group = g; disk_of = disks_of g found.disks }) o)
-                none);
+            ∙ sym (ap (λ (o : Option Group). option_map (λ (g : Group). record { group = g; disk_of = disks_of g found.disks }) o)
+            none);
       }
     where
       moved_to : (answer : ScanAnswer) → IsFoundBy answer found
@@ -109,7 +110,7 @@ module _ (image : Image) (sizes : List ℕ) (found : Found) (none_missing : foun
         let parts : IsFoundWith read f.held f.stale f.strays f.missing = found_parts read f.held f.stale f.strays f.missing f.is in
         let version : Group → Version = λ g. record { group = g; disk_of = disks_of g there } in
         let disks : disks_of group there ≡ disks_of group found.disks =
-            disks_same found.disks there group.pvs (subst (λ (o : Option Group). SameDisks o found.disks there) is_group same) in
+        disks_same found.disks there group.pvs (subst (λ (o : Option Group). SameDisks o found.disks there) is_group same) in
         record {
           found = found_anew f;
           scan = record {
@@ -122,7 +123,7 @@ module _ (image : Image) (sizes : List ℕ) (found : Found) (none_missing : foun
           left = left;
           whole =
               sym parts.missing_are ∙ ap (λ (g : Group). missing_of read g.pvs) f.group_is
-                  ∙ quiet_missing group readings read but all_there;
+              ∙ quiet_missing group readings read but all_there;
           version_is =
               ap (λ (g : Group). Some (version g)) f.group_is ∙ ap (λ (l : List ℕ). Some (record { group = group; disk_of = l })) disks
               ∙ sym (ap (λ (o : Option Group). option_map (λ (g : Group). record { group = g; disk_of = disks_of g found.disks }) o)
@@ -133,12 +134,12 @@ module _ (image : Image) (sizes : List ℕ) (found : Found) (none_missing : foun
   quiet_version (settled_none nothing none given) = of_none nothing none given
   quiet_version (settled_some held parts some copy given all) =
       let shape : IsShaped held.group read =
-          record { apart = apart; placed = quiet_placed held.group readings read (but held.group held.text some) parts.placed } in
+      record { apart = apart; placed = quiet_placed held.group readings read (but held.group held.text some) parts.placed } in
       let no_later : DisksGive (λ disk. GivesNoLater held.group held.text) read =
       quiet_give (GivesNoLater held.group held.text) (none_given held.group held.text) found.group readings read quiet
       (disks_weaker (λ disk. IsNoneOr held.group held.text) (λ disk. GivesNoLater held.group held.text)
-          (λ disk. same_given held.group held.text) readings given)
+      (λ disk. same_given held.group held.text) readings given)
       in
       of_finds held.group held.text some (parts.missing_are ∙ none_missing)
       (finds_newest held.group held.text read shape no_later
-          (quiet_held held.group held.text readings read (but held.group held.text some) parts.is_held_is))
+      (quiet_held held.group held.text readings read (but held.group held.text some) parts.is_held_is))

@@ -30,18 +30,22 @@ pv_shaped pv sectors sector_at None read is reads = subst (SamePv None) (sym rea
 pv_shaped pv sectors sector_at (Some (NoLabel refusal)) read is reads = subst (SamePv None) (sym reads) tt
 pv_shaped pv sectors sector_at (Some (NoHeader label refusal)) read is reads = subst (SamePv None) (sym reads) tt
 pv_shaped pv sectors sector_at (Some (Whole label header areas)) None is reads = absurd reads
-pv_shaped pv sectors sector_at (Some (Whole label header areas)) (Some own) is reads =
-    (sym reads.0, subst (λ (l : List Extent). SameAreas (map area_shape l) own.areas) is.2.in_order
-        (areas_shaped pv sector_at areas own.areas reads.1))
+pv_shaped pv sectors sector_at (Some (Whole label header areas)) (Some own) is reads = (
+  sym reads.0,
+  subst (λ (l : List Extent). SameAreas (map area_shape l) own.areas) is.2.in_order
+      (areas_shaped pv sector_at areas own.areas reads.1),
+)
 
 pub readings_shaped : (image : Image) (unread : set.FinSet nat_cmp) (first : ℕ) (disks : List Disk) (readings : List Reading)
     → AreDiskReadings image unread first disks readings → SameHeaders (shapes disks) readings
 readings_shaped image unread first [] [] are = tt
 readings_shaped image unread first [] (reading ∷ readings) are = absurd are
 readings_shaped image unread first (disk ∷ disks) [] are = absurd are
-readings_shaped image unread first (disk ∷ disks) (reading ∷ readings) are =
-    (sym are.1.sectors_is, pv_shaped first disk.sectors (image first) disk.contents reading.pv are.1.contents are.1.pv_is,
-        readings_shaped image unread (first + 1) disks readings are.2)
+readings_shaped image unread first (disk ∷ disks) (reading ∷ readings) are = (
+  sym are.1.sectors_is,
+  pv_shaped first disk.sectors (image first) disk.contents reading.pv are.1.contents are.1.pv_is,
+  readings_shaped image unread (first + 1) disks readings are.2,
+)
 
 -- one of them
 pub gives_at : (P : AreaReading → Type 0) (readings : List Reading) (k : ℕ) (reading : Reading) → DisksGive (λ disk. P) readings

@@ -1,6 +1,6 @@
 -- Once a group's disks are cleared a scan finds no group.
-use Rattle.std.proofs.Common.{◌≡◌, ◌≢◌, ℕ, zero, suc, ◌+◌, ◌/◌, ◌&&◌, ◌||◌, Bool, true, false, List, [], ◌∷◌, map, Option, Some, None,
-    ⊎_elim, refl, sym, ap, subst, ◌∙◌, arith}
+use Rattle.std.proofs.Common.{◌≡◌, ◌≢◌, ℕ, zero, suc, ◌+◌, ◌/◌, ◌&&◌, ◌||◌, Bool, true, false, List, [], ◌∷◌, map, Option, Some, None}
+use Rattle.std.proofs.Common.{⊎_elim, refl, sym, ap, subst, ◌∙◌, arith}
 use Rattle.std.specs.Prelude.{All, filter_map, option_map, slice_get, unwrap_or}
 use Rattle.std.specs.List.{AllByRecursion as Each, cons_option, list_any}
 use Rattle.std.specs.Ordering.{nat_cmp}
@@ -19,8 +19,8 @@ use Rattle.mda_header.specs.declared.header.Locn.{Locn}
 use Rattle.mda_ring.specs.declared.area.Area.{Area}
 use Rattle.meta_model.specs.declared.group.Group.{Group}
 use Rattle.meta_model.specs.declared.pv.Pv.{Pv}
-use Rattle.scan_rules.specs.Decision.{Area as AreaOf, AreaReading, Found as PvOf, HoldsNone, Reading, gives, holds, is_held, is_listed,
-    lists, same_bytes}
+use Rattle.scan_rules.specs.Decision.{Area as AreaOf, AreaReading, Found as PvOf, HoldsNone, Reading, gives, holds, is_held, is_listed}
+use Rattle.scan_rules.specs.Decision.{lists, same_bytes}
 use Rattle.scan_rules.proofs.Scanning.{same_bytes_tells}
 use Rattle.disk_contents.specs.Contents.{IsAreaFound}
 use Rattle.disk_contents.specs.declared.contents.AreaFound.{AreaFound}
@@ -59,11 +59,11 @@ module _ (new : AreaReading) (pv : ℕ) (base_at image_at : ℕ → List ℕ) wh
       of_entry : IsEntry (image_at (f.area.offset / 512)) f.area.offset f.area.size Nothing → GivenHas IsNone b.reading
       of_entry names =
           let there : IsEntry (image_at (g.area.offset / 512)) g.area.offset g.area.size Nothing =
-              subst (λ (e : Extent). IsEntry (image_at (e.offset / 512)) e.offset e.size Nothing) (sym same) names in
+          subst (λ (e : Extent). IsEntry (image_at (e.offset / 512)) e.offset e.size Nothing) (sym same) names in
           let entry : g.entry ≡ Nothing =
-              one_entry (image_at (g.area.offset / 512)) g.area.offset g.area.size g.entry Nothing found.1 there in
+          one_entry (image_at (g.area.offset / 512)) g.area.offset g.area.size g.entry Nothing found.1 there in
           let given : b.reading ≡ Some HoldsNone =
-              subst (λ (e : HeaderEntry). IsGiven image_at (area_on pv g.area) e b.reading) entry reads'.given in
+          subst (λ (e : HeaderEntry). IsGiven image_at (area_on pv g.area) e b.reading) entry reads'.given in
           subst (GivenHas IsNone) (sym given) refl
 
       by : (e : HeaderEntry) → f.entry ≡ e → GivenHas IsNone b.reading
@@ -73,13 +73,13 @@ module _ (new : AreaReading) (pv : ℕ) (base_at image_at : ℕ → List ℕ) wh
           subst (GivenHas IsNone) (sym none') tt
       by Nothing is =
           of_entry (empty (area_on pv f.area, None)
-              (ap (λ (e : HeaderEntry). held_area pv (record { area = f.area; header = f.header; entry = e })) is))
+          (ap (λ (e : HeaderEntry). held_area pv (record { area = f.area; header = f.header; entry = e })) is))
       by (Text locn) is =
           of_entry (empty (area_on pv f.area, Some locn)
-              (ap (λ (e : HeaderEntry). held_area pv (record { area = f.area; header = f.header; entry = e })) is))
+          (ap (λ (e : HeaderEntry). held_area pv (record { area = f.area; header = f.header; entry = e })) is))
       by (RefusedFor refusal) is =
           of_entry (empty (area_on pv f.area, None)
-              (ap (λ (e : HeaderEntry). held_area pv (record { area = f.area; header = f.header; entry = e })) is))
+          (ap (λ (e : HeaderEntry). held_area pv (record { area = f.area; header = f.header; entry = e })) is))
 
   head_same : (g f : AreaFound) (gs fs : List AreaFound)
       → map (λ (x : AreaFound). x.area) (g ∷ gs) ≡ map (λ (x : AreaFound). x.area) (f ∷ fs) → g.area ≡ f.area
@@ -100,9 +100,10 @@ module _ (new : AreaReading) (pv : ℕ) (base_at image_at : ℕ → List ℕ) wh
   areas_emptied (f ∷ fs) [] gs bs reads reads' found same again empty = absurd reads
   areas_emptied (f ∷ fs) (a ∷ as') gs [] reads reads' found same again empty = absurd again
   areas_emptied (f ∷ fs) (a ∷ as') [] (b ∷ bs) reads reads' found same again empty = absurd reads'
-  areas_emptied (f ∷ fs) (a ∷ as') (g ∷ gs) (b ∷ bs) reads reads' found same again empty =
-      (emptied_one f g a b reads.0 reads'.0 found.0 (head_same g f gs fs same) again.2 empty.0,
-          areas_emptied fs as' gs bs reads.1 reads'.1 found.1 (tail_same g f gs fs same) again.3 empty.1)
+  areas_emptied (f ∷ fs) (a ∷ as') (g ∷ gs) (b ∷ bs) reads reads' found same again empty = (
+    emptied_one f g a b reads.0 reads'.0 found.0 (head_same g f gs fs same) again.2 empty.0,
+    areas_emptied fs as' gs bs reads.1 reads'.1 found.1 (tail_same g f gs fs same) again.3 empty.1,
+  )
 
   pub pv_emptied : (sectors : ℕ) (contents own : Option PvFound) (x y : Option PvOf) → IsPvReading pv base_at contents x
       → IsPvReading pv image_at own y → IsContents image_at sectors own
@@ -148,7 +149,7 @@ none_held group text (b ∷ read) each =
     by : is_held group text read ≡ false → (listed : Bool) → is_listed group b ≡ listed → is_held group text (b ∷ read) ≡ false
     by rest true is =
         ap (λ (x : Bool). x && holds text b || is_held group text read) is
-            ∙ ap (λ (x : Bool). x || is_held group text read) (pv_holds_none text b.pv b.sectors (each 0 b refl is)) ∙ rest
+        ∙ ap (λ (x : Bool). x || is_held group text read) (pv_holds_none text b.pv b.sectors (each 0 b refl is)) ∙ rest
     by rest false is = ap (λ (x : Bool). x && holds text b || is_held group text read) is ∙ rest
 
 -- ---- by numbers
@@ -169,9 +170,12 @@ pub disk_read : (image : Image) (unread : set.FinSet nat_cmp) (first : ℕ) (dis
 disk_read image unread first [] [] are k reading there = absurd cc
 disk_read image unread first [] (r ∷ readings) are k reading there = absurd are
 disk_read image unread first (d ∷ disks) [] are k reading there = absurd are
-disk_read image unread first (d ∷ disks) (r ∷ readings) are zero reading there =
-    (d, refl, subst (λ (n : ℕ). IsDiskReading n (image n) d reading) (omega arith)
-        (subst (λ (x : Reading). IsDiskReading first (image first) d x) (same_Some r reading there) are.1))
+disk_read image unread first (d ∷ disks) (r ∷ readings) are zero reading there = (
+  d,
+  refl,
+  subst (λ (n : ℕ). IsDiskReading n (image n) d reading) (omega arith)
+      (subst (λ (x : Reading). IsDiskReading first (image first) d x) (same_Some r reading there) are.1),
+)
 disk_read image unread first (d ∷ disks) (r ∷ readings) are (suc k) reading there =
     let l = disk_read image unread (first + 1) disks readings are.2 k reading there in
     (l.0, l.1, subst (λ (n : ℕ). IsDiskReading n (image n) l.0 reading) (omega arith) l.2)
@@ -223,10 +227,10 @@ module _ (areas : List (Area × Option Locn)) (cleared : set.FinSet nat_cmp) (im
       let own : held.0 ≡ area_on (0 + k) f.area = entry_kept (area_on (0 + k) f.area) f.entry held is in
       let here : lies_on cleared held ≡ true = ap (λ (a : Area). set.contains cleared a.pv) own ∙ on in
       let names : IsEntry (sectors_of held.0 image 0) f.area.offset f.area.size Nothing =
-          entry_nothing (sectors_of held.0 image 0) f.area.offset f.area.size (header_of held.0 None None) (where_cleared held is here) refl
-              refl in
+      entry_nothing (sectors_of held.0 image 0) f.area.offset f.area.size (header_of held.0 None None) (where_cleared held is here) refl
+      refl in
       let at : sectors_of held.0 image 0 ≡ image (0 + k) (f.area.offset / 512) =
-          ap (λ (a : Area). sectors_of a image 0) own ∙ ap (image (0 + k)) (omega arith) in
+      ap (λ (a : Area). sectors_of a image 0) own ∙ ap (image (0 + k)) (omega arith) in
       subst (λ (s : List ℕ). IsEntry s f.area.offset f.area.size Nothing) at names
 
   each_emptied : (k : ℕ) → set.contains cleared (0 + k) ≡ true → (fs : List AreaFound)
@@ -239,7 +243,7 @@ module _ (areas : List (Area × Option Locn)) (cleared : set.FinSet nat_cmp) (im
       → Each (IsEmptied (0 + k) (image (0 + k))) (areas_on disk.contents)
   disk_emptied k disk there on =
       let all : All WhereCleared (held_areas 0 disks) =
-          subst (All WhereCleared) held_are (each_of_filtered (IsEmpty image) (lies_on cleared) areas empty) in
+      subst (All WhereCleared) held_are (each_of_filtered (IsEmpty image) (lies_on cleared) areas empty) in
       each_emptied k on (areas_on disk.contents)
       (recursion_from_All (λ f. (held : Area × Option Locn) → held_area (0 + k) f ≡ Some held → WhereCleared held) (areas_on disk.contents)
-          (of_held WhereCleared 0 disks all k disk there))
+      (of_held WhereCleared 0 disks all k disk there))

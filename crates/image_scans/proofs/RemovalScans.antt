@@ -1,6 +1,6 @@
 -- What a scan finds while a group's disks are cleared, and nothing is committed.
-use Rattle.std.proofs.Common.{◌≡◌, ◌⊎◌, ℕ, ◌+◌, ◌&&◌, ◌||◌, Bool, true, false, List, [], ◌∷◌, Option, Some, None, inl, inr, ⊎_elim, refl,
-    sym, ap, subst, ◌∙◌, arith}
+use Rattle.std.proofs.Common.{◌≡◌, ◌⊎◌, ℕ, ◌+◌, ◌&&◌, ◌||◌, Bool, true, false, List, [], ◌∷◌, Option, Some, None, inl, inr, ⊎_elim, refl}
+use Rattle.std.proofs.Common.{sym, ap, subst, ◌∙◌, arith}
 use Rattle.std.specs.Prelude.{IfSome, filter_map, option_map, slice_get, unwrap_or}
 use Rattle.std.specs.List.{cons_option, list_any}
 use Rattle.std.specs.Ordering.{nat_cmp}
@@ -17,8 +17,9 @@ use Rattle.mda_header.specs.declared.header.Locn.{Locn}
 use Rattle.mda_ring.specs.declared.area.Area.{Area}
 use Rattle.meta_model.specs.declared.group.Group.{Group}
 use Rattle.extent_alloc.specs.declared.part.Part.{Part}
-use Rattle.scan_rules.specs.Decision.{Area as AreaOf, AreaReading, Copy, Found as PvOf, GivesNoLater, HasShape as IsShaped, Held, HoldsNone,
-    NoGroup, Reading, Refused, SameHeaders, ScanAnswer, decide_scan, gives, holds, is_held, is_listed, is_something, lists}
+use Rattle.scan_rules.specs.Decision.{Area as AreaOf, AreaReading, Copy, Found as PvOf, GivesNoLater, HasShape as IsShaped, Held, HoldsNone}
+use Rattle.scan_rules.specs.Decision.{NoGroup, Reading, Refused, SameHeaders, ScanAnswer, decide_scan, gives, holds, is_held, is_listed}
+use Rattle.scan_rules.specs.Decision.{is_something, lists}
 use Rattle.scan_rules.specs.Found.{missing_of}
 use Rattle.scan_rules.proofs.SameShape.{same_shape}
 use Rattle.disk_batch.specs.InTurn.{HasFirstBatches, with_batches}
@@ -45,15 +46,15 @@ use Rattle.vg_change.specs.LineBatches.{clears_of}
 use Rattle.image_scans.proofs.CommitLine.{all_written, is_state, settled}
 use Rattle.image_scans.specs.Laws.{CanCarryOut, none_out}
 use Rattle.image_scans.specs.Versions.{FindsVersion, Version, version_in}
-use Rattle.image_scans.proofs.Again.{AreasAgain, DisksAgain, Finds, GivesAgain, PvAgain, again_give, again_headers, finds_newest,
-    missing_same}
+use Rattle.image_scans.proofs.Again.{AreasAgain, DisksAgain, Finds, GivesAgain, PvAgain, again_give, again_headers, finds_newest}
+use Rattle.image_scans.proofs.Again.{missing_same}
 use Rattle.image_scans.proofs.BaseEntries.{entries_shown}
 use Rattle.image_scans.proofs.ClearedAgain.{any_bare, any_pv, disk_cleared}
 use Rattle.image_scans.proofs.CommitScans.{disks_by_ids, none_unread}
 use Rattle.image_scans.proofs.Decided.{IsFoundWith, found_parts, nothing_found}
 use Rattle.image_scans.proofs.DiskAgain.{AllAgain, IsThereAt, PvMayBeRefused, all_again}
-use Rattle.image_scans.proofs.AreaReadings.{AreasGive, DisksGive, GivenHas, IsNone, IsSettled, PvGives, copies_none, disks_weaker,
-    refusals_none}
+use Rattle.image_scans.proofs.AreaReadings.{AreasGive, DisksGive, GivenHas, IsNone, IsSettled, PvGives, copies_none, disks_weaker}
+use Rattle.image_scans.proofs.AreaReadings.{refusals_none}
 use Rattle.image_scans.proofs.ReadingShapes.{readings_shaped}
 use Rattle.image_scans.proofs.SettledBase.{IsNoneOr, IsSettledScan, settled_none, settled_some}
 use Rattle.image_scans.proofs.RemovalEnds.{disk_among, disk_emptied, disk_read, listed_header, none_held, pv_emptied, read_before}
@@ -86,7 +87,7 @@ module _ (group : Group) (text : List ℕ) (new : AreaReading) where
   none_kept a (Some r) y rest (inr (inl made)) given b listed none = absurd (true≢false (sym made.1))
   none_kept a (Some r) y rest (inl same) given true listed none =
       absurd (true≢false (sym (ap (λ (o : Option AreaReading). list_any (gives text) (cons_option o rest)) same
-          ∙ or_left (gives text r) (list_any (gives text) rest) (given.0 listed)) ∙ none))
+      ∙ or_left (gives text r) (list_any (gives text) rest) (given.0 listed)) ∙ none))
   none_kept a (Some r) y rest (inl same) given false listed none = subst (GivenHas IsNone) (sym same) (silent_none r (given.1 listed))
 
   none_later : (b : Bool) (y : Option AreaReading) (rest : List AreaReading) → (b && list_any (gives text) (cons_option y rest)) ≡ false
@@ -102,9 +103,10 @@ module _ (group : Group) (text : List ℕ) (new : AreaReading) where
   areas_kept a [] (y ∷ bs) again given b listed none = absurd again
   areas_kept a (x ∷ as') [] again given b listed none = absurd again
   areas_kept a (x ∷ as') (y ∷ bs) again given b listed none =
-      let rest : List AreaReading = filter_map (λ (area : AreaOf). area.reading) bs in
-      (none_kept a x.reading y.reading rest again.2 given.0 b listed none,
-          areas_kept a as' bs again.3 given.1 b listed (none_later b y.reading rest none))
+      let rest : List AreaReading = filter_map (λ (area : AreaOf). area.reading) bs in (
+        none_kept a x.reading y.reading rest again.2 given.0 b listed none,
+        areas_kept a as' bs again.3 given.1 b listed (none_later b y.reading rest none),
+      )
 
   pv_kept : (a : Reading) (x y : Option PvOf) → a.pv ≡ x → PvAgain (λ id. false) any_bare new x y → PvGives (IsSettled group text a) x
       → (s : ℕ) → (is_listed group (record { sectors = s; pv = y }) && holds text (record { sectors = s; pv = y })) ≡ false
@@ -136,7 +138,7 @@ module _ (base : Image) (sizes : List ℕ) (found : Found) (shape : HasShape fou
   shown : ShowsEntries found.areas base
   shown =
       subst (λ (l : List (Area × Option Locn)). ShowsEntries l base) (sym scan.areas)
-          (entries_shown base found.unread 0 found.disks scan.readings scan.are.each)
+      (entries_shown base found.unread 0 found.disks scan.readings scan.are.each)
 
   headers : SameHeaders (shapes found.disks) scan.readings
   headers = readings_shaped base found.unread 0 found.disks scan.readings scan.are.each
@@ -166,7 +168,7 @@ module _ (base : Image) (sizes : List ℕ) (found : Found) (shape : HasShape fou
           all_again base image found.unread 0 (λ id. false) bare (Copy group text passed) found.disks scan.readings scan.are.each
           (λ k disk reading at_disk at_reading is.
           disk_cleared found.disks found.areas scanned cleared clears base image h base shown text group passed copy (λ id. false) bare any
-              (0 + k) (λ sector. refl) disk
+          (0 + k) (λ sector. refl) disk
           (subst (λ (n : ℕ). slice_get found.disks n ≡ Some disk) (omega arith) at_disk) reading is (given k reading at_reading))
 
     -- ---- where a copy was found
@@ -191,13 +193,13 @@ module _ (base : Image) (sizes : List ℕ) (found : Found) (shape : HasShape fou
       still there =
           let no_later : DisksGive (λ disk. GivesNoLater held.group held.text) again.read =
           again_give (GivesNoLater held.group held.text) made (refl, inl (refl, refl)) tt (λ id. false) any_bare scan.readings again.read
-              again.again
+          again.again
           (disks_weaker (λ disk. IsNoneOr held.group held.text) (λ disk. GivesNoLater held.group held.text)
-              (λ disk. same_no_later held.group held.text) scan.readings each)
+          (λ disk. same_no_later held.group held.text) scan.readings each)
           in
           let f : Finds again.read held.group held.text = finds_newest held.group held.text again.read read_shape no_later there in
           let own : IsFoundWith again.read f.held f.stale f.strays f.missing =
-              found_parts again.read f.held f.stale f.strays f.missing f.is in
+          found_parts again.read f.held f.stale f.strays f.missing f.is in
           let version : Group → Version = λ g. record { group = g; disk_of = disks_of g again.there } in
           let anew : Found = record {
             group = Some f.held.group;
@@ -223,11 +225,11 @@ module _ (base : Image) (sizes : List ℕ) (found : Found) (shape : HasShape fou
             left = λ pv within. none_unread found whole pv;
             whole =
                 sym own.missing_are ∙ ap (λ (g : Group). missing_of again.read g.pvs) f.group_is
-                    ∙ sym (missing_same scan.readings again.read held.group.pvs same_headers) ∙ parts.missing_are ∙ whole.there;
+                ∙ sym (missing_same scan.readings again.read held.group.pvs same_headers) ∙ parts.missing_are ∙ whole.there;
             version_is =
                 ap (λ (g : Group). Some (version g)) f.group_is
-                    ∙ ap (λ (l : List ℕ). Some (record { group = held.group; disk_of = l }))
-                    (disks_by_ids held.group found.disks again.there again.ids)
+                ∙ ap (λ (l : List ℕ). Some (record { group = held.group; disk_of = l }))
+                (disks_by_ids held.group found.disks again.there again.ids)
                 ∙ sym (ap (λ (o : Option Group). option_map (λ (g : Group). record { group = g; disk_of = disks_of g found.disks }) o)
                 some);
           }
@@ -236,10 +238,13 @@ module _ (base : Image) (sizes : List ℕ) (found : Found) (shape : HasShape fou
       pub gone : is_held held.group held.text again.read ≡ false → FindsVersion sizes image none_out None
       gone none =
           let silent : DisksGive (λ disk. IsNone) again.read =
-              none_left held.group held.text made scan.readings again.read again.again all none in
+          none_left held.group held.text made scan.readings again.read again.again all none in
           let nothing : decide_scan again.read ≡ NoGroup =
-              nothing_found again.read (record { apart = read_shape.apart; no_copies = copies_none again.read silent;
-                  no_refusals = refusals_none again.read silent }) in
+          nothing_found again.read (record {
+            apart = read_shape.apart;
+            no_copies = copies_none again.read silent;
+            no_refusals = refusals_none again.read silent;
+          }) in
           record {
             found = nothing_in again.there;
             scan = record {
@@ -247,7 +252,7 @@ module _ (base : Image) (sizes : List ℕ) (found : Found) (shape : HasShape fou
               are = record { sizes_is = again.sizes_is ∙ scan.are.sizes_is; each = again.are };
               answer =
                   subst (λ (answer : ScanAnswer). IsFoundBy answer (nothing_in again.there)) (sym nothing)
-                      (refl, refl, refl, refl, refl, refl);
+                  (refl, refl, refl, refl, refl, refl);
               areas = refl;
               disk_of = tt;
             };
@@ -277,7 +282,7 @@ module _ (base image : Image) (sizes : List ℕ) (found : Found) (names : List (
   some_group : found.group ≡ None → ⊥
   some_group none =
       group_there found.group vg (subst (λ (c : Command). line_refusal state (record { number = line.number; id = line.id; command = c })
-          now given ≡ None) is p.passes) none
+      now given ≡ None) is p.passes) none
 
   scanned_is : AreScanned found.disks found.areas
   scanned_is = state_scanned state (is_state base sizes found names backup line now given p)
@@ -294,7 +299,7 @@ module _ (base image : Image) (sizes : List ℕ) (found : Found) (names : List (
       by (settled_none nothing none all) = absurd (some_group none)
       by (settled_some held parts some copy each all) =
           either_left base sizes found p.shape p.whole p.scan settled_is scanned_is cleared_set p.keeps.clears image h held parts some copy
-              each all
+          each all
 
   -- ---- at the end
 
@@ -315,13 +320,13 @@ module _ (base image : Image) (sizes : List ℕ) (found : Found) (names : List (
       by (settled_none nothing none all) = absurd (some_group none)
       by (settled_some held parts some copy each all) =
           let reads =
-              again base sizes found p.shape p.whole p.scan settled_is scanned_is cleared_set p.keeps.clears last all_there held parts some
-                  copy each all in
+          again base sizes found p.shape p.whole p.scan settled_is scanned_is cleared_set p.keeps.clears last all_there held parts some
+          copy each all in
           let new : AreaReading = Copy held.group held.text held.passed in
           let listed_are : found.disk_of ≡ disks_of held.group found.disks =
-              subst (λ (o : Option Group). IfSome o (λ g. found.disk_of ≡ disks_of g found.disks)) some p.shape.disk_of in
+          subst (λ (o : Option Group). IfSome o (λ g. found.disk_of ≡ disks_of g found.disks)) some p.shape.disk_of in
           gone base sizes found p.shape p.whole p.scan settled_is scanned_is cleared_set p.keeps.clears last all_there held parts some copy
-              each all
+          each all
           (none_held held.group held.text reads.read (λ k b there listed.
           let r = read_before (λ id. false) any_bare new p.scan.readings reads.read reads.again k b there in
           let d = disk_read base found.unread 0 found.disks p.scan.readings p.scan.are.each k r.0 r.1 in
@@ -330,11 +335,11 @@ module _ (base image : Image) (sizes : List ℕ) (found : Found) (names : List (
           let h = listed_header held.group new (0 + k) (base (0 + k)) d.0.contents r.0.pv b.pv d.2.pv_is r.2 listed in
           let at : disk_with found.disks h.0.id ≡ k = disk_with_own 0 found.disks p.shape.differ k d.0 h.0 d.1 h.1 in
           let among : set.contains cleared_set (0 + k) ≡ true =
-              ap (λ (s : set.FinSet nat_cmp). set.contains s (0 + k)) cleared_are
-                  ∙ disk_among held.group found.disks found.disk_of listed_are (0 + k) h.0 (at ∙ (let e : k ≡ 0 + k = omega arith in e))
-                  h.2 in
+          ap (λ (s : set.FinSet nat_cmp). set.contains s (0 + k)) cleared_are
+          ∙ disk_among held.group found.disks found.disk_of listed_are (0 + k) h.0 (at ∙ (let e : k ≡ 0 + k = omega arith in e))
+          h.2 in
           subst (λ (o : Reading). PvGives IsNone o.pv) (sym same)
           (pv_emptied new (0 + k) (base (0 + k)) (last (0 + k)) t.own.sectors d.0.contents t.own.contents r.0.pv t.reading.pv d.2.pv_is
-              t.is.pv_is t.is.contents t.own_areas
+          t.is.pv_is t.is.contents t.own_areas
           (subst (λ (o : Reading). PvAgain (λ id. false) any_bare new r.0.pv o.pv) same r.2)
           (disk_emptied found.areas cleared_set last (p.keeps.clears.done base).headers found.disks p.shape.areas k d.0 d.1 among))))

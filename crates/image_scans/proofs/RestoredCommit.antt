@@ -1,6 +1,6 @@
 -- The lines that commit the group of a text in place of the one that was found (vgcfgrestore(8)).
-use Rattle.std.proofs.Common.{◌≡◌, ◌<◌, ℕ, suc, ◌+◌, Bool, true, false, ◌||◌, not, cond, List, [], ◌∷◌, length, map, Option, Some, refl,
-    sym, ap, subst, ◌∙◌, arith}
+use Rattle.std.proofs.Common.{◌≡◌, ◌<◌, ℕ, suc, ◌+◌, Bool, true, false, ◌||◌, not, cond, List, [], ◌∷◌, length, map, Option, Some, refl}
+use Rattle.std.proofs.Common.{sym, ap, subst, ◌∙◌, arith}
 use Rattle.std.specs.List.{AllByRecursion as Each, list_any}
 use Rattle.std.proofs.lemmas.List.Elements.{recursion_from_All}
 use Rattle.meta_model.specs.Standing.{HasTree}
@@ -66,8 +66,10 @@ restores_commits found state is same readings settled change now made accepted t
     let old = old_whole readings found settled made.old there in
     let makes : MakesGroup state (change_with next disks (added_of state [])) (extended next (added_of state [])) =
     makes_group state is next disks []
-    (record { disks_is = same_disks state.disks made.said.pvs;
-        there = all_present state.disks made.said.pvs (recursion_from_All (λ n. n < length state.disks) disks (made.listed is)) })
+    (record {
+      disks_is = same_disks state.disks made.said.pvs;
+      there = all_present state.disks made.said.pvs (recursion_from_All (λ n. n < length state.disks) disks (made.listed is));
+    })
     (made.whole old.0 accepted tree)
     in
     subst (Commits found state) (sym made.change_is)

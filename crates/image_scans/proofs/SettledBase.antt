@@ -1,6 +1,6 @@
 -- A base on which nothing is stale or stray: what each area gives there.
-use Rattle.std.proofs.Common.{◌≡◌, ◌≢◌, ◌<◌, ℕ, ◌+◌, Bool, true, false, ◌||◌, List, [], ◌∷◌, Option, Some, None, Result, Ok, inr, refl, sym,
-    ap, subst, ◌∙◌, arith}
+use Rattle.std.proofs.Common.{◌≡◌, ◌≢◌, ◌<◌, ℕ, ◌+◌, Bool, true, false, ◌||◌, List, [], ◌∷◌, Option, Some, None, Result, Ok, inr, refl, sym}
+use Rattle.std.proofs.Common.{ap, subst, ◌∙◌, arith}
 use Rattle.std.specs.Prelude.{nat_eq}
 use Rattle.std.specs.FinSet as set
 use Rattle.std.specs.List.{list_any}
@@ -19,8 +19,9 @@ use Rattle.disk_contents.specs.declared.contents.AreaFound.{AreaFound}
 use Rattle.disk_contents.specs.declared.contents.PvFound.{PvFound}
 use Rattle.disk_contents.specs.declared.contents.PvFound.TheVariants.{NoLabel, NoHeader, Whole}
 use Rattle.disk_contents.specs.Standing.{area_on}
-use Rattle.scan_rules.specs.Decision.{Area as AreaOf, AreaReading, Conflict, Copy, DuplicatePv, Found as PvOf, FoundGroup, GivesNoLater,
-    Held, HoldsNone, NoCopy, NoGroup, PvShape, Reading, Refused, ScanAnswer, TwoGroups, Unsupported, decide_scan, is_listed}
+use Rattle.scan_rules.specs.Decision.{Area as AreaOf, AreaReading, Conflict, Copy, DuplicatePv, Found as PvOf, FoundGroup, GivesNoLater}
+use Rattle.scan_rules.specs.Decision.{Held, HoldsNone, NoCopy, NoGroup, PvShape, Reading, Refused, ScanAnswer, TwoGroups, Unsupported}
+use Rattle.scan_rules.specs.Decision.{decide_scan, is_listed}
 use Rattle.scan_rules.proofs.Scanning.{same_bytes_tells}
 use Rattle.vg_found.specs.declared.disk.Disk.{Disk}
 use Rattle.vg_found.specs.declared.found.Found.{Found}
@@ -29,8 +30,8 @@ use Rattle.vg_scan.specs.Scans.{IsFoundBy}
 use Rattle.vg_scan.specs.Texts.{IsCopyOf, IsStored, stored_bytes}
 use Rattle.image_scans.proofs.AreaAgain.{NotRefused}
 use Rattle.image_scans.proofs.Decided.{HasNothing, IsFoundWith, found_parts, none_parts}
-use Rattle.image_scans.proofs.AreaReadings.{AreasGive, CopyHas, DisksGive, GivenHas, IsNone, IsSettled, PvGives, best_copy_has, disks_both,
-    disks_weaker, nothing_given, settled}
+use Rattle.image_scans.proofs.AreaReadings.{AreasGive, CopyHas, DisksGive, GivenHas, IsNone, IsSettled, PvGives, best_copy_has, disks_both}
+use Rattle.image_scans.proofs.AreaReadings.{disks_weaker, nothing_given, settled}
 
 -- ---- each copy is that of its text
 
@@ -129,10 +130,10 @@ by_answer readings found copies stale strays (FoundGroup held stale_list stray_l
     in
     let text_copy : IsCopyOf held.text held.group held.passed = best_copy_has IsItsCopy readings copies held parts.best_is in
     let all : DisksGive (IsSettled held.group held.text) readings =
-        settled held.group held.text readings parts.stale_are parts.strays_are in
+    settled held.group held.text readings parts.stale_are parts.strays_are in
     settled_some held parts by.0 text_copy
     (disks_weaker (λ disk r. IsSettled held.group held.text disk r × CopyHas IsItsCopy r) (λ disk. IsNoneOr held.group held.text)
-        (λ disk r has. none_or held.group held.text held.passed text_copy disk r has (is_listed held.group disk) refl) readings
+    (λ disk r has. none_or held.group held.text held.passed text_copy disk r has (is_listed held.group disk) refl) readings
     (disks_both (IsSettled held.group held.text) (λ disk. CopyHas IsItsCopy) readings all copies))
     all
 by_answer readings found copies stale strays (DuplicatePv a b) is by = absurd by

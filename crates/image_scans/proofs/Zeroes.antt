@@ -1,7 +1,7 @@
 -- The zeros of a line: they lie in free extents, so that a scan of an image on their way finds the same, and volumes have their
 -- contents; and they stay where the line's batches are written behind them.
-use Rattle.std.proofs.Common.{◌≡◌, ◌≤◌, ◌<◌, ◌⊎◌, ℕ, ◌^◌, ◌+◌, ◌-◌, ◌/◌, ◌||◌, Bool, true, false, cond, List, [], ◌∷◌, get_or, map, Option,
-    Some, None, inl, inr, ⊎_elim, refl, sym, ap, subst, ◌∙◌, arith}
+use Rattle.std.proofs.Common.{◌≡◌, ◌≤◌, ◌<◌, ◌⊎◌, ℕ, ◌^◌, ◌+◌, ◌-◌, ◌/◌, ◌||◌, Bool, true, false, cond, List, [], ◌∷◌, get_or, map, Option}
+use Rattle.std.proofs.Common.{Some, None, inl, inr, ⊎_elim, refl, sym, ap, subst, ◌∙◌, arith}
 use Rattle.std.specs.Prelude.{All, replicate, slice_index, unwrap_or}
 use Rattle.std.proofs.lemmas.Bool.{cases_Bool, false≢true}
 use Rattle.std.proofs.lemmas.List.{get_or-replicate}
@@ -10,8 +10,8 @@ use Rattle.sector_base.specs.Spans.{covers}
 use Rattle.sector_base.specs.declared.places.At.{At}
 use Rattle.sector_base.specs.declared.spans.Span.{Span}
 use Rattle.command_table.specs.declared.command.Command.{Command}
-use Rattle.command_table.specs.declared.command.Command.TheVariants.{Lvcreate, Lvextend, Lvreduce, Lvremove, Lvrename, Pvcreate,
-    Vgcfgrestore, Vgcreate, Vgextend, Vgreduce, Vgremove, Vgrename}
+use Rattle.command_table.specs.declared.command.Command.TheVariants.{Lvcreate, Lvextend, Lvreduce, Lvremove, Lvrename, Pvcreate}
+use Rattle.command_table.specs.declared.command.Command.TheVariants.{Vgcfgrestore, Vgcreate, Vgextend, Vgreduce, Vgremove, Vgrename}
 use Rattle.lvm_script.specs.declared.line.Line.{Line}
 use Rattle.disk_model.specs.Steps.{Image, value_at}
 use Rattle.mda_header.specs.declared.header.Locn.{Locn}
@@ -76,7 +76,7 @@ zeros_written (span ∷ spans) image pv sector is =
     (λ (here : covers span pv sector ≡ true).
     zeros_written spans (written_on (zero_put span) image) pv sector
     (inr (ap (λ (b : Bool). cond b (value_at span (replicate span.count zeros) sector) (image pv sector)) here
-        ∙ zero_there span pv sector here)))
+    ∙ zero_there span pv sector here)))
     (λ (beside : covers span pv sector ≡ false).
     zeros_written spans (written_on (zero_put span) image) pv sector
     (⊎_elim
@@ -95,15 +95,15 @@ batch_written (span ∷ spans) image pv sector among = zeros_written (span ∷ s
 
 -- what the plan of a line stands on, whatever the disks hold
 pub record IsPlannedOn (found : Found) (names : List (List ℕ)) (backup : Option Backup) (line : Line) (now : ℕ) (given : List Part) : Type 0
-    where
-  pub shape : HasShape found
-  pub whole : IsWhole found
-  pub state : IsState (state_in found names backup)
-  pub held : (group : Group) → found.group ≡ Some group → IsAccepted group × HasTree group
-  pub planned : IsPlanned line.id line.command
-  pub time : now < 2 ^ 48
-  pub takes : Takes (asks_of (state_in found names backup) line) given
-  pub passes : refusal_of (state_in found names backup) line now given ≡ None
+  where
+    pub shape : HasShape found
+    pub whole : IsWhole found
+    pub state : IsState (state_in found names backup)
+    pub held : (group : Group) → found.group ≡ Some group → IsAccepted group × HasTree group
+    pub planned : IsPlanned line.id line.command
+    pub time : now < 2 ^ 48
+    pub takes : Takes (asks_of (state_in found names backup) line) given
+    pub passes : refusal_of (state_in found names backup) line now given ≡ None
 
 module _ (found : Found) (names : List (List ℕ)) (backup : Option Backup) (line : Line) (now : ℕ) (given : List Part)
     (on : IsPlannedOn found names backup line now given) where
@@ -122,14 +122,14 @@ module _ (found : Found) (names : List (List ℕ)) (backup : Option Backup) (lin
           → ZeroesLie found (change_of (state_in found names backup) (line_of command) now given)
       none_lie command planned other disk sector is =
           absurd (false≢true (ap (λ (spans : List Span). in_spans spans disk sector)
-              (sym (none_zeroed (state_in found names backup) line.number line.id command now given planned other)) ∙ is))
+          (sym (none_zeroed (state_in found names backup) line.number line.id command now given planned other)) ∙ is))
 
       zeroes_by : (command : Command) → IsPlanned line.id command → Takes (asks_of (state_in found names backup) (line_of command)) given
           → refusal_of (state_in found names backup) (line_of command) now given ≡ None
           → ZeroesLie found (change_of (state_in found names backup) (line_of command) now given)
       zeroes_by (Lvcreate new) planned takes passes =
           new_lie found names backup (unwrap_or line.id []) new now given on.shape on.whole on.state on.held planned.1 on.time
-              (drawn_is line.id planned.0) takes passes
+          (drawn_is line.id planned.0) takes passes
       zeroes_by (Pvcreate pv copies) planned takes passes = none_lie (Pvcreate pv copies) planned refl
       zeroes_by (Vgcreate vg extent_size pvs) planned takes passes = none_lie (Vgcreate vg extent_size pvs) planned refl
       zeroes_by (Vgextend vg pvs) planned takes passes = none_lie (Vgextend vg pvs) planned refl
@@ -153,7 +153,7 @@ module _ (found : Found) (names : List (List ℕ)) (backup : Option Backup) (lin
       in
       subst (IsPlaceOn found.disks disk) lies.sector_is
       (subst (λ (n : ℕ). IsPlaceOn found.disks n lies.at.sector)
-          (ap (λ (l' : List ℕ). slice_index l' lies.at.pv) (sym (found_listed found on.shape l.0 l.1)) ∙ lies.disk_is) place)
+      (ap (λ (l' : List ℕ). slice_index l' lies.at.pv) (sym (found_listed found on.shape l.0 l.1)) ∙ lies.disk_is) place)
 
   -- ---- an image on their way
 
@@ -164,7 +164,7 @@ module _ (found : Found) (names : List (List ℕ)) (backup : Option Backup) (lin
         ⊎_elim
         (λ same. inl same)
         (λ by. inr (written_of disk sector zero_put change.zero (image disk sector)
-            (any_if (map zero_put change.zero) disk sector (image disk sector) by)))
+        (any_if (map zero_put change.zero) disk sector (image disk sector) by)))
         (front_or (zeros_of (state_in found names backup) line now given) base image disk sector h)
 
     same_or_beside : (disk sector : ℕ) → (image disk sector ≡ base disk sector) ⊎ IsPlaceOn found.disks disk sector
@@ -176,14 +176,14 @@ module _ (found : Found) (names : List (List ℕ)) (backup : Option Backup) (lin
         let area : Area × Option Locn = get_or found.areas k d in
         let held : IsHeldOn found.disks area =
         subst (All (IsHeldOn found.disks)) (sym on.shape.areas) (all_held found.disks (λ pv disk there. (on.shape.disks pv disk there).0)) k
-            d within
+        d within
         in
         let first : ℕ = area.0.start / 512 + 0 in
         let ring : 1536 ≤ area.0.size = (on.shape.take k d within).0.has_ring in
         ⊎_elim
         (λ same. subst (Names area.0 area.1) (sym same) (shows k d within))
         (λ place. absurd (beside_areas found.disks (λ pv disk there. (on.shape.disks pv disk there).0) area.0.pv first place area held refl
-            (omega arith) (omega (arith, ring))))
+        (omega arith) (omega (arith, ring))))
         (same_or_beside area.0.pv first)
 
 module _ (base : Image) (sizes : List ℕ) (found : Found) (names : List (List ℕ)) (backup : Option Backup) (line : Line) (now : ℕ)
@@ -229,12 +229,12 @@ module _ (base : Image) (sizes : List ℕ) (found : Found) (names : List (List �
         let lies : LiesInExtents l.0 found.disk_of disk sector = l.2.lies in
         subst (λ (n : ℕ). All (KeepsSector n sector) (batches_of (state_in found names backup) line now given)) lies.disk_is
         (subst (λ (n : ℕ). All (KeepsSector (slice_index found.disk_of lies.at.pv) n)
-            (batches_of (state_in found names backup) line now given)) lies.sector_is
+        (batches_of (state_in found names backup) line now given)) lies.sector_is
         (extent_outside base sizes found names backup line now given p l.0 l.1 lies.at lies.extents))
 
     pub zeroes_kept : (disk sector : ℕ) → in_spans (change_of (state_in found names backup) line now given).zero disk sector ≡ true
         → image disk sector ≡ zeros
     zeroes_kept disk sector is =
         front_kept (batches_of (state_in found names backup) line now given)
-            (with_batches (zeros_of (state_in found names backup) line now given) base) image disk sector (outside disk sector is) h
+        (with_batches (zeros_of (state_in found names backup) line now given) base) image disk sector (outside disk sector is) h
         ∙ batch_written (change_of (state_in found names backup) line now given).zero base disk sector is

@@ -1,6 +1,6 @@
 -- What a scan of the disks finds in every image on the way of a line's change, and that volumes keep their contents.
-use Rattle.std.specs.Prelude.{◌≡◌, ◌≢◌, ◌≤◌, ◌<◌, ◌⊎◌, ℕ, ◌^◌, ◌+◌, ◌*◌, ◌==◌, Bool, true, false, IsTrue, if◌then◌else◌, List, [], length,
-    take, replicate, slice_get, slice_index, filter_map, flat_map, map, option_map, All, Option, None, Some}
+use Rattle.std.specs.Prelude.{◌≡◌, ◌≢◌, ◌≤◌, ◌<◌, ◌⊎◌, ℕ, ◌^◌, ◌+◌, ◌*◌, ◌==◌, Bool, true, false, IsTrue, if◌then◌else◌, List, [], length}
+use Rattle.std.specs.Prelude.{take, replicate, slice_get, slice_index, filter_map, flat_map, map, option_map, All, Option, None, Some}
 use Rattle.std.specs.FinSet as set
 use Rattle.std.specs.List.{enumerate_from, list_any, range_with_len}
 use Rattle.sector_base.specs.Spans.{covers}
@@ -83,13 +83,13 @@ FindsAtEnd sizes image found change (Some group) = FindsVersion sizes image none
 abbrev pub BaseScans : Type 0
 BaseScans =
     (base : Image) (sizes : List ℕ) (found : Found) → IsScanOf base sizes found → IsWhole found
-        → FindsVersion sizes base none_out (version_in found)
+    → FindsVersion sizes base none_out (version_in found)
 
 -- every image on the way of the line's batches
 abbrev pub ImagesScan : Type 0
 ImagesScan =
     (base image : Image) (sizes : List ℕ) (found : Found) (names : List (List ℕ)) (backup : Option Backup) (line : Line) (now : ℕ)
-        (given : List Part) → CanCarryOut base sizes found names backup line now given
+    (given : List Part) → CanCarryOut base sizes found names backup line now given
     → HasFirstBatches (batches_of (state_in found names backup) line now given) base image
     → FindsOnTheWay sizes image found (change_of (state_in found names backup) line now given)
     (change_of (state_in found names backup) line now given).group
@@ -98,7 +98,7 @@ ImagesScan =
 abbrev pub UnpublishedScans : Type 0
 UnpublishedScans =
     (base image : Image) (sizes : List ℕ) (found : Found) (names : List (List ℕ)) (backup : Option Backup) (line : Line) (now : ℕ)
-        (given : List Part) (n : ℕ) (group : Group) → CanCarryOut base sizes found names backup line now given
+    (given : List Part) (n : ℕ) (group : Group) → CanCarryOut base sizes found names backup line now given
     → (change_of (state_in found names backup) line now given).group ≡ Some group
     → n < length (batches_of (state_in found names backup) line now given)
     → HasFirstBatches (take n (batches_of (state_in found names backup) line now given)) base image
@@ -108,7 +108,7 @@ UnpublishedScans =
 abbrev pub LastScans : Type 0
 LastScans =
     (base : Image) (sizes : List ℕ) (found : Found) (names : List (List ℕ)) (backup : Option Backup) (line : Line) (now : ℕ)
-        (given : List Part) → CanCarryOut base sizes found names backup line now given
+    (given : List Part) → CanCarryOut base sizes found names backup line now given
     → FindsAtEnd sizes (with_batches (batches_of (state_in found names backup) line now given) base) found
     (change_of (state_in found names backup) line now given) (change_of (state_in found names backup) line now given).group
 
@@ -122,7 +122,7 @@ place_of group disk_of lv sector = option_map (λ (at : At). (slice_index disk_o
 abbrev pub places_in : Group → List ℕ → ℕ × (List ℕ × Lv) → List (ℕ × ℕ)
 places_in group disk_of lv =
     if lv.1.1.status.visible then filter_map (place_of group disk_of lv.0) (range_with_len 0 (extents_of lv.1.1 * group.extent_size))
-        else []
+    else []
 
 -- those of all visible volumes
 abbrev pub visible_places : Group → List ℕ → List (ℕ × ℕ)
@@ -136,7 +136,7 @@ IsOutside batch place = writes_at (map write_work batch) place.0 place.1 ≡ fal
 abbrev pub PlacesAreOutside : Type 0
 PlacesAreOutside =
     (base : Image) (sizes : List ℕ) (found : Found) (names : List (List ℕ)) (backup : Option Backup) (line : Line) (now : ℕ)
-        (given : List Part) (group : Group) → CanCarryOut base sizes found names backup line now given → found.group ≡ Some group
+    (given : List Part) (group : Group) → CanCarryOut base sizes found names backup line now given → found.group ≡ Some group
     → All (λ (batch : List Put). All (IsOutside batch) (visible_places group found.disk_of))
     (batches_of (state_in found names backup) line now given)
 
@@ -144,7 +144,7 @@ PlacesAreOutside =
 abbrev pub PlacesAreKept : Type 0
 PlacesAreKept =
     (base image : Image) (sizes : List ℕ) (found : Found) (names : List (List ℕ)) (backup : Option Backup) (line : Line) (now : ℕ)
-        (given : List Part) (group : Group) → CanCarryOut base sizes found names backup line now given → found.group ≡ Some group
+    (given : List Part) (group : Group) → CanCarryOut base sizes found names backup line now given → found.group ≡ Some group
     → HasFirstBatches (batches_of (state_in found names backup) line now given) base image
     → (lv sector : ℕ) (at : At) → primary group lv sector ≡ Some at → at_place image found.disk_of at ≡ at_place base found.disk_of at
 
@@ -152,7 +152,7 @@ PlacesAreKept =
 abbrev pub ViewIsKept : Type 0
 ViewIsKept =
     (base image : Image) (sizes : List ℕ) (found : Found) (names : List (List ℕ)) (backup : Option Backup) (line : Line) (now : ℕ)
-        (given : List Part) (group : Group) → CanCarryOut base sizes found names backup line now given → found.group ≡ Some group
+    (given : List Part) (group : Group) → CanCarryOut base sizes found names backup line now given → found.group ≡ Some group
     → HasFirstBatches (batches_of (state_in found names backup) line now given) base image
     → view image group found.disk_of ≡ view base group found.disk_of
 
@@ -185,27 +185,27 @@ in_spans spans disk sector = list_any (λ (span : Span). covers span disk sector
 abbrev pub ZeroesLie : Found → Change → Type 0
 ZeroesLie found change =
     (disk sector : ℕ) → IsTrue (in_spans change.zero disk sector)
-        → (group : Group) × (found.group ≡ Some group) × IsFree group found.disk_of disk sector
+    → (group : Group) × (found.group ≡ Some group) × IsFree group found.disk_of disk sector
 
 -- so it is of a line
 abbrev pub LineZeroesLie : Type 0
 LineZeroesLie =
     (base : Image) (sizes : List ℕ) (found : Found) (names : List (List ℕ)) (backup : Option Backup) (line : Line) (now : ℕ)
-        (given : List Part) → CanCarryOut base sizes found names backup line now given
+    (given : List Part) → CanCarryOut base sizes found names backup line now given
     → ZeroesLie found (change_of (state_in found names backup) line now given)
 
 -- every image on the way of the zeros: a scan finds the same as before
 abbrev pub ZeroesScan : Type 0
 ZeroesScan =
     (base image : Image) (sizes : List ℕ) (found : Found) (names : List (List ℕ)) (backup : Option Backup) (line : Line) (now : ℕ)
-        (given : List Part) → CanCarryOut base sizes found names backup line now given
+    (given : List Part) → CanCarryOut base sizes found names backup line now given
     → HasFirstBatches (zeros_of (state_in found names backup) line now given) base image → IsScanOf image sizes found
 
 -- and each primary place of a volume has what it has in the base
 abbrev pub ZeroesKeepPlaces : Type 0
 ZeroesKeepPlaces =
     (base image : Image) (sizes : List ℕ) (found : Found) (names : List (List ℕ)) (backup : Option Backup) (line : Line) (now : ℕ)
-        (given : List Part) (group : Group) → CanCarryOut base sizes found names backup line now given → found.group ≡ Some group
+    (given : List Part) (group : Group) → CanCarryOut base sizes found names backup line now given → found.group ≡ Some group
     → HasFirstBatches (zeros_of (state_in found names backup) line now given) base image
     → (lv sector : ℕ) (at : At) → primary group lv sector ≡ Some at → at_place image found.disk_of at ≡ at_place base found.disk_of at
 
@@ -213,7 +213,7 @@ ZeroesKeepPlaces =
 abbrev pub ZeroesAreKept : Type 0
 ZeroesAreKept =
     (base image : Image) (sizes : List ℕ) (found : Found) (names : List (List ℕ)) (backup : Option Backup) (line : Line) (now : ℕ)
-        (given : List Part) → CanCarryOut base sizes found names backup line now given
+    (given : List Part) → CanCarryOut base sizes found names backup line now given
     → HasFirstBatches (batches_of (state_in found names backup) line now given)
     (with_batches (zeros_of (state_in found names backup) line now given) base) image
     → (disk sector : ℕ) → IsTrue (in_spans (change_of (state_in found names backup) line now given).zero disk sector)
@@ -225,7 +225,7 @@ ZeroesAreKept =
 abbrev pub ClearsScan : Type 0
 ClearsScan =
     (base image : Image) (sizes : List ℕ) (found : Found) (names : List (List ℕ)) (backup : Option Backup) (line : Line) (now : ℕ)
-        (given : List Part) (group : Group) → CanCarryOut base sizes found names backup line now given
+    (given : List Part) (group : Group) → CanCarryOut base sizes found names backup line now given
     → (change_of (state_in found names backup) line now given).group ≡ Some group
     → HasFirstBatches (clears_of (state_in found names backup) line now given)
     (with_batches (batches_of (state_in found names backup) line now given) base) image
@@ -235,7 +235,7 @@ ClearsScan =
 abbrev pub ClearsKeepPlaces : Type 0
 ClearsKeepPlaces =
     (base mid image : Image) (sizes : List ℕ) (found : Found) (names : List (List ℕ)) (backup : Option Backup) (line : Line) (now : ℕ)
-        (given : List Part) (group : Group) → CanCarryOut base sizes found names backup line now given → found.group ≡ Some group
+    (given : List Part) (group : Group) → CanCarryOut base sizes found names backup line now given → found.group ≡ Some group
     → HasFirstBatches (clears_of (state_in found names backup) line now given) mid image
     → (lv sector : ℕ) (at : At) → primary group lv sector ≡ Some at → at_place image found.disk_of at ≡ at_place mid found.disk_of at
 
@@ -243,7 +243,7 @@ ClearsKeepPlaces =
 abbrev pub RemovalScans : Type 0
 RemovalScans =
     (base image : Image) (sizes : List ℕ) (found : Found) (names : List (List ℕ)) (backup : Option Backup) (line : Line) (now : ℕ)
-        (given : List Part) (vg : List ℕ) → CanCarryOut base sizes found names backup line now given → line.command ≡ Vgremove vg
+    (given : List Part) (vg : List ℕ) → CanCarryOut base sizes found names backup line now given → line.command ≡ Vgremove vg
     → HasFirstBatches (clears_of (state_in found names backup) line now given) base image
     → FindsVersion sizes image none_out (version_in found) ⊎ FindsVersion sizes image none_out None
 
@@ -251,5 +251,5 @@ RemovalScans =
 abbrev pub RemovedScans : Type 0
 RemovedScans =
     (base : Image) (sizes : List ℕ) (found : Found) (names : List (List ℕ)) (backup : Option Backup) (line : Line) (now : ℕ)
-        (given : List Part) (vg : List ℕ) → CanCarryOut base sizes found names backup line now given → line.command ≡ Vgremove vg
+    (given : List Part) (vg : List ℕ) → CanCarryOut base sizes found names backup line now given → line.command ≡ Vgremove vg
     → FindsVersion sizes (with_batches (clears_of (state_in found names backup) line now given) base) none_out None

@@ -5,8 +5,8 @@ use Rattle.std.proofs.Common.{refl}
 use Rattle.lvm_id.specs.LvmId.{hyphen_form}
 use Rattle.command_table.specs.Options.{Word}
 use Rattle.line_answers.specs.declared.answer.Answer.{Answer}
-use Rattle.line_answers.specs.declared.answer.Answer.TheVariants.{Fine, Read, Listed, Refused, ReadFailed, PvFailed, Fenced, Stopped,
-    Aborted, NoMemory}
+use Rattle.line_answers.specs.declared.answer.Answer.TheVariants.{Fine, Read, Listed, Refused, ReadFailed, PvFailed, Fenced, Stopped}
+use Rattle.line_answers.specs.declared.answer.Answer.TheVariants.{Aborted, NoMemory}
 use Rattle.line_answers.specs.declared.op_refusal.OpRefusal.{OpRefusal}
 use Rattle.line_answers.specs.declared.op_refusal.OpRefusal.TheVariants as refusal
 use Rattle.line_answers.specs.Answers.{answer_text, token}

@@ -1,6 +1,6 @@
 -- The hex digits of bytes.
-use Rattle.std.proofs.Common.{◌≡◌, ◌<◌, ◌≤◌, ◌-◌, ◌/◌, ◌%◌, ℕ, List, [], ◌∷◌, Result, Ok, length, reverse, refl, ap, sym, subst, ◌∙◌, ◌⊎◌,
-    inl, inr, arith, suc}
+use Rattle.std.proofs.Common.{◌≡◌, ◌<◌, ◌≤◌, ◌-◌, ◌/◌, ◌%◌, ℕ, List, [], ◌∷◌, Result, Ok, length, reverse, refl, ap, sym, subst, ◌∙◌, ◌⊎◌}
+use Rattle.std.proofs.Common.{inl, inr, arith, suc}
 use Rattle.std.proofs.lemmas.Bool.{cases_lt}
 use Rattle.std.proofs.lemmas.List.{get_or-reverse, get_or_past, length-reverse}
 use Rattle.std.proofs.lemmas.List.FromFn.{get_or-map-range_with_len}
@@ -18,7 +18,7 @@ hex_text [] fits = refl
 hex_text (byte ∷ bytes) fits =
     let fit = fits 0 in
     rw (digit (byte / 16) (omega (arith, fit)), digit (byte % 16) (omega (arith, fit)))
-        (ap (λ text. hex_digit (byte / 16) ∷ hex_digit (byte % 16) ∷ text) (hex_text bytes (λ i. fits (suc i))))
+    (ap (λ text. hex_digit (byte / 16) ∷ hex_digit (byte % 16) ∷ text) (hex_text bytes (λ i. fits (suc i))))
 
 -- bytes in the other order are bytes
 pub are_bytes-reverse : (bytes : List ℕ) → IsBytes bytes → IsBytes (reverse bytes)

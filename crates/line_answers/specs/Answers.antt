@@ -1,13 +1,13 @@
 -- How the answers of lines are printed, and their refusals.
-use Rattle.std.specs.Prelude.{ℕ, ◌+◌, ◌/◌, ◌%◌, Bool, nat_lt, if◌then◌else◌, List, [], ◌∷◌, ◌++◌, codes, decimal, flat_map, take, drop,
-    reverse, slice_index_or}
+use Rattle.std.specs.Prelude.{ℕ, ◌+◌, ◌/◌, ◌%◌, Bool, nat_lt, if◌then◌else◌, List, [], ◌∷◌, ◌++◌, codes, decimal, flat_map, take, drop}
+use Rattle.std.specs.Prelude.{reverse, slice_index_or}
 use Rattle.std.specs.Str.{bytes_eq}
 use Rattle.sector_base.specs.Shown.{Value, number, shown_text, text}
 use Rattle.lvm_id.specs.LvmId.{hyphen_form}
 use Rattle.command_table.specs.Options.{Word}
 use Rattle.line_answers.specs.declared.answer.Answer.{Answer}
-use Rattle.line_answers.specs.declared.answer.Answer.TheVariants.{Fine, Read, Listed, Refused, ReadFailed, PvFailed, Fenced, Stopped,
-    Aborted, NoMemory}
+use Rattle.line_answers.specs.declared.answer.Answer.TheVariants.{Fine, Read, Listed, Refused, ReadFailed, PvFailed, Fenced, Stopped}
+use Rattle.line_answers.specs.declared.answer.Answer.TheVariants.{Aborted, NoMemory}
 use Rattle.line_answers.specs.declared.op_refusal.OpRefusal.{OpRefusal}
 use Rattle.line_answers.specs.declared.op_refusal.OpRefusal.TheVariants as refusal
 use Rattle.line_answers.specs.declared.shown.Shown.{Shown}

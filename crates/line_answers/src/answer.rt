@@ -5,8 +5,8 @@ ghost use Rattle.byte_streams.specs.Streams.{WritesText};
 ghost use Rattle.line_answers.specs.Answers.{answer_text, shown_op, token};
 
 use crate::token::write_token;
-use byte_streams::{Failed, Sink, write_all, write_bytes, write_number};
 use crate::{DiskNames, OpRefusal};
+use byte_streams::{Failed, Sink, write_all, write_bytes, write_number};
 use sector_base::{Bytes512, ItemList, Sectors, Text};
 
 /// Names of volumes with how many sectors they have.

@@ -4,9 +4,9 @@ ghost use Rattle.sector_base.specs.Shown.{number, shown_text, text};
 ghost use Rattle.byte_streams.specs.Streams.{WritesText};
 ghost use Rattle.line_answers.specs.Answers.{disk, shown_op};
 
+use crate::DiskNames;
 use crate::shown::{Shown, write_kind};
 use byte_streams::{Failed, Sink};
-use crate::DiskNames;
 use lvm_id::LvmId;
 use sector_base::Text;
 

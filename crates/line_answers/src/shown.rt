@@ -4,8 +4,7 @@ ghost use Rattle.sector_base.specs.Shown.{shown_text, value_text};
 ghost use Rattle.byte_streams.specs.Streams.{WritesText};
 ghost use Rattle.line_answers.specs.Answers.{value_of};
 
-use byte_streams::write_number;
-use byte_streams::{Failed, Sink, write_bytes};
+use byte_streams::{Failed, Sink, write_bytes, write_number};
 
 /// A value of a refusal.
 #[derive(Clone, Copy, Debug)]

@@ -1,6 +1,6 @@
 -- The version that a line commits has the volumes that its command makes of those that were found.
-use Rattle.std.proofs.Common.{◌≡◌, ℕ, zero, suc, ◌+◌, ◌*◌, List, [], ◌∷◌, ◌++◌, map, Option, Some, None, true, false, refl, sym, ap, subst,
-    ◌∙◌}
+use Rattle.std.proofs.Common.{◌≡◌, ℕ, zero, suc, ◌+◌, ◌*◌, List, [], ◌∷◌, ◌++◌, map, Option, Some, None, true, false, refl, sym, ap, subst}
+use Rattle.std.proofs.Common.{◌∙◌}
 use Rattle.std.specs.Prelude.{IfSome, IsSomeAnd, option_map, slice_get, slice_index, unwrap_or}
 use Rattle.std.specs.Option.{option_map_or}
 use Rattle.std.proofs.lemmas.Option.{same_Some}
@@ -9,8 +9,8 @@ use Rattle.std.proofs.lemmas.Option.{slice_get-map}
 use Rattle.command_table.specs.declared.amount.Amount.{Amount}
 use Rattle.command_table.specs.declared.amount.Growth.{Growth}
 use Rattle.command_table.specs.declared.command.Command.{Command}
-use Rattle.command_table.specs.declared.command.Command.TheVariants.{Lvcreate, Lvextend, Lvreduce, Lvremove, Lvrename, Pvcreate,
-    Vgcfgrestore, Vgcreate, Vgextend, Vgreduce, Vgremove, Vgrename}
+use Rattle.command_table.specs.declared.command.Command.TheVariants.{Lvcreate, Lvextend, Lvreduce, Lvremove, Lvrename, Pvcreate}
+use Rattle.command_table.specs.declared.command.Command.TheVariants.{Vgcfgrestore, Vgcreate, Vgextend, Vgreduce, Vgremove, Vgrename}
 use Rattle.command_table.specs.declared.command.NewVolume.{NewVolume}
 use Rattle.command_table.specs.declared.command.Path.{Path}
 use Rattle.line_answers.specs.declared.op_refusal.OpRefusal.{OpRefusal}
@@ -137,9 +137,9 @@ module _ (found : Found) (names : List (List ℕ)) (backup : Option Backup) wher
   unfolding extended volumes_of
   create_keeps id vg extent_size pvs change group none is =
       let before : version_in found ≡ None =
-          ap (λ (o : Option Group). option_map (λ (g : Group). record { group = g; disk_of = disks_of g found.disks }) o) none in
+      ap (λ (o : Option Group). option_map (λ (g : Group). record { group = g; disk_of = disks_of g found.disks }) o) none in
       subst (λ (g : Group). ChangesVolumes (Vgcreate vg extent_size pvs) (version_in found) (Some (version_of g change))) is
-          (sym (ap volumes_of before), refl)
+      (sym (ap volumes_of before), refl)
 
   -- the version of a group that was found
   abbrev was : Group → Version
@@ -156,7 +156,7 @@ module _ (found : Found) (names : List (List ℕ)) (backup : Option Backup) wher
       → ChangesVolumes command (version_in found) (Some (version_of group (version_change state next)))
   of_version command next changes group is =
       subst (λ (g : Group). ChangesVolumes command (version_in found) (Some (version_of g (version_change state next))))
-          (same_Some next group is) changes
+      (same_Some next group is) changes
 
   where_found : (command : Command) (change : Group → Change) (o : Option Group) → found.group ≡ o
       → ((old : Group) → found.group ≡ Some old → (group : Group) → (change old).group ≡ Some group
@@ -195,7 +195,7 @@ module _ (found : Found) (names : List (List ℕ)) (backup : Option Backup) wher
         let after : Version = record { group = with_pvs old (old.seqno + 1) more; disk_of = found.disk_of ++ disks_added all } in
         let disks : KeepsDisks (was old) after =
         λ k pv is. ap (λ (l : List ℕ). slice_index (l ++ disks_added all) k) (listed old there)
-            ∙ index_front (λ (pv : List ℕ × Pv). disk_with found.disks pv.1.id) old.pvs (disks_added all) k pv is
+        ∙ index_front (λ (pv : List ℕ × Pv). disk_with found.disks pv.1.id) old.pvs (disks_added all) k pv is
         in (
           volumes_kept (was old) after (accepted old there) disks refl
               (primary_kept old (old.seqno + 1) more (added_kept old.lvs old.extent_size old.pvs all)) refl
@@ -228,9 +228,11 @@ module _ (found : Found) (names : List (List ℕ)) (backup : Option Backup) wher
     leave_changes vg pv old number there unused = (
       ap (λ (l : List ℕ). volumes_of (Some (record { group = without_pv old number; disk_of = remove l number }))) (listed old there)
           ∙ volumes_left (was old) number unused (accepted old there)
-          (λ k row is. (disk_with found.disks row.1.id,
-          slice_get-map (λ (r : List ℕ × Pv). disk_with found.disks r.1.id) old.pvs k
-          ∙ ap (option_map (λ (r : List ℕ × Pv). disk_with found.disks r.1.id)) is))
+          (λ k row is. (
+            disk_with found.disks row.1.id,
+            slice_get-map (λ (r : List ℕ × Pv). disk_with found.disks r.1.id) old.pvs k
+                ∙ ap (option_map (λ (r : List ℕ × Pv). disk_with found.disks r.1.id)) is,
+          ))
           ∙ sym (ap volumes_of (version_found old there)),
       sym (ap group_name (version_found old there)),
     )
@@ -239,11 +241,11 @@ module _ (found : Found) (names : List (List ℕ)) (backup : Option Backup) wher
         → ChangesVolumes (Vgreduce vg pv) (version_in found) (Some (version_of group change))
     left_by vg pv change now left =
         subst (λ (c : Change). (group : Group) → c.group ≡ Some group
-            → ChangesVolumes (Vgreduce vg pv) (version_in found) (Some (version_of group c))) (sym left.change_is)
+        → ChangesVolumes (Vgreduce vg pv) (version_in found) (Some (version_of group c))) (sym left.change_is)
         (λ group is.
         subst (λ (g : Group). ChangesVolumes (Vgreduce vg pv) (version_in found)
-            (Some (record { group = g; disk_of = remove found.disk_of left.number })))
-            (same_Some (without_pv left.old left.number) group is)
+        (Some (record { group = g; disk_of = remove found.disk_of left.number })))
+        (same_Some (without_pv left.old left.number) group is)
         (leave_changes vg pv left.old left.number left.there left.may.unused))
 
     -- lvrename: a visible volume has another name
@@ -277,9 +279,9 @@ module _ (found : Found) (names : List (List ℕ)) (backup : Option Backup) wher
         → ChangesVolumes (Lvremove path) (version_in found) (Some (version_of group (remove_change state path.lv old)))
     removed_by path old there v seen =
         subst (λ (change : Change). (group : Group) → change.group ≡ Some group
-            → ChangesVolumes (Lvremove path) (version_in found) (Some (version_of group change)))
+        → ChangesVolumes (Lvremove path) (version_in found) (Some (version_of group change)))
         (sym (ap (λ (o : Option (ℕ × Lv)). option_map_or (λ (x : ℕ × Lv). version_change state (without_volume old x.0)) o
-            (no_change state)) seen))
+        (no_change state)) seen))
         (of_version (Lvremove path) (without_volume old v.0) (remove_changes path old there v seen))
 
     -- lvreduce: it has its first extents alone
@@ -305,9 +307,9 @@ module _ (found : Found) (names : List (List ℕ)) (backup : Option Backup) wher
         → ChangesVolumes (Lvreduce path amount) (version_in found) (Some (version_of group (reduce_change state path.lv amount old)))
     reduced_by path amount old there v seen =
         subst (λ (change : Change). (group : Group) → change.group ≡ Some group
-            → ChangesVolumes (Lvreduce path amount) (version_in found) (Some (version_of group change)))
+        → ChangesVolumes (Lvreduce path amount) (version_in found) (Some (version_of group change)))
         (sym (ap (λ (o : Option (ℕ × Lv)). option_map_or (λ (x : ℕ × Lv). version_change state (reduced_group path.lv amount old x.1)) o
-            (no_change state)) seen))
+        (no_change state)) seen))
         (of_version (Lvreduce path amount) (reduced_group path.lv amount old v.1) (reduce_changes path amount old there v seen))
 
     -- lvextend: it has more behind its own extents
@@ -317,9 +319,9 @@ module _ (found : Found) (names : List (List ℕ)) (backup : Option Backup) wher
         (Some (version_of (longer_volume path.lv given old) (version_change state (longer_volume path.lv given old))))
     extended_by path growth pvs given old there v seen =
         subst (λ (before : Option Version). ChangesVolumes (Lvextend path growth pvs) before
-            (Some (on_disks (longer_volume path.lv given old)))) (sym (version_found old there))
+        (Some (on_disks (longer_volume path.lv given old)))) (sym (version_found old there))
         (extend_changes path growth pvs given (was old) found.disk_of (accepted old there)
-            (same_disks old (longer_volume path.lv given old) there) (trees old there) v seen)
+        (same_disks old (longer_volume path.lv given old) there) (trees old there) v seen)
 
     -- vgcfgrestore: the volumes of its text
     restored_by : (vg text : List ℕ) (change : Change) (now : ℕ) → IsBackupOf (Vgcfgrestore vg text) backup → Restores state change now
@@ -329,16 +331,16 @@ module _ (found : Found) (names : List (List ℕ)) (backup : Option Backup) wher
         let sound = sound_tree text made.said (subst (λ (b : Option Backup). IsBackupOf (Vgcfgrestore vg text) b) made.gives gives_back) in
         let whole = made.whole (accepted made.old made.there) sound.0 sound.1 in
         subst (λ (c : Change). (group : Group) → c.group ≡ Some group
-            → ChangesVolumes (Vgcfgrestore vg text) (version_in found) (Some (version_of group c))) (sym made.change_is)
+        → ChangesVolumes (Vgcfgrestore vg text) (version_in found) (Some (version_of group c))) (sym made.change_is)
         (λ group is.
         subst (λ (g : Group). ChangesVolumes (Vgcfgrestore vg text) (version_in found)
-            (Some (record { group = g; disk_of = disks_of made.said found.disks })))
-            (same_Some (restored_group made.old made.said) group is)
+        (Some (record { group = g; disk_of = disks_of made.said found.disks })))
+        (same_Some (restored_group made.old made.said) group is)
         (subst (λ (before : Option Version). ChangesVolumes (Vgcfgrestore vg text) before
-            (Some (record { group = restored_group made.old made.said; disk_of = disks_of made.said found.disks })))
+        (Some (record { group = restored_group made.old made.said; disk_of = disks_of made.said found.disks })))
         (sym (version_found made.old made.there))
-            (restore_changes vg text (was made.old) made.said (disks_of made.said found.disks) (trees made.old made.there) whole.accepted
-            made.same_name)))
+        (restore_changes vg text (was made.old) made.said (disks_of made.said found.disks) (trees made.old made.there) whole.accepted
+        made.same_name)))
 
     -- lvcreate: there is one volume more
     created_by : (id : List ℕ) (new : NewVolume) (now : ℕ) (given : List Part) (made : Creates state id new now given)
@@ -346,9 +348,9 @@ module _ (found : Found) (names : List (List ℕ)) (backup : Option Backup) wher
         (Some (version_of (created_group id new now given made.old) (version_change state (created_group id new now given made.old))))
     created_by id new now given made =
         subst (λ (before : Option Version). ChangesVolumes (Lvcreate new) before
-            (Some (on_disks (created_group id new now given made.old)))) (sym (version_found made.old made.there))
+        (Some (on_disks (created_group id new now given made.old)))) (sym (version_found made.old made.there))
         (create_changes new (new_lv id (kind_for new) given now) (was made.old) found.disk_of (accepted made.old made.there)
-            (same_disks made.old (created_group id new now given made.old) made.there) refl made.free)
+        (same_disks made.old (created_group id new now given made.old) made.there) refl made.free)
 
     -- the rows of an lvextend on its volume
     abbrev extend_rows_on : Path → Growth → List (List ℕ) → ℕ → List Part → Group → ℕ × Lv → List (Option OpRefusal)
@@ -364,8 +366,8 @@ module _ (found : Found) (names : List (List ℕ)) (backup : Option Backup) wher
     by_command number id (Pvcreate pv copies) now given planned gives_back takes passes group is = absurd cc
     by_command number id (Vgcreate vg extent_size pvs) now given planned gives_back takes passes group is =
         create_keeps (unwrap_or id []) vg extent_size pvs
-            (change_of state (record { number = number; id = id; command = Vgcreate vg extent_size pvs }) now given) group
-            (none_found vg _ found.group passes)
+        (change_of state (record { number = number; id = id; command = Vgcreate vg extent_size pvs }) now given) group
+        (none_found vg _ found.group passes)
         (same_Some (extended (empty_group (unwrap_or id []) vg extent_size) (added_of state pvs)) group is)
     by_command number id (Vgextend vg pvs) now given planned gives_back takes passes group is =
         extend_keeps vg pvs found.group refl group is
@@ -374,49 +376,49 @@ module _ (found : Found) (names : List (List ℕ)) (backup : Option Backup) wher
     by_command number id (Vgremove vg) now given planned gives_back takes passes group is = absurd cc
     by_command number id (Vgrename vg new) now given planned gives_back takes passes group is =
         where_found (Vgrename vg new) (λ g. version_change state (renamed_group g new)) found.group refl
-            (λ old there. of_version (Vgrename vg new) (renamed_group old new) (named_keeps vg new old there)) group is
+        (λ old there. of_version (Vgrename vg new) (renamed_group old new) (named_keeps vg new old there)) group is
     by_command number id (Lvrename vg name new) now given planned gives_back takes passes group is =
         where_found (Lvrename vg name new) (λ g. version_change state (renamed_volume name new g)) found.group refl
         (λ old there.
         let seen =
-            named_behind (named_rows old vg) old name (rename_lv_rows state name new now old)
-                (rows_pass vg (rename_in_rows state vg name new now) old there passes) in
+        named_behind (named_rows old vg) old name (rename_lv_rows state name new now old)
+        (rows_pass vg (rename_in_rows state vg name new now) old there passes) in
         of_version (Lvrename vg name new) (renamed_volume name new old) (rename_changes vg name new old there seen.0 seen.1))
         group is
     by_command number id (Lvremove path) now given planned gives_back takes passes group is =
         where_found (Lvremove path) (remove_change state path.lv) found.group refl
         (λ old there.
         let seen =
-            named_behind (named_rows old path.vg) old path.lv (remove_lv_rows state path.lv now old)
-                (rows_pass path.vg (remove_in_rows state path now) old there passes) in
+        named_behind (named_rows old path.vg) old path.lv (remove_lv_rows state path.lv now old)
+        (rows_pass path.vg (remove_in_rows state path now) old there passes) in
         removed_by path old there seen.0 seen.1)
         group is
     by_command number id (Lvcreate new) now given planned gives_back takes passes group is =
         let own : List ℕ = unwrap_or id [] in
         let made : Creates state own new now given =
-            creates state own new now given (drawn_is id planned.0) planned.1 found.group refl takes passes in
+        creates state own new now given (drawn_is id planned.0) planned.1 found.group refl takes passes in
         subst (λ (change : Change). (g : Group) → change.group ≡ Some g
-            → ChangesVolumes (Lvcreate new) (version_in found) (Some (version_of g change))) (sym made.change_is)
+        → ChangesVolumes (Lvcreate new) (version_in found) (Some (version_of g change))) (sym made.change_is)
         (of_version (Lvcreate new) (created_group own new now given made.old) (created_by own new now given made)) group is
     by_command number id (Lvextend path growth pvs) now given planned gives_back takes passes group is =
         where_found (Lvextend path growth pvs) (λ g. version_change state (longer_volume path.lv given g)) found.group refl
         (λ old there.
         let seen =
-            named_behind (named_rows old path.vg) old path.lv (extend_rows_on path growth pvs now given old)
-                (rows_pass path.vg (λ g. extend_in_rows state path growth pvs now g given) old there passes) in
+        named_behind (named_rows old path.vg) old path.lv (extend_rows_on path growth pvs now given old)
+        (rows_pass path.vg (λ g. extend_in_rows state path growth pvs now g given) old there passes) in
         of_version (Lvextend path growth pvs) (longer_volume path.lv given old) (extended_by path growth pvs given old there seen.0 seen.1))
         group is
     by_command number id (Lvreduce path amount) now given planned gives_back takes passes group is =
         where_found (Lvreduce path amount) (reduce_change state path.lv amount) found.group refl
         (λ old there.
         let seen =
-            named_behind (named_rows old path.vg) old path.lv (reduce_lv_rows state path.lv amount now old)
-                (rows_pass path.vg (reduce_in_rows state path amount now) old there passes) in
+        named_behind (named_rows old path.vg) old path.lv (reduce_lv_rows state path.lv amount now old)
+        (rows_pass path.vg (reduce_in_rows state path amount now) old there passes) in
         reduced_by path amount old there seen.0 seen.1)
         group is
     by_command number id (Vgcfgrestore vg text) now given planned gives_back takes passes group is =
         restored_by vg text (vgcfgrestore_change state) now gives_back
-            (restores state vg now (some_backup vg text backup gives_back) passes) group is
+        (restores state vg now (some_backup vg text backup gives_back) passes) group is
     by_command number id command now given planned gives_back takes passes group is = absurd planned
 
 -- ---- the line
@@ -435,5 +437,5 @@ pub commit_changes_volumes : (base : Image) (sizes : List ℕ) (found : Found) (
     → ChangesVolumes line.command (version_in found) (Some (version_of group (change_of (state_in found names backup) line now given)))
 commit_changes_volumes base sizes found names backup line now given p group is =
     by_command found names backup p.shape (found_accepted base sizes found p.scan)
-        (found_tree p.scan.readings found (settled base sizes found names backup line now given p)) line.number line.id line.command now
-        given p.planned p.given_back p.takes p.passes group is
+    (found_tree p.scan.readings found (settled base sizes found names backup line now given p)) line.number line.id line.command now
+    given p.planned p.given_back p.takes p.passes group is

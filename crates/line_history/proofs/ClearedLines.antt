@@ -1,6 +1,6 @@
 -- A line that commits a group, and then clears the disks that the group lets go: its commit was made once its batches were written.
-use Rattle.std.proofs.Common.{◌≡◌, ◌≤◌, ◌⊎◌, ℕ, Bool, false, List, length, Option, Some, None, inl, inr, ⊎_elim, refl, sym, subst, ◌∙◌,
-    arith}
+use Rattle.std.proofs.Common.{◌≡◌, ◌≤◌, ◌⊎◌, ℕ, Bool, false, List, length, Option, Some, None, inl, inr, ⊎_elim, refl, sym, subst, ◌∙◌}
+use Rattle.std.proofs.Common.{arith}
 use Rattle.command_table.specs.declared.command.Command.{Command}
 use Rattle.command_table.specs.declared.command.Command.TheVariants.{Vgreduce, Vgremove}
 use Rattle.disk_model.specs.CrashValues.{IsImage}
@@ -20,8 +20,8 @@ use Rattle.volume_history.specs.Chronicles.{now_at, origin_at}
 use Rattle.volume_history.specs.Placed.{PlacedVolume, volumes_of}
 use Rattle.volume_history.specs.Quiet.{AllUntouched}
 use Rattle.volume_history.specs.Single.{CommitLaw, MadeLaw, ZeroesStand}
-use Rattle.line_history.proofs.Clearing.{as_written, base_stays, clearing, made_image, made_origin, untouched, untouched_since,
-    whole_origin}
+use Rattle.line_history.proofs.Clearing.{as_written, base_stays, clearing, made_image, made_origin, untouched, untouched_since}
+use Rattle.line_history.proofs.Clearing.{whole_origin}
 use Rattle.line_history.proofs.Finding.{can_carry_out, zeroed_base}
 use Rattle.line_history.proofs.Lines.{change, changes, commit_law, done_law, last_now, next}
 use Rattle.line_history.proofs.LongerLaws.{commit_longer, made_longer, same_now}
@@ -49,14 +49,14 @@ module _ (scans : RepairedScans) (g : Given) (well : Bool) (start ended : Record
   cases : (clears g.line.command ≡ false) ⊎ ((volumes_of version ≡ volumes_of (version_in g.found)) × (zeroes g.line.command ≡ false))
   cases =
       clear_cases g.line.command (version_in g.found) (version_of group (change scans g Done start c.made c.line refl))
-          (changes scans g Done start c.made c.line refl refl group made)
+      (changes scans g Done start c.made c.line refl refl group made)
 
   module _ (m : ℕ) (ge : length c.made.steps ≤ m) (le : m ≤ length ended.steps) where
     -- each image has the new version
     finds : (image : Image) → IsImage (at_moment m ended) image → FindsVersion g.sizes image none_out version
     finds image is =
         clears_scan (zeroed_base g) image g.sizes (repaired_of g.found) g.names g.backup g.line g.clock g.given group
-            (can_carry_out scans g Done start c.made c.line refl refl) made (clearing scans g well start ended c m ge le image is)
+        (can_carry_out scans g Done start c.made c.line refl refl) made (clearing scans g well start ended c m ge le image is)
 
     begun : opened ≤ m
     begun = let from = law.until in omega (arith, from, ge)
@@ -65,7 +65,7 @@ module _ (scans : RepairedScans) (g : Given) (well : Bool) (start ended : Record
     zeroed =
         ⊎_elim
         (λ other. (commit_law scans g Writing start ended (as_written scans g well start ended c other) refl refl group made).zeroed m begun
-            le)
+        le)
         (λ kept. zeroes_stand (origin_at m (whole_origin scans g well start ended c)) g.line.command version kept.1 law.keeps)
         cases
 
@@ -74,23 +74,23 @@ module _ (scans : RepairedScans) (g : Given) (well : Bool) (start ended : Record
     stay =
         ⊎_elim
         (λ other. all_stay (made_image scans g well start ended c) (at_moment m ended) (base_stays scans g well start ended c other m ge le)
-            (volumes_of version))
+        (volumes_of version))
         (λ kept. subst (λ (l : List PlacedVolume). AllUntouched (made_image scans g well start ended c) l (at_moment m ended)) (sym kept.0)
-            (untouched_since scans g well start ended c m ge le))
+        (untouched_since scans g well start ended c m ge le))
         cases
 
   made_now : now_at (whole_origin scans g well start ended c) (length c.made.steps) ≡ made_image scans g well start ended c
   made_now =
       sym (same_now (made_origin scans g well start ended c) ended c.clears.since c.clears.steps (length c.made.steps) (omega arith))
-          ∙ last_now scans g Done start c.made c.line refl refl refl
+      ∙ last_now scans g Done start c.made c.line refl refl refl
 
   pub committed_law : CommitLaw (whole_origin scans g well start ended c) g.line opened version
   committed_law =
       commit_longer (made_origin scans g well start ended c) ended c.clears.since c.clears.steps g.line opened version law
-          (untouched scans g well start ended c) (λ m ge le image is. inr (finds m ge le image is)) zeroed
+      (untouched scans g well start ended c) (λ m ge le image is. inr (finds m ge le image is)) zeroed
 
   pub made_law : MadeLaw (whole_origin scans g well start ended c) opened (length c.made.steps) version
   made_law =
       made_longer (made_origin scans g well start ended c) ended c.clears.since c.clears.steps opened version law.until
-          (done_law scans g Done start c.made c.line refl refl group made refl) finds
+      (done_law scans g Done start c.made c.line refl refl group made refl) finds
       (λ m ge le. subst (λ (i : Image). AllUntouched i (volumes_of version) (at_moment m ended)) (sym made_now) (stay m ge le))

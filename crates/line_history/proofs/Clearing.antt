@@ -1,6 +1,6 @@
 -- What every image shows while disks are cleared behind a line's batches.
-use Rattle.std.proofs.Common.{◌≡◌, ◌≤◌, ℕ, ◌-◌, Bool, true, false, List, [], ◌∷◌, ◌++◌, length, take, Some, refl, sym, ap, subst, ◌∙◌,
-    append-nil}
+use Rattle.std.proofs.Common.{◌≡◌, ◌≤◌, ℕ, ◌-◌, Bool, true, false, List, [], ◌∷◌, ◌++◌, length, take, Some, refl, sym, ap, subst, ◌∙◌}
+use Rattle.std.proofs.Common.{append-nil}
 use Rattle.std.specs.FinSet as set
 use Rattle.std.specs.Ordering.{nat_cmp}
 use Rattle.std.proofs.lemmas.Bool.{true≢false}
@@ -87,25 +87,25 @@ module _ (scans : RepairedScans) (g : Given) (well : Bool) (start ended : Record
     kept_clearing : at_place image g.found.disk_of at ≡ at_place made_image g.found.disk_of at
     kept_clearing =
         clears_keep_places (zeroed_base g) made_image image g.sizes (repaired_of g.found) g.names g.backup g.line g.clock g.given group
-            (can_carry_out scans g Done start c.made c.line refl refl) there way lv sector at is
+        (can_carry_out scans g Done start c.made c.line refl refl) there way lv sector at is
 
     kept_all : at_place image g.found.disk_of at ≡ at_place g.base g.found.disk_of at
     kept_all =
         kept_clearing ∙ kept_after scans g Done start c.made c.line refl refl made_image (all_written (batches_in g) (zeroed_base g)) group
-            there lv sector at is
+        there lv sector at is
 
   module _ (m : ℕ) (ge : length c.made.steps ≤ m) (le : m ≤ length ended.steps) where
     -- each keeps what it had once the batches were written
     pub untouched_since : AllUntouched made_image (volumes_of (version_in g.found)) (at_moment m ended)
     untouched_since =
         places_kept g.base made_image g.sizes g.found (at_moment m ended) c.line.given.scan c.line.given.shape (record_at m)
-            (λ image is group there lv sector at place. kept_clearing image (clearing m ge le image is) group there lv sector at place)
+        (λ image is group there lv sector at place. kept_clearing image (clearing m ge le image is) group there lv sector at place)
 
     -- and so what it had at the hand-in
     untouched_base : AllUntouched g.base (volumes_of (version_in g.found)) (at_moment m ended)
     untouched_base =
         places_untouched g.base g.sizes g.found (at_moment m ended) c.line.given.scan c.line.given.shape (record_at m)
-            (λ image is group there lv sector at place. kept_all image (clearing m ge le image is) group there lv sector at place)
+        (λ image is group there lv sector at place. kept_all image (clearing m ge le image is) group there lv sector at place)
 
   -- ---- the origin of the whole run
 
@@ -119,9 +119,9 @@ module _ (scans : RepairedScans) (g : Given) (well : Bool) (start ended : Record
   first_now =
       let until_made : List Step = later scans g Done start c.made c.line refl in
       now_first g.handed start ended (c.line.repair.since ++ c.line.since) (c.clears.since ++ until_made)
-          (is_start scans g Done start c.made c.line refl)
+      (is_start scans g Done start c.made c.line refl)
       (steps_joined start c.made ended until_made c.clears.since (is_later scans g Done start c.made c.line refl) c.clears.steps)
-          c.record_is g.base (repaired_base g) c.line.given.base
+      c.record_is g.base (repaired_base g) c.line.given.base
       (starts_at scans g Done start c.made c.line refl) g.sizes g.names g.clock (version_in g.found)
 
   pub untouched : (m : ℕ) → length c.made.steps ≤ m → m ≤ length ended.steps
@@ -144,7 +144,7 @@ module _ (scans : RepairedScans) (g : Given) (well : Bool) (start ended : Record
     base_stays m ge le pv sector =
         leaves_by_images (at_moment m ended) pv sector (λ value. value ≡ made_image pv sector) (record_at m)
         (λ image is. none_front made_image image
-            (subst (λ (l : List (List Put)). HasFirstBatches l made_image image) none_to_clear (clearing m ge le image is)) pv sector)
+        (subst (λ (l : List (List Put)). HasFirstBatches l made_image image) none_to_clear (clearing m ge le image is)) pv sector)
 
     pub ended_base : well ≡ true → IsBase ended made_image
     ended_base all =
@@ -154,7 +154,7 @@ module _ (scans : RepairedScans) (g : Given) (well : Bool) (start ended : Record
     written =
         less_said c.line.zeroed ended (batches_in g) well
         (subst (λ (l : List (List Put)). WritesInTurn c.line.zeroed l well ended)
-            (ap (λ (l : List (List Put)). batches_in g ++ l) none_to_clear ∙ append-nil (batches_in g))
+        (ap (λ (l : List (List Put)). batches_in g ++ l) none_to_clear ∙ append-nil (batches_in g))
         (turns_both c.line.zeroed c.made ended (batches_in g) (clears_in g) well (c.line.written refl) c.clears))
 
     -- so it ran as a line whose batches were begun, and may have failed

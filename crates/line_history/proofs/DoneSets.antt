@@ -64,7 +64,7 @@ module _ (scans : RepairedScans) (finds_each : EachSetFinds) (removed_each : Eac
   last_image : (image : Image) → IsImage ended image → image ≡ last
   last_image image is =
       one_image image last (λ pv sector. let m = is pv sector in (c.clears.lasting refl made made_base pv sector).each m.0 (image pv sector)
-          m.1)
+      m.1)
 
   can : CanCarryOut (zeroed_base g) g.sizes (repaired_of g.found) g.names g.backup g.line g.clock g.given
   can = can_carry_out scans g Done start c.made c.line refl refl
@@ -75,13 +75,13 @@ module _ (scans : RepairedScans) (finds_each : EachSetFinds) (removed_each : Eac
       let next : Option Version = Some (version_of group change) in
       let found : FindsVersion g.sizes last none_out next =
       clears_scan (zeroed_base g) last g.sizes (repaired_of g.found) g.names g.backup g.line g.clock g.given group can commit
-          (all_written (clears_in g) made)
+      (all_written (clears_in g) made)
       in
       let same : version ≡ next =
-          one g.sizes image none_out version next finds (subst (λ (i : Image). FindsVersion g.sizes i none_out next) (sym last_is) found) in
+      one g.sizes image none_out version next finds (subst (λ (i : Image). FindsVersion g.sizes i none_out next) (sym last_is) found) in
       let own : other ≡ group =
       finds_each (zeroed_base g) g.sizes (repaired_of g.found) g.names g.backup g.line g.clock g.given group can commit some other
-          (subst (λ (i : Image). IsScanOf i g.sizes some) last_is scan) there
+      (subst (λ (i : Image). IsScanOf i g.sizes some) last_is scan) there
       in
       ap (λ (v : Option Version). option_map (λ (w : Version). w.group) v) same ∙ ap (λ (x : Group). Some x) (sym own)
 
@@ -89,21 +89,21 @@ module _ (scans : RepairedScans) (finds_each : EachSetFinds) (removed_each : Eac
   of_removal : (vg : Word) → g.line.command ≡ Vgremove vg → SetsAgree g.sizes ended
   of_removal vg removal image is version finds some other scan there =
       let none : batches_in g ≡ [] =
-          ap (λ (command : Command). batches_of state (record { number = g.line.number; id = g.line.id; command = command }) g.clock
-              g.given) removal in
+      ap (λ (command : Command). batches_of state (record { number = g.line.number; id = g.line.id; command = command }) g.clock
+      g.given) removal in
       let last_is : image ≡ with_batches (clears_in g) (zeroed_base g) =
-          last_image image is ∙ ap (λ (l : List (List Put)). with_batches (clears_in g) (with_batches l (zeroed_base g))) none in
+      last_image image is ∙ ap (λ (l : List (List Put)). with_batches (clears_in g) (with_batches l (zeroed_base g))) none in
       let no_group : some.group ≡ None =
       removed_each (zeroed_base g) g.sizes (repaired_of g.found) g.names g.backup g.line g.clock g.given vg can removal some
-          (subst (λ (i : Image). IsScanOf i g.sizes some) last_is scan)
+      (subst (λ (i : Image). IsScanOf i g.sizes some) last_is scan)
       in
       absurd (let e : ◌≡◌ {A = Option Group} None (Some other) = sym no_group ∙ there in cc)
 
   pub sets_agree : commits g.line.command ≡ true → SetsAgree g.sizes ended
   sets_agree commit =
       by (kind_of state (c.line.given.named ∙ sym (repaired_count g.found))
-          (λ k disk there. ((c.line.repaired_shape refl).disks k disk there).0) g.line g.clock g.given c.line.given.planned
-          (c.line.given_back refl) (c.line.takes refl) (c.line.passes refl))
+      (λ k disk there. ((c.line.repaired_shape refl).disks k disk there).0) g.line g.clock g.given c.line.given.planned
+      (c.line.given_back refl) (c.line.takes refl) (c.line.passes refl))
     where
       by : Kind g.names g.line.command change → SetsAgree g.sizes ended
       by (commits_group group is) = of_commit group is
@@ -128,7 +128,7 @@ module _ (scans : RepairedScans) (finds_members : EachMemberFinds) (one : ScansA
       of_group group is image shown version finds some other scan members there =
           let way : HasFirstBatches (clears_in g) (with_batches (batches_in g) (zeroed_base g)) image =
           clearing scans g well start ended c (length ended.steps) (more scans g well start ended c) (omega arith) image
-              (subst (λ (told : Record). IsImage told image) (sym (last_told ended)) shown)
+          (subst (λ (told : Record). IsImage told image) (sym (last_told ended)) shown)
           in
           let next : Version = version_of group now_change in
           let found : FindsVersion g.sizes image none_out (Some next) =
@@ -137,7 +137,7 @@ module _ (scans : RepairedScans) (finds_members : EachMemberFinds) (one : ScansA
           let same : version ≡ next = same_Some version next (one g.sizes image none_out (Some version) (Some next) finds found) in
           let own : other ≡ group =
           finds_members (zeroed_base g) image g.sizes (repaired_of g.found) g.names g.backup g.line g.clock g.given group can_now is way
-              some other scan
+          some other scan
           (subst (λ (v : Version). AreMembers g.sizes v.disk_of some) same members) there
           in
           own ∙ sym (ap (λ (v : Version). v.group) same)

@@ -1,7 +1,7 @@
 -- Once a commit is done, and disks are cleared behind it, each copy on any disk is that of the new group, so no set of disks finds
 -- another.
-use Rattle.std.proofs.Common.{◌≡◌, ◌≢◌, ◌<◌, ℕ, ◌+◌, true, false, List, [], length, get_or, Option, Some, None, ⊎_elim, refl, sym, ap,
-    subst, ◌∙◌, arith}
+use Rattle.std.proofs.Common.{◌≡◌, ◌≢◌, ◌<◌, ℕ, ◌+◌, true, false, List, [], length, get_or, Option, Some, None, ⊎_elim, refl, sym, ap}
+use Rattle.std.proofs.Common.{subst, ◌∙◌, arith}
 use Rattle.std.specs.Prelude.{All, Contains, slice_get}
 use Rattle.std.specs.FinSet as set
 use Rattle.std.specs.Ordering.{nat_cmp}
@@ -112,12 +112,12 @@ module _ (base : Image) (sizes : List ℕ) (found : Found) (names : List (List �
     all_new =
         of_passed (is_on (set_of change.disk_of)) (ShowsBy (new_reading text) committed) state.areas
         (subst (λ (g : Option Group). HoldsAfter g now change state.areas committed) c.makes.made
-            (p.keeps.found base (shown base sizes found names backup line now given p)).areas)
+        (p.keeps.found base (shown base sizes found names backup line now given p)).areas)
 
     apart : ClearsOthers change
     apart =
         clears_others found names backup p.shape p.whole p.scan.readings (settled base sizes found names backup line now given p)
-            line.number line.id now given line.command p.planned p.passes group c.makes
+        line.number line.id now given line.command p.planned p.passes group c.makes
 
     module _ (k : ℕ) (disk : Disk) (reading : Reading) (at_disk : slice_get found.disks k ≡ Some disk)
         (at_reading : slice_get p.scan.readings k ≡ Some reading) (reads : IsDiskReading k (base k) disk reading)
@@ -129,7 +129,7 @@ module _ (base : Image) (sizes : List ℕ) (found : Found) (names : List (List �
           let zero_less : 0 + k ≡ k = omega arith in
           subst (λ (n : ℕ). DiskAgain n (committed n) (lists group) (λ id r. false) new disk reading) zero_less
           (disk_reads base sizes found names backup line now given p group c.makes c.next committed all_committed k disk reading at_disk
-              at_reading (subst (λ (n : ℕ). IsDiskReading n (base n) disk reading) (sym zero_less) reads))
+          at_reading (subst (λ (n : ℕ). IsDiskReading n (base n) disk reading) (sym zero_less) reads))
 
       module _ (on : set.contains (set_of change.disk_of) k ≡ true) where
         shown_on : All (IsShown text k committed) (areas_on disk.contents)
@@ -138,13 +138,13 @@ module _ (base : Image) (sizes : List ℕ) (found : Found) (names : List (List �
             let here : held.0.pv ≡ k = ap (λ (a : Area). a.pv) (entry_kept (area_on k area.area) area.entry held is) in
             let zero_less : 0 + k ≡ k = omega arith in
             of_held IsNew 0 found.disks (subst (All IsNew) (is_state base sizes found names backup line now given p).areas all_new) k disk
-                at_disk n d within held (ap (λ (m : ℕ). held_area m area) zero_less ∙ is)
+            at_disk n d within held (ap (λ (m : ℕ). held_area m area) zero_less ∙ is)
             (ap (set.contains (set_of change.disk_of)) here ∙ on)
 
         gives : PvGives (GivesOnly group) again.read.pv
         gives =
             pv_only text group copy_is k base committed (lists group) (λ id r. false) new disk.contents again.there.contents
-                again.there.sectors reading.pv again.read.pv reads.pv_is again.again again.areas_is again.is.contents again.is.pv_is
+            again.there.sectors reading.pv again.read.pv reads.pv_is again.again again.areas_is again.is.contents again.is.pv_is
             (recursion_from_All (IsShown text k committed) (areas_on disk.contents) shown_on)
 
         uncleared : set.contains change.cleared k ≡ false
@@ -155,7 +155,7 @@ module _ (base : Image) (sizes : List ℕ) (found : Found) (names : List (List �
             → OneRead k (image k) (GivesOnly group) disk
         on_group image way =
             subst (λ (sector_at : ℕ → List ℕ). OneRead k sector_at (GivesOnly group) disk)
-                (λ i sector. sym (uncleared_same image way k uncleared sector) i)
+            (λ i sector. sym (uncleared_same image way k uncleared sector) i)
             (read_again k (committed k) (GivesOnly group) (lists group) (λ id r. false) new disk reading again is_read gives)
 
       -- ---- any other
@@ -164,31 +164,31 @@ module _ (base : Image) (sizes : List ℕ) (found : Found) (names : List (List �
         other_same : (sector : ℕ) → committed k sector ≡ base k sector
         other_same sector =
             off_disk state (is_state base sizes found names backup line now given p) change group c.makes text
-                (fits base sizes found names backup line now given p group c.makes c.next)
-                (can base sizes found names backup line now given p).labels
+            (fits base sizes found names backup line now given p group c.makes c.next)
+            (can base sizes found names backup line now given p).labels
             (lies base sizes found names backup line now given p).differ base
-                (ends base sizes found names backup line now given p group c.makes c.next) committed
-                (front base sizes found names backup line now given p group c.makes c.next committed all_committed) k off sector
+            (ends base sizes found names backup line now given p group c.makes c.next) committed
+            (front base sizes found names backup line now given p group c.makes c.next committed all_committed) k off sector
 
         on_cleared : set.contains change.cleared k ≡ true → OneRead k (last k) (GivesOnly group) disk
         on_cleared cleared =
             cleared_gives found.disks found.areas scanned change.cleared p.keeps.clears base committed
-                (shown base sizes found names backup line now given p) text group [] copy_is k other_same disk at_disk reading reads cleared
-                (GivesOnly group) tt is_read
+            (shown base sizes found names backup line now given p) text group [] copy_is k other_same disk at_disk reading reads cleared
+            (GivesOnly group) tt is_read
 
         on_other : set.contains change.cleared k ≡ false → OneRead k (last k) (GivesOnly group) disk
         on_other uncleared =
             read_same k (base k) (last k) (GivesOnly group) disk reading
-                (λ sector. uncleared_same last all_cleared k uncleared sector ∙ other_same sector) reads is_read
+            (λ sector. uncleared_same last all_cleared k uncleared sector ∙ other_same sector) reads is_read
             (pv_weaker IsNone (GivesOnly group) (none_given group) reading.pv
-                (nothing_off base sizes found names backup line now given p k disk reading at_disk at_reading reads group c.makes.made off
-                uncleared))
+            (nothing_off base sizes found names backup line now given p k disk reading at_disk at_reading reads group c.makes.made off
+            uncleared))
 
       each : OneRead k (last k) (GivesOnly group) disk
       each =
           ⊎_elim (λ on. on_group on last all_cleared)
-              (λ off. ⊎_elim (on_cleared off) (on_other off) (cases_Bool (set.contains change.cleared k)))
-              (cases_Bool (set.contains (set_of change.disk_of) k))
+          (λ off. ⊎_elim (on_cleared off) (on_other off) (cases_Bool (set.contains change.cleared k)))
+          (cases_Bool (set.contains (set_of change.disk_of) k))
 
     all_give : (unread : set.FinSet nat_cmp) → EachGives base sizes found p.whole p.scan last (λ other. other ≡ group) unread
     all_give unread k disk reading at_disk at_reading reads is_read read = each k disk reading at_disk at_reading reads is_read
@@ -212,7 +212,7 @@ commit_finds one_reading base sizes found names backup line now given p group is
     by : LineMakes found (state_in found names backup) (change_of (state_in found names backup) line now given) → other ≡ group
     by (makes_version c) =
         set_finds base sizes found p.whole p.scan (last base sizes found names backup line now given p) (λ own. own ≡ c.group) one_reading
-            some other (all_give base sizes found names backup line now given p c some.unread) scan finds
+        some other (all_give base sizes found names backup line now given p c some.unread) scan finds
         ∙ same_Some c.group group (sym c.makes.made ∙ is)
     by (makes_pv m) = absurd (let e : ◌≡◌ {A = Option Group} None (Some group) = sym m.none ∙ is in cc)
     by (makes_nothing none labels) = absurd (let e : ◌≡◌ {A = Option Group} None (Some group) = sym none ∙ is in cc)
@@ -222,7 +222,7 @@ member_there : (numbers : List ℕ) (k : ℕ) → Contains numbers k → set.con
 member_there numbers k has =
     ⊎_elim (λ there. there)
     (λ off. absurd (All-contains (λ n. n ≢ k) numbers k (All-from_recursion (λ n. n ≢ k) numbers (absent set.empty numbers k off).1) has
-        refl))
+    refl))
     (cases_Bool (set.contains (set_of numbers) k))
 
 -- the disks of the group, also while others are cleared
@@ -236,7 +236,7 @@ members_find one_reading base image sizes found names backup line now given grou
     are_members : (k : ℕ) → k < length found.disks → set.contains some.unread k ≡ false → set.contains (set_of change.disk_of) k ≡ true
     are_members k within read =
         let many : length found.disks ≡ length sizes =
-            sym (length-map found.disks (λ (d : Disk). d.sectors)) ∙ ap (λ (l : List ℕ). length l) p.scan.are.sizes_is in
+        sym (length-map found.disks (λ (d : Disk). d.sectors)) ∙ ap (λ (l : List ℕ). length l) p.scan.are.sizes_is in
         member_there change.disk_of k (members k (omega (arith, within, many)) read)
 
     by : LineMakes found (state_in found names backup) change → other ≡ group

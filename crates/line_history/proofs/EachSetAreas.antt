@@ -78,13 +78,13 @@ module _ (text : List ℕ) (group : Group) (copy : IsCopyOf text group []) where
         let first : sectors_of own last 0 ≡ sector = ap (last pv) (omega arith) in
         let names : IsEntry sector found.area.offset found.area.size (Text locn) =
         subst (λ (s : List ℕ). IsEntry s found.area.offset found.area.size (Text locn)) first
-            (subst (λ (a : Area). IsEntry (sectors_of a last 0) a.start a.size (Text locn)) same shows.header)
+        (subst (λ (a : Area). IsEntry (sectors_of a last 0) a.start a.size (Text locn)) same shows.header)
         in
         let entry : found.entry ≡ Text locn = one_entry sector found.area.offset found.area.size found.entry (Text locn) is.1 names in
         let given : IsGiven (last pv) own (Text locn) area.reading =
-            subst (λ (e : HeaderEntry). IsGiven (last pv) own e area.reading) entry reads.given in
+        subst (λ (e : HeaderEntry). IsGiven (last pv) own e area.reading) entry reads.given in
         let bytes : stored_bytes (last pv) own locn ≡ stored text =
-            ap (λ (a : Area). stored_bytes (last a.pv) a locn) (sym same) ∙ shows.ring in
+        ap (λ (a : Area). stored_bytes (last a.pv) a locn) (sym same) ∙ shows.ring in
         subst (GivenHas (GivesOnly group)) (sym given.1) (of_stored locn (stored_bytes (last pv) own locn) given.0 given.2 bytes)
 
     module _ (may : Bool) (bare : AreaReading → Bool) (new : AreaReading) where
@@ -147,5 +147,5 @@ module _ (text : List ℕ) (group : Group) (copy : IsCopyOf text group []) where
     pv_only may bare new before contents sectors (Some old) None was again same is reads shows = absurd again
     pv_only may bare new before contents sectors (Some old) (Some own) was again same is reads shows =
         areas_only (may old.id) (bare old.id) new (areas_on before) old.areas (areas_on contents) own.areas
-            (areas_read pv (base pv) before old was) again.1 same (areas_stand (last pv) sectors contents is)
+        (areas_read pv (base pv) before old was) again.1 same (areas_stand (last pv) sectors contents is)
         (areas_read pv (last pv) contents own reads) shows

@@ -27,7 +27,7 @@ use Rattle.line_history.proofs.EachSetDisks.{OneRead, read_again}
 module _ (disks : List Disk) (areas : List (Area × Option Locn)) (scanned : AreScanned disks areas) (cleared : set.FinSet nat_cmp)
     (clears : ClearsImages cleared disks areas) (base mid : Image) (shown : ShowsEntries areas base)
     (text : List ℕ) (group : Group) (passed : List (List ℕ)) (copy : IsCopyOf text group passed) (pv : ℕ)
-        (same : (sector : ℕ) → mid pv sector ≡ base pv sector) (disk : Disk) (there : slice_get disks pv ≡ Some disk)
+    (same : (sector : ℕ) → mid pv sector ≡ base pv sector) (disk : Disk) (there : slice_get disks pv ≡ Some disk)
     (reading : Reading) (reads : IsDiskReading pv (base pv) disk reading) (on : set.contains cleared pv ≡ true) where
   abbrev last : Image
   last = with_batches (clear_batches cleared disks areas) mid
@@ -38,7 +38,7 @@ module _ (disks : List Disk) (areas : List (Area × Option Locn)) (scanned : Are
   again : DiskAgain pv (last pv) (λ id. false) any_bare new disk reading
   again =
       disk_cleared disks areas scanned cleared clears mid last (all_written (clear_batches cleared disks areas) mid) base shown text group
-          passed copy (λ id. false) any_bare (λ id r. refl) pv same disk there reading reads
+      passed copy (λ id. false) any_bare (λ id r. refl) pv same disk there reading reads
       (any_pv reading.pv)
 
   emptied : Each (IsEmptied pv (last pv)) (areas_on disk.contents)
@@ -46,11 +46,11 @@ module _ (disks : List Disk) (areas : List (Area × Option Locn)) (scanned : Are
       let zero_less : 0 + pv ≡ pv = omega arith in
       subst (λ (n : ℕ). Each (IsEmptied n (last n)) (areas_on disk.contents)) zero_less
       (disk_emptied areas cleared last (clears.done mid).headers disks scanned.held pv disk there
-          (ap (set.contains cleared) zero_less ∙ on))
+      (ap (set.contains cleared) zero_less ∙ on))
 
   pub cleared_gives : (P : AreaReading → Type 0) → P HoldsNone → (disk.contents ≡ None → ⊥) → OneRead pv (last pv) P disk
   cleared_gives P none is_read =
       read_again pv (last pv) P (λ id. false) any_bare new disk reading again is_read
       (pv_weaker IsNone P (λ r is. subst P (sym is) none) again.read.pv
       (pv_emptied new pv (base pv) (last pv) again.there.sectors disk.contents again.there.contents reading.pv again.read.pv reads.pv_is
-          again.is.pv_is again.is.contents again.areas_is again.again emptied))
+      again.is.pv_is again.is.contents again.areas_is again.again emptied))

@@ -26,16 +26,28 @@ pub read_again : (pv : ℕ) (sector_at : ℕ → List ℕ) (P : AreaReading → 
     (new : AreaReading) (disk : Disk) (reading : Reading) (d : DiskAgain pv sector_at may bare new disk reading)
     → (disk.contents ≡ None → ⊥) → PvGives P d.read.pv → OneRead pv sector_at P disk
 read_again pv sector_at P may bare new disk reading d is_read gives =
-    record { there = d.there; read = d.read; sectors_is = d.sectors_is; is_read = λ none. is_read (d.unread none); is = d.is;
-        gives = gives }
+    record {
+      there = d.there;
+      read = d.read;
+      sectors_is = d.sectors_is;
+      is_read = λ none. is_read (d.unread none);
+      is = d.is;
+      gives = gives;
+    }
 
 -- where its sectors are the same it reads as before
 pub read_same : (pv : ℕ) (old sector_at : ℕ → List ℕ) (P : AreaReading → Type 0) (disk : Disk) (reading : Reading)
     → ((sector : ℕ) → sector_at sector ≡ old sector) → IsDiskReading pv old disk reading → (disk.contents ≡ None → ⊥) → PvGives P reading.pv
     → OneRead pv sector_at P disk
 read_same pv old sector_at P disk reading same is is_read gives =
-    record { there = disk; read = reading; sectors_is = refl; is_read = is_read;
-        is = subst (λ (at : ℕ → List ℕ). IsDiskReading pv at disk reading) (λ i sector. sym (same sector) i) is; gives = gives }
+    record {
+      there = disk;
+      read = reading;
+      sectors_is = refl;
+      is_read = is_read;
+      is = subst (λ (at : ℕ → List ℕ). IsDiskReading pv at disk reading) (λ i sector. sym (same sector) i) is;
+      gives = gives;
+    }
 
 -- all disks, of which some are left unread
 pub record SetRead (image : Image) (unread : set.FinSet nat_cmp) (first : ℕ) (P : AreaReading → Type 0) (disks : List Disk) : Type 0 where
@@ -81,7 +93,7 @@ module _ (image : Image) (unread : set.FinSet nat_cmp) (P : AreaReading → Type
       let one : set.contains unread first ≡ false → OneRead first (image first) P disk =
       subst (λ (n : ℕ). set.contains unread n ≡ false → OneRead n (image n) P disk) here
       (each 0 disk reading refl refl (subst (λ (n : ℕ). IsUnread away n disk) (sym here) are.0)
-          (subst (λ (n : ℕ). IsDiskReading n (base n) disk reading) (sym here) are.1))
+      (subst (λ (n : ℕ). IsDiskReading n (base n) disk reading) (sym here) are.1))
       in
       with_one first disk disks (set.contains unread first) refl one
       (set_read base away (first + 1) disks readings are.2
@@ -89,4 +101,4 @@ module _ (image : Image) (unread : set.FinSet nat_cmp) (P : AreaReading → Type
       let next : first + 1 + k ≡ first + suc k = omega arith in
       subst (λ (n : ℕ). set.contains unread n ≡ false → OneRead n (image n) P d) (sym next)
       (each (suc k) d r at_disk at_reading (subst (λ (n : ℕ). IsUnread away n d) next is_unread)
-          (subst (λ (n : ℕ). IsDiskReading n (base n) d r) next is))))
+      (subst (λ (n : ℕ). IsDiskReading n (base n) d r) next is))))

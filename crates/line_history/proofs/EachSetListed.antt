@@ -8,8 +8,8 @@ use Rattle.std.proofs.lemmas.Bool.{false_from_ne_true, true≢false}
 use Rattle.std.proofs.lemmas.List.Elements.{All-from_recursion}
 use Rattle.std.proofs.lemmas.Option.{same_Some}
 use Rattle.command_table.specs.declared.command.Command.{Command}
-use Rattle.command_table.specs.declared.command.Command.TheVariants.{Lvcreate, Lvextend, Lvreduce, Lvremove, Lvrename, Pvcreate,
-    Vgcfgrestore, Vgcreate, Vgextend, Vgreduce, Vgremove, Vgrename}
+use Rattle.command_table.specs.declared.command.Command.TheVariants.{Lvcreate, Lvextend, Lvreduce, Lvremove, Lvrename, Pvcreate}
+use Rattle.command_table.specs.declared.command.Command.TheVariants.{Vgcfgrestore, Vgcreate, Vgextend, Vgreduce, Vgremove, Vgrename}
 use Rattle.line_answers.specs.declared.op_refusal.OpRefusal.{OpRefusal}
 use Rattle.line_answers.specs.declared.op_refusal.OpRefusal.TheVariants.{GroupStands}
 use Rattle.lvm_script.specs.declared.line.Line.{Line}
@@ -80,16 +80,16 @@ module _ (found : Found) (names : List (List ℕ)) (backup : Option Backup) (sha
       → lists old header.id ≡ false
   apart_unlisted k header at apart =
       let listed_are : found.disk_of ≡ disks_of old found.disks =
-          subst (λ (o : Option Group). IfSome o (λ g. found.disk_of ≡ disks_of g found.disks)) there shape.disk_of in
+      subst (λ (o : Option Group). IfSome o (λ g. found.disk_of ≡ disks_of g found.disks)) there shape.disk_of in
       false_from_ne_true (lists old header.id)
       (λ listed. of_set (λ n. n ≢ k) found.disk_of (All-from_recursion (λ n. n ≢ k) found.disk_of apart) k
-          (disk_among old found.disks found.disk_of listed_are k header at listed) refl)
+      (disk_among old found.disks found.disk_of listed_are k header at listed) refl)
 
   -- nor is that of a disk to which the change commits nothing, and that it doesn't clear
   abbrev LosesNone : Change → Type 0
   LosesNone change =
       (k : ℕ) (header : PvHeader) → disk_with found.disks header.id ≡ k → set.contains (set_of change.disk_of) k ≡ false
-          → set.contains change.cleared k ≡ false → lists old header.id ≡ false
+      → set.contains change.cleared k ≡ false → lists old header.id ≡ false
 
   -- where it has the disks that were found, and more
   with_front : (change : Change) (more : List ℕ) → change.disk_of ≡ found.disk_of ++ more → LosesNone change
@@ -107,7 +107,7 @@ module _ (found : Found) (names : List (List ℕ)) (backup : Option Backup) (sha
   next_loses number id command now given planned next takes passes =
       let made = commits_next state number id command now given planned next takes passes in
       with_front (change_of state (record { number = number; id = id; command = command }) now given) []
-          (ap (λ (c : Change). c.disk_of) made.change_is ∙ sym (append_nil found.disk_of))
+      (ap (λ (c : Change). c.disk_of) made.change_is ∙ sym (append_nil found.disk_of))
 
   -- where one disk leaves, it is cleared
   leaves : (change : Change) (now : ℕ) → LeavesNext state change now → LosesNone change
@@ -115,9 +115,9 @@ module _ (found : Found) (names : List (List ℕ)) (backup : Option Backup) (sha
       apart_unlisted k header at
       (both_apart k found.disk_of left.number
       (absent set.empty (remove found.disk_of left.number) k
-          (subst (λ (c : Change). set.contains (set_of c.disk_of) k ≡ false) left.change_is off)).1
+      (subst (λ (c : Change). set.contains (set_of c.disk_of) k ≡ false) left.change_is off)).1
       (absent set.empty (slice_index found.disk_of left.number ∷ []) k
-          (subst (λ (c : Change). set.contains c.cleared k ≡ false) left.change_is uncleared)).1.0)
+      (subst (λ (c : Change). set.contains c.cleared k ≡ false) left.change_is uncleared)).1.0)
 
   -- where the group of a text takes its place, that lists the same ids
   restored : (vg : List ℕ) (now : ℕ) → first_refusal (vgcfgrestore_rows state vg now) ≡ None
@@ -127,10 +127,10 @@ module _ (found : Found) (names : List (List ℕ)) (backup : Option Backup) (sha
       false_from_ne_true (lists old header.id)
       (λ listed.
       let said : lists made.said header.id ≡ true =
-          still_listed state vg now made passes header.id (subst (λ (g : Group). lists g header.id ≡ true) (sym own) listed) in
+      still_listed state vg now made passes header.id (subst (λ (g : Group). lists g header.id ≡ true) (sym own) listed) in
       true≢false
       (sym (disk_among made.said found.disks (disks_of made.said found.disks) refl k header at said)
-          ∙ subst (λ (c : Change). set.contains (set_of c.disk_of) k ≡ false) made.change_is off))
+      ∙ subst (λ (c : Change). set.contains (set_of c.disk_of) k ≡ false) made.change_is off))
 
   loses_by : (number : ℕ) (id : Option (List ℕ)) (command : Command) (now : ℕ) (given : List Part) → IsPlanned id command
       → IsBackupOf command backup → Takes (asks_of state (record { number = number; id = id; command = command })) given
@@ -143,7 +143,7 @@ module _ (found : Found) (names : List (List ℕ)) (backup : Option Backup) (sha
   loses_by number id (Vgextend vg pvs) now given planned known takes passes group is = extends pvs found.group refl
   loses_by number id (Vgreduce vg pv) now given planned known takes passes group is =
       leaves (change_of state (record { number = number; id = id; command = Vgreduce vg pv }) now given) now
-          (leaves_next state vg pv now passes)
+      (leaves_next state vg pv now passes)
   loses_by number id (Vgremove vg) now given planned known takes passes group is = absurd cc
   loses_by number id (Vgcfgrestore vg text) now given planned known takes passes group is =
       restored vg now passes (restores state vg now (some_backup vg text backup known) passes)
@@ -184,7 +184,7 @@ nothing_is (Refused why) is = absurd cc
 module _ (base : Image) (sizes : List ℕ) (found : Found) (names : List (List ℕ)) (backup : Option Backup) (line : Line) (now : ℕ)
     (given : List Part) (p : CanCarryOut base sizes found names backup line now given)
     (k : ℕ) (disk : Disk) (reading : Reading) (at_disk : slice_get found.disks k ≡ Some disk)
-        (at_reading : slice_get p.scan.readings k ≡ Some reading) (reads : IsDiskReading k (base k) disk reading) where
+    (at_reading : slice_get p.scan.readings k ≡ Some reading) (reads : IsDiskReading k (base k) disk reading) where
   abbrev change : Change
   change = change_of (state_in found names backup) line now given
 
@@ -193,13 +193,13 @@ module _ (base : Image) (sizes : List ℕ) (found : Found) (names : List (List �
     unlisted : (old : Group) → found.group ≡ Some old → is_listed old reading ≡ false
     unlisted old there =
         unlisted_by old k reading.sectors (base k) disk.contents reading.pv reads.pv_is
-            (λ header has. none old there header (disk_with_own 0 found.disks p.shape.differ k disk header at_disk has))
+        (λ header has. none old there header (disk_with_own 0 found.disks p.shape.differ k disk header at_disk has))
 
     by : IsSettledScan p.scan.readings found → PvGives IsNone reading.pv
     by (settled_none nothing no_group given) = gives_at IsNone p.scan.readings k reading given at_reading
     by (settled_some held parts some copy given all) =
         pv_weaker (IsSettled held.group held.text reading) IsNone (λ r s. nothing_is r (s.1 (unlisted held.group some))) reading.pv
-            (gives_on (IsSettled held.group held.text) p.scan.readings k reading all at_reading)
+        (gives_on (IsSettled held.group held.text) p.scan.readings k reading all at_reading)
 
     nothing_unlisted : PvGives IsNone reading.pv
     nothing_unlisted = by (settled base sizes found names backup line now given p)
@@ -215,4 +215,4 @@ module _ (base : Image) (sizes : List ℕ) (found : Found) (names : List (List �
       nothing_unlisted
       (λ old there header at.
       loses_by found names backup p.shape old there line.number line.id line.command now given p.planned p.given_back p.takes p.passes group
-          is k header at off uncleared)
+      is k header at off uncleared)

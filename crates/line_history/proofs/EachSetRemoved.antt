@@ -73,9 +73,9 @@ module _ (base : Image) (sizes : List ℕ) (found : Found) (names : List (List �
   some_group : found.group ≡ None → ⊥
   some_group none =
       let rows : first_refusal (rows_where_found found.group vg (remove_rows vg)) ≡ None =
-          subst (λ (c : Command). refusal_of state (line_with c) now given ≡ None) is p.passes in
+      subst (λ (c : Command). refusal_of state (line_with c) now given ≡ None) is p.passes in
       let e : ◌≡◌ {A = Option OpRefusal} (Some (UnknownGroup vg)) None =
-          subst (λ (o : Option Group). first_refusal (rows_where_found o vg (remove_rows vg)) ≡ None) none rows in
+      subst (λ (o : Option Group). first_refusal (rows_where_found o vg (remove_rows vg)) ≡ None) none rows in
       cc
 
   scanned : AreScanned found.disks found.areas
@@ -88,13 +88,13 @@ module _ (base : Image) (sizes : List ℕ) (found : Found) (names : List (List �
       on_cleared : set.contains cleared k ≡ true → OneRead k (last k) GivesNone disk
       on_cleared on =
           cleared_gives found.disks found.areas scanned cleared p.keeps.clears base base
-              (shown base sizes found names backup line now given p) held.text held.group held.passed copy k (λ sector. refl) disk at_disk
-              reading reads on GivesNone tt is_read
+          (shown base sizes found names backup line now given p) held.text held.group held.passed copy k (λ sector. refl) disk at_disk
+          reading reads on GivesNone tt is_read
 
       on_other : set.contains cleared k ≡ false → OneRead k (last k) GivesNone disk
       on_other off =
           read_same k (base k) (last k) GivesNone disk reading
-              (others_same found.disks found.areas scanned cleared p.keeps.clears base last all_cleared k off) reads is_read
+          (others_same found.disks found.areas scanned cleared p.keeps.clears base last all_cleared k off) reads is_read
           (pv_weaker IsNone GivesNone none_given reading.pv
           (nothing_apart base sizes found names backup line now given p k disk reading at_disk at_reading reads
           (absent set.empty found.disk_of k (ap (λ (s : set.FinSet nat_cmp). set.contains s k) (sym cleared_are) ∙ off)).1))
@@ -114,4 +114,4 @@ module _ (base : Image) (sizes : List ℕ) (found : Found) (names : List (List �
       by (settled_some held parts own copy all settled_all) None there = refl
       by (settled_some held parts own copy all settled_all) (Some other) there =
           absurd (set_finds base sizes found p.whole p.scan last (λ group. ⊥) one_reading some other (all_give held copy some.unread) scan
-              there)
+          there)

@@ -22,8 +22,8 @@ use Rattle.group_plan.specs.declared.backup.Backup.TheVariants.{Sound}
 use Rattle.group_plan.specs.declared.state.GroupState.{GroupState}
 use Rattle.vg_plans.proofs.Restoring.{Restores}
 use Rattle.vg_plans.proofs.SoundBackup.{no_least, no_some}
-use Rattle.vg_plans.specs.Vgcfgrestore.{id_lacked, ids_lacked, least_of, restore_rows, sound_rows, sound_tests, vgcfgrestore_change,
-    vgcfgrestore_rows}
+use Rattle.vg_plans.specs.Vgcfgrestore.{id_lacked, ids_lacked, least_of, restore_rows, sound_rows, sound_tests, vgcfgrestore_change}
+use Rattle.vg_plans.specs.Vgcfgrestore.{vgcfgrestore_rows}
 
 -- ---- no id is lacked
 
@@ -44,7 +44,7 @@ module _ (said : Group) (id : List ℕ) where
           → lists said id ≡ true
       by later true has none =
           ⊎_elim (λ here. subst (λ (own : List ℕ). lists said own ≡ true) (same_bytes_tells pv.1.id id here) has) (later none)
-              (or_cases (has_it pv) (list_any has_it pvs) any)
+          (or_cases (has_it pv) (list_any has_it pvs) any)
       by later false has none = absurd (no_least (map (λ (row : List ℕ × Pv). row.1.id) (lacked pvs)) pv.1.id none)
 
 -- ---- a restore that no row refuses
@@ -54,13 +54,13 @@ module _ (state : GroupState) (vg : List ℕ) (now : ℕ) (made : Restores state
   sound : first_refusal (sound_tests state made.old made.said) ≡ None
   sound =
       back_passes (sound_tests state made.old made.said)
-          (length_row_on state (disks_of made.said state.disks) (restored_group made.old made.said) now ∷ [])
+      (length_row_on state (disks_of made.said state.disks) (restored_group made.old made.said) now ∷ [])
       (front_passes (named_rows made.old vg) (sound_rows state made.old made.said now)
       (subst (λ (o : Option Group). first_refusal
-          (option_map_or (restore_rows state vg (Sound made.said) now) o (Some (UnknownGroup vg) ∷ [])) ≡ None) made.there
+      (option_map_or (restore_rows state vg (Sound made.said) now) o (Some (UnknownGroup vg) ∷ [])) ≡ None) made.there
       (subst (λ (o : Option Backup). first_refusal
-          (option_map_or (λ (backup : Backup). rows_where_found state.group vg (restore_rows state vg backup now)) o []) ≡ None) made.gives
-          passes)))
+      (option_map_or (λ (backup : Backup). rows_where_found state.group vg (restore_rows state vg backup now)) o []) ≡ None) made.gives
+      passes)))
 
   pub still_listed : (id : List ℕ) → lists made.old id ≡ true → lists made.said id ≡ true
   still_listed id listed =

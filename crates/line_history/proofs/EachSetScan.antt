@@ -7,8 +7,8 @@ use Rattle.std.proofs.lemmas.Bool.{false≢true}
 use Rattle.std.proofs.lemmas.Option.{same_Some}
 use Rattle.disk_model.specs.Steps.{Image}
 use Rattle.meta_model.specs.declared.group.Group.{Group}
-use Rattle.scan_rules.specs.Decision.{AreaReading, Conflict, DuplicatePv, FoundGroup, NoCopy, NoGroup, PvShape, Reading, ScanAnswer,
-    TwoGroups, Unsupported, decide_scan}
+use Rattle.scan_rules.specs.Decision.{AreaReading, Conflict, DuplicatePv, FoundGroup, NoCopy, NoGroup, PvShape, Reading, ScanAnswer}
+use Rattle.scan_rules.specs.Decision.{TwoGroups, Unsupported, decide_scan}
 use Rattle.vg_found.specs.Whole.{IsWhole}
 use Rattle.vg_found.specs.declared.disk.Disk.{Disk}
 use Rattle.vg_found.specs.declared.found.Found.{Found}
@@ -45,7 +45,7 @@ module _ (base : Image) (sizes : List ℕ) (found : Found) (whole : IsWhole foun
   abbrev pub EachGives : set.FinSet nat_cmp → Type 0
   EachGives unread =
       (k : ℕ) (disk : Disk) (reading : Reading) → slice_get found.disks k ≡ Some disk → slice_get scan.readings k ≡ Some reading
-          → IsDiskReading k (base k) disk reading → (disk.contents ≡ None → ⊥)
+      → IsDiskReading k (base k) disk reading → (disk.contents ≡ None → ⊥)
       → set.contains unread k ≡ false → OneRead k (image k) (GivesSuch P) disk
 
   module _ (unread : set.FinSet nat_cmp) (each : EachGives unread) where
@@ -63,7 +63,7 @@ module _ (base : Image) (sizes : List ℕ) (found : Found) (whole : IsWhole foun
   set_finds one_reading some other each own finds =
       let s : SetRead image some.unread 0 (GivesSuch P) found.disks = disks some.unread each in
       let same : s.read ≡ own.readings =
-          one_reading image sizes some.unread s.there some.disks s.read own.readings
-              (record { sizes_is = s.sizes_is ∙ scan.are.sizes_is; each = s.are }) own.are in
+      one_reading image sizes some.unread s.there some.disks s.read own.readings
+      (record { sizes_is = s.sizes_is ∙ scan.are.sizes_is; each = s.are }) own.are in
       found_such P own.readings some other (subst (DisksGive (λ disk. GivesSuch P)) same s.gives) finds (decide_scan own.readings) refl
-          own.answer
+      own.answer

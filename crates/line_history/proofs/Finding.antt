@@ -38,7 +38,7 @@ image_of_base told base image base_is is =
 abbrev pub KeepsPlaces : Given → Image → Type 0
 KeepsPlaces g image =
     (group : Group) → g.found.group ≡ Some group → (lv sector : ℕ) (at : At) → primary group lv sector ≡ Some at
-        → at_place image g.found.disk_of at ≡ at_place g.base g.found.disk_of at
+    → at_place image g.found.disk_of at ≡ at_place g.base g.found.disk_of at
 
 -- the base and all of the repair
 abbrev pub repaired_base : Given → Image
@@ -135,7 +135,7 @@ module _ (scans : RepairedScans) (g : Given) (stage : Stage) (start ended : Reco
           → FindsVersion g.sizes image none_out (version_in g.found)
       finds_scanned image scan =
           subst (λ (v : Option Version). FindsVersion g.sizes image none_out v) same_version
-              (base_scans image g.sizes (repaired_of g.found) scan (r.repaired_whole repaired))
+          (base_scans image g.sizes (repaired_of g.found) scan (r.repaired_whole repaired))
 
       pub finds_zeroed : FindsVersion g.sizes (zeroed_base g) none_out (version_in g.found)
       finds_zeroed = finds_scanned (zeroed_base g) scan_zeroed
@@ -143,13 +143,13 @@ module _ (scans : RepairedScans) (g : Given) (stage : Stage) (start ended : Reco
       kept_on_way : (image : Image) → HasFirstBatches (zeros_in g) (repaired_base g) image → KeepsPlaces g image
       kept_on_way image way group there lv sector at is_at =
           zeroes_keep_places (repaired_base g) g.sizes (repaired_of g.found) g.names g.backup g.line g.clock g.given can_start image way
-              group there lv sector at is_at ∙ kept_start group there lv sector at is_at
+          group there lv sector at is_at ∙ kept_start group there lv sector at is_at
 
       -- behind the zeros an image on the way of the line keeps the places too
       pub kept_after : (image : Image) → IsAfter g stage start ended r image → KeepsPlaces g image
       kept_after image way group there lv sector at is_at =
           place_kept (zeroed_base g) g.sizes (repaired_of g.found) g.names g.backup g.line g.clock g.given can_carry_out group there image
-              way lv sector at is_at
+          way lv sector at is_at
           ∙ kept_on_way (zeroed_base g) all_zeroed group there lv sector at is_at
 
     -- until the zeros are written
@@ -157,7 +157,7 @@ module _ (scans : RepairedScans) (g : Given) (stage : Stage) (start ended : Reco
     finds_zeroing image is =
         ⊎_elim
         (λ same. subst (λ (i : Image). FindsVersion g.sizes i none_out (version_in g.found)) (sym (one_image image (repaired_base g) same))
-            finds_start)
+        finds_start)
         (λ way. finds_scanned way.0 image (scan_zeroing way.0 image way.1))
         is
 
@@ -165,6 +165,6 @@ module _ (scans : RepairedScans) (g : Given) (stage : Stage) (start ended : Reco
     kept_zeroing image is group there lv sector at is_at =
         ⊎_elim
         (λ same. ap (λ (i : Image). at_place i g.found.disk_of at) (one_image image (repaired_base g) same)
-            ∙ kept_start group there lv sector at is_at)
+        ∙ kept_start group there lv sector at is_at)
         (λ way. kept_on_way way.0 image way.1 group there lv sector at is_at)
         is

@@ -1,13 +1,13 @@
 -- A run of one line has its history.
-use Rattle.std.proofs.Common.{◌≡◌, ℕ, zero, ◌+◌, ◌-◌, Bool, true, false, not, ◌≤◌, ◌<◌, List, [], ◌∷◌, ◌++◌, length, map, take, Option,
-    Some, None, ⊎_elim, refl, sym, ap, subst, ◌∙◌, arith}
+use Rattle.std.proofs.Common.{◌≡◌, ℕ, zero, ◌+◌, ◌-◌, Bool, true, false, not, ◌≤◌, ◌<◌, List, [], ◌∷◌, ◌++◌, length, map, take, Option}
+use Rattle.std.proofs.Common.{Some, None, ⊎_elim, refl, sym, ap, subst, ◌∙◌, arith}
 use Rattle.std.specs.Prelude.{flat_map, is_some}
 use Rattle.std.proofs.lemmas.Bool.{cases_lt, true≢false}
 use Rattle.sector_base.specs.declared.spans.Span.{Span}
 use Rattle.command_table.specs.Options.{Word}
 use Rattle.command_table.specs.declared.command.Command.{Command}
-use Rattle.command_table.specs.declared.command.Command.TheVariants.{Lvcreate, Lvextend, Lvreduce, Lvremove, Lvrename, Pvcreate,
-    Vgcfgrestore, Vgcreate, Vgextend, Vgreduce, Vgremove, Vgrename}
+use Rattle.command_table.specs.declared.command.Command.TheVariants.{Lvcreate, Lvextend, Lvreduce, Lvremove, Lvrename, Pvcreate}
+use Rattle.command_table.specs.declared.command.Command.TheVariants.{Vgcfgrestore, Vgcreate, Vgextend, Vgreduce, Vgremove, Vgrename}
 use Rattle.line_answers.specs.declared.answer.Answer.{Answer}
 use Rattle.line_answers.specs.declared.answer.Answer.TheVariants as answer
 use Rattle.line_answers.specs.declared.op_refusal.OpRefusal.{OpRefusal}
@@ -33,23 +33,23 @@ use Rattle.volume_history.specs.Chronicles.{ChronicleEntry, Origin, pending}
 use Rattle.volume_history.specs.Laws.{Tells}
 use Rattle.volume_history.specs.Commands.{created_disk, is_created_at, is_data, is_good, is_wait, may_say, removes}
 use Rattle.volume_history.specs.Runs.{journal_of, lines_of}
-use Rattle.volume_history.specs.Single.{LeavesAll, LeavesDisk, MayEnd as MayFollow, answered_entries, done_entries, made_entries,
-    taken_entries}
+use Rattle.volume_history.specs.Single.{LeavesAll, LeavesDisk, MayEnd as MayFollow, answered_entries, done_entries, made_entries}
+use Rattle.volume_history.specs.Single.{taken_entries}
 use Rattle.line_history.proofs.ClearedLines.{committed_law, made_law}
 use Rattle.line_history.proofs.Clearing.{as_written, ended_base, whole_origin}
 use Rattle.line_history.proofs.LineKinds.{Kind, commits_group, creates, kind_of, removes_group}
-use Rattle.line_history.proofs.Lines.{change, commit_law, next, none_created, origin_handed, origin_repaired, stays_handed, stays_repaired,
-    stays_unpublished}
+use Rattle.line_history.proofs.Lines.{change, commit_law, next, none_created, origin_handed, origin_repaired, stays_handed, stays_repaired}
+use Rattle.line_history.proofs.Lines.{stays_unpublished}
 use Rattle.line_history.proofs.NewDisk.{create_law, created_law}
 use Rattle.line_history.proofs.Origins.{origin_of}
-use Rattle.line_history.proofs.RemovedGroup.{creates_none, removal_law, removal_unbegun, removal_unwritten, removed_law, stays_unremoved,
-    stays_unwritten}
+use Rattle.line_history.proofs.RemovedGroup.{creates_none, removal_law, removal_unbegun, removal_unwritten, removed_law, stays_unremoved}
+use Rattle.line_history.proofs.RemovedGroup.{stays_unwritten}
 use Rattle.line_history.proofs.Settled.{none_pending}
 use Rattle.line_history.proofs.Submitted.{all_submitted, both_begun, submitted}
 use Rattle.line_history.proofs.Unwritten.{newest, none_submitted, none_written, nothing_of}
 use Rattle.line_history.specs.Histories.{HasHistoryOf, IsBeforeLine, MayAnswer, MayEnd, commits_in, journal_of_line, making, took_of}
-use Rattle.line_history.specs.LineRun.{ClearsLine, Given, RunsLine, Stage, Opened, Repairing, Repaired, Zeroing, Writing, Done, batches_if,
-    batches_in, clears_in, is_repaired, is_zeroed, zeros_begun, zeros_in}
+use Rattle.line_history.specs.LineRun.{ClearsLine, Given, RunsLine, Stage, Opened, Repairing, Repaired, Zeroing, Writing, Done, batches_if}
+use Rattle.line_history.specs.LineRun.{batches_in, clears_in, is_repaired, is_zeroed, zeros_begun, zeros_in}
 
 -- a line that can be planned reads and writes no sectors of a volume
 quiet_line : (id : Option (List ℕ)) (command : Command) → IsPlanned id command → is_data command ≡ false
@@ -92,8 +92,8 @@ keeps_group state line now given group made = by line.command refl
     by : (command : Command) → line.command ≡ command → removes command ≡ false
     by (Vgremove vg) is =
         absurd (let e : ◌≡◌ {A = Option Group} None (Some group) = sym
-            (ap (λ (c : Command). (change_of state (record { number = line.number; id = line.id; command = c }) now given).group) is)
-            ∙ made in cc)
+        (ap (λ (c : Command). (change_of state (record { number = line.number; id = line.id; command = c }) now given).group) is)
+        ∙ made in cc)
     by command is = refl
 
 -- a line that creates no physical volume
@@ -120,37 +120,37 @@ module _ (scans : RepairedScans) (g : Given) (start ended : Record) where
       handed_so [] (no_line (origin_handed scans g Repairing start ended r refl) (stays_handed scans g Repairing start ended r refl)) refl
   ends Repaired r early =
       repaired_so [] (no_line (origin_repaired scans g Repaired start ended r refl)
-          (stays_repaired scans g Repaired start ended r refl refl)) refl
+      (stays_repaired scans g Repaired start ended r refl refl)) refl
   ends Zeroing r early = absurd early
   ends Writing r early = absurd early
   ends Done r early = absurd early
 
   -- ---- it ended before its zeros were written
   module _ (stage : Stage) (r : RunsLine g stage start ended) (repaired : is_repaired stage ≡ true) (unzeroed : is_zeroed stage ≡ false)
-      where
-    abbrev zeros : WritesInTurn start (batches_if (zeros_begun stage) (zeros_in g)) (is_zeroed stage) r.zeroed
-    zeros = r.zeros repaired
+    where
+      abbrev zeros : WritesInTurn start (batches_if (zeros_begun stage) (zeros_in g)) (is_zeroed stage) r.zeroed
+      zeros = r.zeros repaired
 
-    is_end : ended ≡ steps_on zeros.since start
-    is_end = r.unzeroed unzeroed ∙ zeros.steps
+      is_end : ended ≡ steps_on zeros.since start
+      is_end = r.unzeroed unzeroed ∙ zeros.steps
 
-    -- it has written nothing where it writes no zeros
-    nothing_since : writes_submitted zeros.since ≡ [] → WritesNothing (take (length ended.steps - length start.steps) ended.steps)
-    nothing_since none = subst WritesNothing (sym (newest start ended zeros.since is_end)) (none_submitted zeros.since none)
+      -- it has written nothing where it writes no zeros
+      nothing_since : writes_submitted zeros.since ≡ [] → WritesNothing (take (length ended.steps - length start.steps) ended.steps)
+      nothing_since none = subst WritesNothing (sym (newest start ended zeros.since is_end)) (none_submitted zeros.since none)
 
-    leaves : writes_submitted zeros.since ≡ [] → LeavesDisk (origin_repaired scans g stage start ended r repaired) g.line
-    leaves none disk created =
-        none_written (is_created_at g.line.command disk) (take (length ended.steps - length start.steps) ended.steps) (nothing_since none)
+      leaves : writes_submitted zeros.since ≡ [] → LeavesDisk (origin_repaired scans g stage start ended r repaired) g.line
+      leaves none disk created =
+          none_written (is_created_at g.line.command disk) (take (length ended.steps - length start.steps) ended.steps) (nothing_since none)
 
-    undone : LeavesDisk (origin_repaired scans g stage start ended r repaired) g.line
-        → LeavesAll (origin_repaired scans g stage start ended r repaired) g.line → (said : Answer) → is_good said ≡ false
-        → may_say g.line.command said ≡ true
-        → Tells (origin_repaired scans g stage start ended r repaired)
-        (answered_entries (origin_repaired scans g stage start ended r repaired) g.line said)
-    undone left all said bad says =
-        undone_line (origin_repaired scans g stage start ended r repaired) g.line
-            (stays_repaired scans g stage start ended r repaired unzeroed) (quiet_line g.line.id g.line.command r.given.planned) left said
-            all bad says
+      undone : LeavesDisk (origin_repaired scans g stage start ended r repaired) g.line
+          → LeavesAll (origin_repaired scans g stage start ended r repaired) g.line → (said : Answer) → is_good said ≡ false
+          → may_say g.line.command said ≡ true
+          → Tells (origin_repaired scans g stage start ended r repaired)
+          (answered_entries (origin_repaired scans g stage start ended r repaired) g.line said)
+      undone left all said bad says =
+          undone_line (origin_repaired scans g stage start ended r repaired) g.line
+          (stays_repaired scans g stage start ended r repaired unzeroed) (quiet_line g.line.id g.line.command r.given.planned) left said
+          all bad says
 
   refused : (r : RunsLine g Repaired start ended) (refusal : OpRefusal)
       → HasHistoryOf g ended (journal_of_line (length start.steps) None (length ended.steps)) ((g.line, Some (answer.Refused refusal)) ∷ [])
@@ -158,7 +158,7 @@ module _ (scans : RepairedScans) (g : Given) (start ended : Record) where
       let none : writes_submitted (r.zeros refl).since ≡ [] = (r.zeros refl).writes ∙ nothing_of (r.zeros refl).submitted in
       repaired_so (answered_entries (origin_repaired scans g Repaired start ended r refl) g.line (answer.Refused refusal))
       (undone Repaired r refl refl (leaves Repaired r refl refl none) (λ removing. nothing_since Repaired r refl refl none)
-          (answer.Refused refusal) refl
+      (answer.Refused refusal) refl
       (ap not (planned_says g.line.id g.line.command 0 r.given.planned).0)) refl
 
   -- ---- its zeros were begun
@@ -166,8 +166,8 @@ module _ (scans : RepairedScans) (g : Given) (start ended : Record) where
       → Kind g.names g.line.command (change scans g stage start ended r repaired)
   kind stage r repaired begun =
       kind_of (state_in (repaired_of g.found) g.names g.backup) (r.given.named ∙ sym (repaired_count g.found))
-          (λ k disk there. ((r.repaired_shape repaired).disks k disk there).0) g.line g.clock g.given r.given.planned (r.given_back begun)
-          (r.takes begun) (r.passes begun)
+      (λ k disk there. ((r.repaired_shape repaired).disks k disk there).0) g.line g.clock g.given r.given.planned (r.given_back begun)
+      (r.takes begun) (r.passes begun)
 
   -- one of them failed
   module _ (r : RunsLine g Zeroing start ended) (pv : ℕ) where
@@ -175,7 +175,7 @@ module _ (scans : RepairedScans) (g : Given) (start ended : Record) where
     none_zeroed : (change scans g Zeroing start ended r refl).zero ≡ [] → writes_submitted (r.zeros refl).since ≡ []
     none_zeroed no_zeros =
         (r.zeros refl).writes ∙ ap (λ (spans : List Span). flat_map (λ (batch : List Put). batch)
-            (take (r.zeros refl).submitted (batch_if (map zero_put spans)))) no_zeros ∙ nothing_of (r.zeros refl).submitted
+        (take (r.zeros refl).submitted (batch_if (map zero_put spans)))) no_zeros ∙ nothing_of (r.zeros refl).submitted
 
     left : Kind g.names g.line.command (change scans g Zeroing start ended r refl)
         → LeavesDisk (origin_repaired scans g Zeroing start ended r refl) g.line
@@ -199,7 +199,7 @@ module _ (scans : RepairedScans) (g : Given) (start ended : Record) where
         let left_are = left (kind Zeroing r refl refl) in
         repaired_so (answered_entries (origin_repaired scans g Zeroing start ended r refl) g.line (answer.PvFailed pv))
         (undone Zeroing r refl refl left_are.0 left_are.1 (answer.PvFailed pv) refl
-            (planned_says g.line.id g.line.command pv r.given.planned).1) refl
+        (planned_says g.line.id g.line.command pv r.given.planned).1) refl
 
   -- ---- a commit failed
   module _ (r : RunsLine g Writing start ended) (pv : ℕ) (group : Group)
@@ -217,19 +217,19 @@ module _ (scans : RepairedScans) (g : Given) (start ended : Record) where
         (λ (less : own.submitted < length (batches_in g)).
         repaired_so (answered_entries origin g.line (answer.PvFailed pv))
         (undone_line origin g.line (stays_unpublished scans g Writing start ended r refl refl group made less)
-            (quiet_line g.line.id g.line.command r.given.planned)
+        (quiet_line g.line.id g.line.command r.given.planned)
         (creates_no_disk origin g.line (none_created scans g Writing start ended r refl refl group made)) (answer.PvFailed pv)
         (λ removing. absurd (true≢false (sym removing
-            ∙ keeps_group (state_in (repaired_of g.found) g.names g.backup) g.line g.clock g.given group made))) refl
+        ∙ keeps_group (state_in (repaired_of g.found) g.names g.backup) g.line g.clock g.given group made))) refl
         (planned_says g.line.id g.line.command pv r.given.planned).1) refl)
         (λ (le : length (batches_in g) ≤ own.submitted). record {
           history =
               (fenced_commit origin g.line (length r.zeroed.steps) (next scans g Writing start ended r refl refl group made)
-                  (commit_law scans g Writing start ended r refl refl group made) pv).history;
+              (commit_law scans g Writing start ended r refl refl group made) pv).history;
           last =
               λ some. all_submitted g Writing start ended r refl refl ended own.since (batches_in g) 1 own.steps
-                  (submitted r.zeroed ended (batches_in g) false own le) (omega arith)
-                  (ap (λ (o : Option Group). making (is_some o) 1 (batches_in g) (clears_in g)) made);
+              (submitted r.zeroed ended (batches_in g) false own le) (omega arith)
+              (ap (λ (o : Option Group). making (is_some o) 1 (batches_in g) (clears_in g)) made);
         })
         (cases_lt own.submitted (length (batches_in g)))
 
@@ -243,16 +243,16 @@ module _ (scans : RepairedScans) (g : Given) (start ended : Record) where
       by (creates disk label none created labels on no_zeros places) =
           repaired_so (answered_entries (origin_repaired scans g Writing start ended r refl) g.line (answer.PvFailed pv))
           (failed_create (origin_repaired scans g Writing start ended r refl) g.line disk pv
-              (create_law scans g Writing start ended r refl refl disk label none created labels on no_zeros places (length ended.steps + 1)
-              (omega arith))) refl
+          (create_law scans g Writing start ended r refl refl disk label none created labels on no_zeros places (length ended.steps + 1)
+          (omega arith))) refl
       by (removes_group vg command_is none labels no_zeros) =
           repaired_so (answered_entries (origin_repaired scans g Writing start ended r refl) g.line (answer.PvFailed pv))
           (undone_line (origin_repaired scans g Writing start ended r refl) g.line
-              (stays_unwritten scans g Writing start ended r refl refl vg command_is) (quiet_line g.line.id g.line.command r.given.planned)
+          (stays_unwritten scans g Writing start ended r refl refl vg command_is) (quiet_line g.line.id g.line.command r.given.planned)
           (creates_no_disk (origin_repaired scans g Writing start ended r refl) g.line (creates_none g.names g.line.command vg command_is))
-              (answer.PvFailed pv)
+          (answer.PvFailed pv)
           (λ removing. removal_unwritten scans g Writing start ended r refl refl vg command_is no_zeros) refl
-              (planned_says g.line.id g.line.command pv r.given.planned).1) refl
+          (planned_says g.line.id g.line.command pv r.given.planned).1) refl
 
   pub lines : (stage : Stage) (said : Answer) → RunsLine g stage start ended → MayAnswer stage said
       → HasHistoryOf g ended (journal_of_line (length start.steps) None (length ended.steps)) ((g.line, Some said) ∷ [])
@@ -291,10 +291,10 @@ module _ (scans : RepairedScans) (g : Given) (start ended : Record) where
       let version = next scans g Done start c.made c.line refl refl group made in
       took_by well said c true (ap (λ (o : Option Group). is_some o) made)
       (repaired_so scans g start ended (made_entries (whole_origin scans g well start ended c) g.line (length c.line.zeroed.steps)
-          (length c.made.steps) version said)
+      (length c.made.steps) version said)
       (made_commit (whole_origin scans g well start ended c) g.line (length c.line.zeroed.steps) version
-          (committed_law scans g well start ended c group made) (length c.made.steps) (made_law scans g well start ended c group made) said
-          may) refl)
+      (committed_law scans g well start ended c group made) (length c.made.steps) (made_law scans g well start ended c group made) said
+      may) refl)
 
   -- all went well
   module _ (c : ClearsLine g true start ended) where
@@ -307,15 +307,15 @@ module _ (scans : RepairedScans) (g : Given) (start ended : Record) where
         took_by true answer.Fine c false (ap (λ (o : Option Group). is_some o) none)
         (repaired_so scans g start ended (taken_entries (origin_repaired scans g Writing start ended r refl) g.line)
         (done_create (origin_repaired scans g Writing start ended r refl) g.line disk
-            (create_law scans g Writing start ended r refl refl disk label none created labels on no_zeros places (length ended.steps)
-            (omega arith))
+        (create_law scans g Writing start ended r refl refl disk label none created labels on no_zeros places (length ended.steps)
+        (omega arith))
         (created_law scans g Writing start ended r refl refl disk label none created labels on no_zeros places
-            (ended_base scans g true start ended c other refl))) refl)
+        (ended_base scans g true start ended c other refl))) refl)
     all_well (removes_group vg command_is none labels no_zeros) =
         took_by true answer.Fine c false (ap (λ (o : Option Group). is_some o) none)
         (repaired_so scans g start ended (done_entries (whole_origin scans g true start ended c) g.line (length c.made.steps) None)
         (done_commit (whole_origin scans g true start ended c) g.line (length c.made.steps) None
-            (removal_law scans g true start ended c vg command_is) (removed_law scans g true start ended c vg command_is refl)) refl)
+        (removal_law scans g true start ended c vg command_is) (removed_law scans g true start ended c vg command_is refl)) refl)
 
   -- an operation failed
   module _ (c : ClearsLine g false start ended) (pv : ℕ) where
@@ -328,10 +328,10 @@ module _ (scans : RepairedScans) (g : Given) (start ended : Record) where
         (λ (begun : 0 < c.clears.submitted). record {
           history =
               (fenced_commit (whole_origin scans g false start ended c) g.line (length c.made.steps) None
-                  (removal_law scans g false start ended c vg command_is) pv).history;
+              (removal_law scans g false start ended c vg command_is) pv).history;
           last = λ some.
               all_submitted g Done start c.made c.line refl refl ended (c.clears.since ++ own.since)
-                  (batches_in g ++ take c.clears.submitted (clears_in g)) c.clears.submitted
+              (batches_in g ++ take c.clears.submitted (clears_in g)) c.clears.submitted
               (steps_joined c.line.zeroed c.made ended own.since c.clears.since own.steps c.clears.steps)
               (both_begun c.line.zeroed c.made ended (batches_in g) (clears_in g) false own c.clears) (omega (arith, begun))
               (ap (λ (o : Option Group). making (is_some o) c.clears.submitted (batches_in g) (clears_in g)) none);
@@ -340,11 +340,11 @@ module _ (scans : RepairedScans) (g : Given) (start ended : Record) where
         let unbegun : c.clears.submitted ≡ 0 = omega (arith, none_begun) in
         repaired_so scans g start ended (answered_entries (whole_origin scans g false start ended c) g.line (answer.PvFailed pv))
         (undone_line (whole_origin scans g false start ended c) g.line (stays_unremoved scans g false start ended c vg command_is unbegun)
-            (quiet_line g.line.id g.line.command c.line.given.planned)
+        (quiet_line g.line.id g.line.command c.line.given.planned)
         (creates_no_disk (whole_origin scans g false start ended c) g.line (creates_none g.names g.line.command vg command_is))
-            (answer.PvFailed pv)
+        (answer.PvFailed pv)
         (λ removing. removal_unbegun scans g false start ended c vg command_is unbegun no_zeros) refl
-            (planned_says g.line.id g.line.command pv c.line.given.planned).1) refl)
+        (planned_says g.line.id g.line.command pv c.line.given.planned).1) refl)
         (cases_lt 0 c.clears.submitted)
 
     one_failed : Kind g.names g.line.command (change scans g Done start c.made c.line refl)

@@ -1,6 +1,6 @@
 -- What every image has at every moment of a run of one line.
-use Rattle.std.proofs.Common.{◌≡◌, ◌≤◌, ◌⊎◌, ℕ, Bool, true, false, IsTrue, List, ◌++◌, length, take, inl, inr, refl, sym, ap, subst, ◌∙◌,
-    arith}
+use Rattle.std.proofs.Common.{◌≡◌, ◌≤◌, ◌⊎◌, ℕ, Bool, true, false, IsTrue, List, ◌++◌, length, take, inl, inr, refl, sym, ap, subst, ◌∙◌}
+use Rattle.std.proofs.Common.{arith}
 use Rattle.disk_batch.specs.InTurn.{HasFirstBatches, Put, WritesInTurn, with_batches}
 use Rattle.disk_batch.proofs.FrontBatches.{none_front}
 use Rattle.disk_batch.proofs.InTurn.{of_submitted}
@@ -13,8 +13,8 @@ use Rattle.disk_model.specs.Moments.{EveryImageSince}
 use Rattle.disk_model.specs.Order.{WritesNothing}
 use Rattle.disk_model.specs.Steps.{Image, IsSame, Step, Record, steps_on}
 use Rattle.line_history.proofs.Seen.{steps_more}
-use Rattle.line_history.specs.LineRun.{Given, RunsLine, Stage, Opened, Repairing, Repaired, Zeroing, Writing, Done, batches_if, batches_in,
-    is_done, is_repaired, is_zeroed, repair_begun, repairs_in, zeros_begun, zeros_in}
+use Rattle.line_history.specs.LineRun.{Given, RunsLine, Stage, Opened, Repairing, Repaired, Zeroing, Writing, Done, batches_if, batches_in}
+use Rattle.line_history.specs.LineRun.{is_done, is_repaired, is_zeroed, repair_begun, repairs_in, zeros_begun, zeros_in}
 
 -- what every image had since a moment, and has from a later record on
 pub joined : (old new : Record) (newer : List Step) → new ≡ steps_on newer old → (from : ℕ) (P : Image → Type 0) → from ≤ length old.steps
@@ -33,12 +33,12 @@ module _ (old new : Record) (since : List Step) (is : new ≡ steps_on since old
   pub quiet_images : EveryImageSince (length old.steps) new (λ image. IsSame image base)
   quiet_images =
       subst (λ (t : Record). EveryImageSince (length old.steps) t (λ image. IsSame image base)) (sym is)
-          (every_moment Stays old.opened old.steps base_is since (writes_nothing_brings Stays since nothing))
+      (every_moment Stays old.opened old.steps base_is since (writes_nothing_brings Stays since nothing))
 
   pub quiet_base : IsBase new base
   quiet_base =
       subst (λ (t : Record). IsBase t base) (sym is)
-          (only_leaves Stays old.opened old.steps base_is since (writes_nothing_brings Stays since nothing))
+      (only_leaves Stays old.opened old.steps base_is since (writes_nothing_brings Stays since nothing))
 
 -- batches that were begun, or none
 front_if : (begun : Bool) (batches : List (List Put)) (base image : Image) → HasFirstBatches (batches_if begun batches) base image
@@ -55,7 +55,7 @@ module _ (g : Given) (stage : Stage) (start ended : Record) (r : RunsLine g stag
   abbrev pub IsZeroing : Image → Type 0
   IsZeroing image =
       IsSame image (with_batches (repairs_in g) g.base)
-          ⊎ (IsTrue (zeros_begun stage) × HasFirstBatches (zeros_in g) (with_batches (repairs_in g) g.base) image)
+      ⊎ (IsTrue (zeros_begun stage) × HasFirstBatches (zeros_in g) (with_batches (repairs_in g) g.base) image)
 
   -- one behind them, on the way of the line's batches
   abbrev pub IsAfter : Image → Type 0
@@ -74,13 +74,13 @@ module _ (g : Given) (stage : Stage) (start ended : Record) (r : RunsLine g stag
   before_start =
       joined r.opened start r.repair.since r.repair.steps (length g.handed.steps) IsBefore handed_first
       (since_weaken r.opened (length g.handed.steps) (length g.handed.steps) (λ image. IsSame image g.base) IsBefore (omega arith)
-          (λ image same. inl same)
+      (λ image same. inl same)
       (quiet_images g.handed r.opened r.since r.opening r.nothing g.base r.given.base))
       (since_weaken start (length r.opened.steps) (length r.opened.steps)
-          (HasFirstBatches (take r.repair.submitted (batches_if (repair_begun stage) (repairs_in g))) g.base) IsBefore (omega arith)
+      (HasFirstBatches (take r.repair.submitted (batches_if (repair_begun stage) (repairs_in g))) g.base) IsBefore (omega arith)
       (λ image has. front_if (repair_begun stage) (repairs_in g) g.base image
-          (of_submitted r.repair.submitted (batches_if (repair_begun stage) (repairs_in g)) g.base image has))
-          (r.repair.every_image g.base opened_base))
+      (of_submitted r.repair.submitted (batches_if (repair_begun stage) (repairs_in g)) g.base image has))
+      (r.repair.every_image g.base opened_base))
 
 -- what comes first was begun
 pub begun_repair : (s : Stage) → is_repaired s ≡ true → repair_begun s ≡ true
@@ -131,11 +131,11 @@ module _ (g : Given) (stage : Stage) (start ended : Record) (r : RunsLine g stag
   pub during : EveryImageSince (length start.steps) r.zeroed (IsZeroing g stage start ended r)
   during =
       since_weaken r.zeroed (length start.steps) (length start.steps)
-          (HasFirstBatches (take zeros.submitted (batches_if (zeros_begun stage) (zeros_in g))) repaired_image)
-          (IsZeroing g stage start ended r) (omega arith)
+      (HasFirstBatches (take zeros.submitted (batches_if (zeros_begun stage) (zeros_in g))) repaired_image)
+      (IsZeroing g stage start ended r) (omega arith)
       (λ image has. front_if (zeros_begun stage) (zeros_in g) repaired_image image
-          (of_submitted zeros.submitted (batches_if (zeros_begun stage) (zeros_in g)) repaired_image image has))
-          (zeros.every_image repaired_image start_base)
+      (of_submitted zeros.submitted (batches_if (zeros_begun stage) (zeros_in g)) repaired_image image has))
+      (zeros.every_image repaired_image start_base)
 
   pub zeros_last : length start.steps ≤ length r.zeroed.steps
   zeros_last = steps_more start r.zeroed zeros.since zeros.steps
@@ -155,7 +155,7 @@ module _ (g : Given) (stage : Stage) (start ended : Record) (r : RunsLine g stag
     pub all_zeros : WritesInTurn start (zeros_in g) true r.zeroed
     all_zeros =
         subst (λ (l : List (List Put)). WritesInTurn start l true r.zeroed) zeros_all
-            (subst (λ (w : Bool). WritesInTurn start (batches_if (zeros_begun stage) (zeros_in g)) w r.zeroed) zeroed zeros)
+        (subst (λ (w : Bool). WritesInTurn start (batches_if (zeros_begun stage) (zeros_in g)) w r.zeroed) zeroed zeros)
 
     -- then each sector has one value, that with them
     pub zeroed_base_is : IsBase r.zeroed zeroed_image
@@ -168,7 +168,7 @@ module _ (g : Given) (stage : Stage) (start ended : Record) (r : RunsLine g stag
     pub after_zeros : EveryImageSince (length r.zeroed.steps) ended (IsAfter g stage start ended r)
     after_zeros =
         since_weaken ended (length r.zeroed.steps) (length r.zeroed.steps)
-            (HasFirstBatches (take line.submitted (batches_in g)) zeroed_image) (IsAfter g stage start ended r) (omega arith)
+        (HasFirstBatches (take line.submitted (batches_in g)) zeroed_image) (IsAfter g stage start ended r) (omega arith)
         (λ image has. of_submitted line.submitted (batches_in g) zeroed_image image has) submitted_after
 
     pub zeroed_last : length r.zeroed.steps ≤ length ended.steps
@@ -179,24 +179,26 @@ module _ (g : Given) (stage : Stage) (start ended : Record) (r : RunsLine g stag
         → EveryImageSince (length r.zeroed.steps) ended P → EveryImageSince (length start.steps) ended P
     from_start P before after =
         joined r.zeroed ended line.since line.steps (length start.steps) P zeros_last
-            (since_weaken r.zeroed (length start.steps) (length start.steps) (IsZeroing g stage start ended r) P (omega arith) before
-            during) after
+        (since_weaken r.zeroed (length start.steps) (length start.steps) (IsZeroing g stage start ended r) P (omega arith) before
+        during) after
 
   -- the run ended before all were written
   pub until_end : (P : Image → Type 0) → is_zeroed stage ≡ false → ((image : Image) → IsZeroing g stage start ended r image → P image)
       → EveryImageSince (length start.steps) ended P
   until_end P unzeroed before =
       subst (λ (t : Record). EveryImageSince (length start.steps) t P) (sym (r.unzeroed unzeroed))
-          (since_weaken r.zeroed (length start.steps) (length start.steps) (IsZeroing g stage start ended r) P (omega arith) before during)
+      (since_weaken r.zeroed (length start.steps) (length start.steps) (IsZeroing g stage start ended r) P (omega arith) before during)
 
   -- the steps since the start
   pub since_start : (since : List Step) × (ended ≡ steps_on since start)
   since_start = by (is_zeroed stage) refl
     where
       by : (z : Bool) → is_zeroed stage ≡ z → (since : List Step) × (ended ≡ steps_on since start)
-      by true zeroed =
-          ((line zeroed).since ++ zeros.since, steps_joined start r.zeroed ended zeros.since (line zeroed).since zeros.steps
-              (line zeroed).steps)
+      by true zeroed = (
+        (line zeroed).since ++ zeros.since,
+        steps_joined start r.zeroed ended zeros.since (line zeroed).since zeros.steps
+            (line zeroed).steps,
+      )
       by false unzeroed = (zeros.since, r.unzeroed unzeroed ∙ zeros.steps)
 
   pub start_last : length start.steps ≤ length ended.steps

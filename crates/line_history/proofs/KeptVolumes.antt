@@ -69,7 +69,7 @@ module _ (old new : Version) (accepted : IsAccepted old.group) (disks : KeepsDis
       ∙ ap (λ (n : ℕ). map (place_of new other) (range_with_len 0 (extents_of row.1 * n))) size
       ∙ map_same (place_of new other) (place_of old lv) 0 (extents_of row.1 * old.group.extent_size)
       (λ sector less. let at = primary_stands old.group lv sector row accepted there (omega (arith, less)) in place_kept lv other sector
-          at.0 at.1 (kept sector at.0 at.1))
+      at.0 at.1 (kept sector at.0 at.1))
 
   module _ (kept : (lv sector : ℕ) (at : At) → primary old.group lv sector ≡ Some at → primary new.group lv sector ≡ Some at) where
     -- those of rows of the group
@@ -78,12 +78,12 @@ module _ (old new : Version) (accepted : IsAccepted old.group) (disks : KeepsDis
     volumes_from number [] stand = refl
     volumes_from number (row ∷ rows) stand =
         let places : places_of new number row.1 ≡ places_of old number row.1 =
-            places_kept number number row row.1 (first_stands old.group number row rows stand) refl (kept number) in
+        places_kept number number row row.1 (first_stands old.group number row rows stand) refl (kept number) in
         let later : placed_from new (number + 1) rows ≡ placed_from old (number + 1) rows =
-            volumes_from (number + 1) rows (rest_stand old.group number row rows stand) in
+        volumes_from (number + 1) rows (rest_stand old.group number row rows stand) in
         ap (λ (l : List Place). cond row.1.status.visible
-            (record { id = row.1.id; name = row.0; places = l } ∷ placed_from new (number + 1) rows) (placed_from new (number + 1) rows))
-            places
+        (record { id = row.1.id; name = row.0; places = l } ∷ placed_from new (number + 1) rows) (placed_from new (number + 1) rows))
+        places
         ∙ ap (λ (l : List PlacedVolume). cond row.1.status.visible
         (record { id = row.1.id; name = row.0; places = places_of old number row.1 } ∷ l) l) later
 

@@ -1,6 +1,6 @@
 -- What a line makes: a version of the group, or none in its place, or a new physical volume on the disk that it names.
-use Rattle.std.proofs.Common.{◌≡◌, ◌<◌, ℕ, zero, suc, ◌+◌, ◌/◌, ◌==◌, ◌&&◌, ◌||◌, nat_lt, Bool, true, false, if◌then◌else◌, List, [], ◌∷◌,
-    length, Option, Some, None, refl, ap, ◌∙◌, arith}
+use Rattle.std.proofs.Common.{◌≡◌, ◌<◌, ℕ, zero, suc, ◌+◌, ◌/◌, ◌==◌, ◌&&◌, ◌||◌, nat_lt, Bool, true, false, if◌then◌else◌, List, [], ◌∷◌}
+use Rattle.std.proofs.Common.{length, Option, Some, None, refl, ap, ◌∙◌, arith}
 use Rattle.std.specs.Prelude.{option_map, slice_get, unwrap_or}
 use Rattle.std.specs.List.{list_any, AllByRecursion as Each}
 use Rattle.std.specs.Option.{option_and_then, option_map_or}
@@ -8,8 +8,8 @@ use Rattle.std.specs.Str.{bytes_eq}
 use Rattle.std.proofs.lemmas.Option.{same_Some}
 use Rattle.command_table.specs.Options.{Word, number_named}
 use Rattle.command_table.specs.declared.command.Command.{Command}
-use Rattle.command_table.specs.declared.command.Command.TheVariants.{Lvcreate, Lvextend, Lvreduce, Lvremove, Lvrename, Pvcreate,
-    Vgcfgrestore, Vgcreate, Vgextend, Vgreduce, Vgremove, Vgrename}
+use Rattle.command_table.specs.declared.command.Command.TheVariants.{Lvcreate, Lvextend, Lvreduce, Lvremove, Lvrename, Pvcreate}
+use Rattle.command_table.specs.declared.command.Command.TheVariants.{Vgcfgrestore, Vgcreate, Vgextend, Vgreduce, Vgremove, Vgrename}
 use Rattle.line_answers.specs.declared.op_refusal.OpRefusal.{OpRefusal}
 use Rattle.line_answers.specs.declared.op_refusal.OpRefusal.TheVariants.{UnknownGroup, UnknownPv}
 use Rattle.lvm_script.specs.declared.line.Line.{Line}
@@ -46,7 +46,7 @@ use Rattle.line_history.proofs.ReadBackups.{some_backup}
 abbrev pub IsCreated : Command → ℕ → NewLabel → Type 0
 IsCreated command disk label =
     (is_created_at command disk (one_sector label.disk label.sector) ≡ true)
-        × Each (λ (area : Extent). is_created_at command disk (one_sector label.disk (area.offset / 512)) ≡ true) label.header.areas
+    × Each (λ (area : Extent). is_created_at command disk (one_sector label.disk (area.offset / 512)) ≡ true) label.header.areas
 
 -- a line with this change: one that creates a physical volume or removes the group zeroes nothing, and one that removes it
 -- writes nothing but what clears its disks
@@ -120,11 +120,11 @@ create_kind : (state : GroupState) (id pv : List ℕ) (copies : ℕ) (o : Option
 create_kind state id pv copies None is many stand none = absurd cc
 create_kind state id pv copies (Some number) is many stand none =
     let within : number < length state.disks =
-        let w : number < length state.names = named_within state.names pv number is in omega (arith, w, many) in
+    let w : number < length state.names = named_within state.names pv number is in omega (arith, w, many) in
     let disk = there_at state.disks number within in
     creates number (new_label id copies number disk.0) refl is
     (ap (λ (o : Option ℕ). option_map_or (λ number. option_map_or (λ disk. new_label id copies number disk ∷ [])
-        (slice_get state.disks number) []) o []) is
+    (slice_get state.disks number) []) o []) is
     ∙ ap (λ (o : Option Disk). option_map_or (λ disk. new_label id copies number disk ∷ []) o []) disk.1)
     refl refl (created_at pv id copies number disk.0 (label_low number disk.0 (stand number disk.0 disk.1)))
 

@@ -1,6 +1,6 @@
 -- What the parts of a run of one line give for its history, by how far it came.
-use Rattle.std.proofs.Common.{◌≡◌, ◌≤◌, ◌<◌, ℕ, ◌-◌, ◌&&◌, Bool, true, false, if◌then◌else◌, List, [], ◌∷◌, ◌++◌, length, Option, Some,
-    None, inl, inr, ⊎_elim, refl, sym, ap, subst, ◌∙◌, arith}
+use Rattle.std.proofs.Common.{◌≡◌, ◌≤◌, ◌<◌, ℕ, ◌-◌, ◌&&◌, Bool, true, false, if◌then◌else◌, List, [], ◌∷◌, ◌++◌, length, Option, Some}
+use Rattle.std.proofs.Common.{None, inl, inr, ⊎_elim, refl, sym, ap, subst, ◌∙◌, arith}
 use Rattle.command_table.specs.declared.command.Command.{Command}
 use Rattle.command_table.specs.declared.command.Command.TheVariants.{Lvcreate}
 use Rattle.disk_model.proofs.EveryMoment.{since_weaken}
@@ -44,10 +44,12 @@ use Rattle.volume_history.specs.Reshaping.{MakesVersion}
 use Rattle.volume_history.specs.Single.{CommitLaw, DoneLaw, IsStill, StaysLaw, begun_entries, end_of, ZeroesStand}
 use Rattle.line_history.proofs.NewZeroes.{line_zeroed, zero_cases}
 use Rattle.line_history.proofs.Stays.{all_stay}
-use Rattle.line_history.proofs.Finding.{KeepsPlaces, can_carry_out, can_start, finds_before, finds_start, finds_zeroing, found_before,
-    image_of_base, kept_after, kept_before, kept_zeroing, one_image, repaired_base, same_version, scan_zeroed, zeroed_base}
-use Rattle.line_history.proofs.Images.{IsAfter, IsBefore, after_zeros, before_start, begun_zeros, during, from_start, joined,
-    line as line_of, none_zeroed, since_start, start_base, submitted_after, until_end, zeroed_base_is, zeroed_last, zeros_last}
+use Rattle.line_history.proofs.Finding.{KeepsPlaces, can_carry_out, can_start, finds_before, finds_start, finds_zeroing, found_before}
+use Rattle.line_history.proofs.Finding.{image_of_base, kept_after, kept_before, kept_zeroing, one_image, repaired_base, same_version}
+use Rattle.line_history.proofs.Finding.{scan_zeroed, zeroed_base}
+use Rattle.line_history.proofs.Images.{IsAfter, IsBefore, after_zeros, before_start, begun_zeros, during, from_start, joined}
+use Rattle.line_history.proofs.Images.{line as line_of, none_zeroed, since_start, start_base, submitted_after, until_end, zeroed_base_is}
+use Rattle.line_history.proofs.Images.{zeroed_last, zeros_last}
 use Rattle.line_history.proofs.ChangedVolumes.{commit_changes_volumes}
 use Rattle.line_history.proofs.Untouched.{places_untouched}
 use Rattle.line_history.proofs.Origins.{origin, origin_of, still}
@@ -67,7 +69,7 @@ module _ (scans : RepairedScans) (g : Given) (stage : Stage) (start ended : Reco
       → AllUntouched g.base (volumes_of version) (at_moment m ended)
   untouched_by m keeps =
       places_untouched g.base g.sizes g.found (at_moment m ended) r.given.scan r.given.shape
-          (record_drop (length ended.steps - m) ended.steps r.record_is) keeps
+      (record_drop (length ended.steps - m) ended.steps r.record_is) keeps
 
   until_start : (m : ℕ) → length g.handed.steps ≤ m → m ≤ length start.steps → (image : Image) → IsImage (at_moment m start) image
       → IsBefore g stage start ended r image
@@ -83,7 +85,7 @@ module _ (scans : RepairedScans) (g : Given) (stage : Stage) (start ended : Reco
     at_end m ge le image is =
         let same : ended ≡ start = at_once in
         until_start m ge (subst (λ (t : Record). m ≤ length t.steps) same le) image
-            (subst (λ (t : Record). IsImage (at_moment m t) image) same is)
+        (subst (λ (t : Record). IsImage (at_moment m t) image) same is)
 
     pub is_end : ended ≡ steps_on (r.repair.since ++ r.since) g.handed
     is_end = at_once ∙ steps_joined g.handed r.opened start r.since r.repair.since r.opening r.repair.steps
@@ -91,16 +93,16 @@ module _ (scans : RepairedScans) (g : Given) (stage : Stage) (start ended : Reco
     abbrev pub origin_handed : Origin
     origin_handed =
         origin g.handed g.handed ended [] (r.repair.since ++ r.since) refl is_end r.record_is g.base g.base r.given.base r.given.base
-            g.sizes g.names g.clock version
+        g.sizes g.names g.clock version
 
     -- the start is the hand-in
     pub stays_handed : StaysLaw origin_handed
     stays_handed = record {
       still =
           still g.handed g.handed ended [] (r.repair.since ++ r.since) refl is_end r.record_is g.base g.base r.given.base r.given.base
-              g.sizes g.names g.clock version
+          g.sizes g.names g.clock version
           (λ m ge le image is. finds_before scans g stage start ended r image
-              (at_end m ge (omega (arith, le, steps_more g.handed ended (r.repair.since ++ r.since) is_end)) image is))
+          (at_end m ge (omega (arith, le, steps_more g.handed ended (r.repair.since ++ r.since) is_end)) image is))
           (λ m ge le. untouched_by m (λ image is. kept_before scans g stage start ended r image (at_end m ge le image is)))
           (found_before scans g stage start ended r);
       after = λ m ge le image is. finds_before scans g stage start ended r image (at_end m ge le image is);
@@ -123,7 +125,7 @@ module _ (scans : RepairedScans) (g : Given) (stage : Stage) (start ended : Reco
     abbrev pub origin_repaired : Origin
     origin_repaired =
         origin g.handed start ended (r.repair.since ++ r.since) later is_start is_later r.record_is g.base (repaired_base g) r.given.base
-            starts_at g.sizes g.names g.clock version
+        starts_at g.sizes g.names g.clock version
 
     -- every image keeps the places
     kept_since : EveryImageSince (length start.steps) ended (KeepsPlaces g)
@@ -132,29 +134,29 @@ module _ (scans : RepairedScans) (g : Given) (stage : Stage) (start ended : Reco
         by : (z : Bool) → is_zeroed stage ≡ z → EveryImageSince (length start.steps) ended (KeepsPlaces g)
         by true zeroed =
             from_start g stage start ended r repaired zeroed (KeepsPlaces g)
-                (λ image is. kept_zeroing scans g stage start ended r repaired image is)
+            (λ image is. kept_zeroing scans g stage start ended r repaired image is)
             (since_weaken ended (length r.zeroed.steps) (length r.zeroed.steps) (IsAfter g stage start ended r) (KeepsPlaces g)
-                (omega arith)
+            (omega arith)
             (λ image is. kept_after scans g stage start ended r repaired (begun_zeros stage zeroed) image is)
-                (after_zeros g stage start ended r repaired zeroed))
+            (after_zeros g stage start ended r repaired zeroed))
         by false unzeroed =
             until_end g stage start ended r repaired (KeepsPlaces g) unzeroed
-                (λ image is. kept_zeroing scans g stage start ended r repaired image is)
+            (λ image is. kept_zeroing scans g stage start ended r repaired image is)
 
     all_kept : EveryImageSince (length g.handed.steps) ended (KeepsPlaces g)
     all_kept =
         joined start ended later is_later (length g.handed.steps) (KeepsPlaces g)
-            (steps_more g.handed start (r.repair.since ++ r.since) is_start)
+        (steps_more g.handed start (r.repair.since ++ r.since) is_start)
         (since_weaken start (length g.handed.steps) (length g.handed.steps) (IsBefore g stage start ended r) (KeepsPlaces g) (omega arith)
-            (λ image is. kept_before scans g stage start ended r image is) (before_start g stage start ended r))
+        (λ image is. kept_before scans g stage start ended r image is) (before_start g stage start ended r))
         kept_since
 
     pub is_still : IsStill origin_repaired
     is_still =
         still g.handed start ended (r.repair.since ++ r.since) later is_start is_later r.record_is g.base (repaired_base g) r.given.base
-            starts_at g.sizes g.names g.clock version
+        starts_at g.sizes g.names g.clock version
         (λ m ge le image is. finds_before scans g stage start ended r image
-            (until_start m ge le image (subst (λ (t : Record). IsImage t image) (moment_seen start ended later is_later m le) is)))
+        (until_start m ge le image (subst (λ (t : Record). IsImage t image) (moment_seen start ended later is_later m le) is)))
         (λ m ge le. untouched_by m (λ image is. all_kept m ge le image is))
         (finds_start scans g stage start ended r repaired)
 
@@ -164,7 +166,7 @@ module _ (scans : RepairedScans) (g : Given) (stage : Stage) (start ended : Reco
       still = is_still;
       after =
           until_end g stage start ended r repaired (λ image. FindsVersion g.sizes image none_out version) unzeroed
-              (λ image is. finds_zeroing scans g stage start ended r repaired image is);
+          (λ image is. finds_zeroing scans g stage start ended r repaired image is);
     }
 
     abbrev pub change : Change
@@ -176,9 +178,9 @@ module _ (scans : RepairedScans) (g : Given) (stage : Stage) (start ended : Reco
         pub changes : ChangesVolumes g.line.command version (Some (version_of group change))
         changes =
             subst (λ (v : Option Version). ChangesVolumes g.line.command v (Some (version_of group change)))
-                (same_version scans g stage start ended r repaired)
+            (same_version scans g stage start ended r repaired)
             (commit_changes_volumes (repaired_base g) g.sizes (repaired_of g.found) g.names g.backup g.line g.clock g.given
-                (can_start scans g stage start ended r repaired zeros) group made)
+            (can_start scans g stage start ended r repaired zeros) group made)
 
         commits_it : commits g.line.command ≡ true
         commits_it = changes_commit g.line.command version (Some (version_of group change)) changes
@@ -195,7 +197,7 @@ module _ (scans : RepairedScans) (g : Given) (stage : Stage) (start ended : Reco
         none_left : (pv : ℕ) → left_out at (begun_entries at g.line) m pv ≡ false
         none_left pv =
             ap (λ (d : Option ℕ). if is_number d pv && wrote_disk at (begun_entries at g.line) m (length start.steps) 0 g.line pv then true
-                else false) creates_none
+            else false) creates_none
 
         pub makes_then : now_at at m ≡ zeroed_base g → next ≡ version_made change → Makes at (begun_entries at g.line) m g.line next
         makes_then now_there makes = record {
@@ -204,7 +206,7 @@ module _ (scans : RepairedScans) (g : Given) (stage : Stage) (start ended : Reco
             found = repaired_of g.found;
             scan =
                 subst (λ (i : Image). IsScanOf i g.sizes (repaired_of g.found)) (sym now_there)
-                    (scan_zeroed scans g stage start ended r repaired zeros);
+                (scan_zeroed scans g stage start ended r repaired zeros);
             left = λ pv within. none_unread (repaired_of g.found) (r.repaired_whole repaired) pv ∙ sym (none_left pv);
             whole = (r.repaired_whole repaired).there;
             version_is = same_version scans g stage start ended r repaired;
@@ -240,21 +242,21 @@ module _ (scans : RepairedScans) (g : Given) (stage : Stage) (start ended : Reco
       before_commit m ge le image is =
           finds_zeroing scans g stage start ended r repaired image
           (during g stage start ended r repaired m ge le image
-              (subst (λ (t : Record). IsImage t image) (moment_seen r.zeroed ended line.since line.steps m le) is))
+          (subst (λ (t : Record). IsImage t image) (moment_seen r.zeroed ended line.since line.steps m le) is))
 
       -- one from then on is on the way of the commit
       pub way_at : (m : ℕ) → length r.zeroed.steps ≤ m → m ≤ length ended.steps → (image : Image) → IsImage (at_moment m ended) image
           → FindsOnTheWay g.sizes image (repaired_of g.found) change change.group
       way_at m ge le image is =
           images_scan (zeroed_base g) g.sizes (repaired_of g.found) g.names g.backup g.line g.clock g.given can image
-              (after_zeros g stage start ended r repaired zeroed m ge le image is)
+          (after_zeros g stage start ended r repaired zeroed m ge le image is)
 
       -- and each sector of the zeros has them
       pub zeros_stand : (m : ℕ) → length r.zeroed.steps ≤ m → m ≤ length ended.steps → (image : Image) → IsImage (at_moment m ended) image
           → (disk sector : ℕ) → in_spans change.zero disk sector ≡ true → image disk sector ≡ zero_sector
       zeros_stand m ge le image is disk sector among =
           zeroes_kept (repaired_base g) g.sizes (repaired_of g.found) g.names g.backup g.line g.clock g.given
-              (can_start scans g stage start ended r repaired zeros) image
+          (can_start scans g stage start ended r repaired zeros) image
           (after_zeros g stage start ended r repaired zeroed m ge le image is) disk sector among
 
       -- so that nothing else may be left there
@@ -263,7 +265,7 @@ module _ (scans : RepairedScans) (g : Given) (stage : Stage) (start ended : Reco
       zeros_left m ge le place among = record {
         each =
             (leaves_by_images (at_moment m ended) place.disk place.sector (λ value. value ≡ zero_sector)
-                (record_drop (length ended.steps - m) ended.steps r.record_is)
+            (record_drop (length ended.steps - m) ended.steps r.record_is)
             (λ image is. zeros_stand m ge le image is place.disk place.sector among)).each;
       }
 
@@ -283,7 +285,7 @@ module _ (scans : RepairedScans) (g : Given) (stage : Stage) (start ended : Reco
       pub last_now : is_done stage ≡ true → now_at origin_repaired (end_of origin_repaired) ≡ done_image
       last_now done =
           now_seen ended ended [] refl ∙ one_image (now_after ended.opened ended.steps) done_image
-              (now_base ended done_image r.record_is (done_base done))
+          (now_base ended done_image r.record_is (done_base done))
 
       -- ---- a commit
       module _ (group : Group) (made : change.group ≡ Some group) where
@@ -299,7 +301,7 @@ module _ (scans : RepairedScans) (g : Given) (stage : Stage) (start ended : Reco
             ∙ now_seen r.zeroed ended line.since line.steps
             ∙ one_image (now_after r.zeroed.opened r.zeroed.steps) (zeroed_base g)
             (now_base r.zeroed (zeroed_base g) (record_before r.zeroed ended line.since line.steps r.record_is)
-                (zeroed_base_is g stage start ended r repaired zeroed))
+            (zeroed_base_is g stage start ended r repaired zeroed))
 
         makes_version : MakesVersion g.line.command version next
         makes_version = changes_make g.line.command version next (changes zeros group made)
@@ -308,22 +310,22 @@ module _ (scans : RepairedScans) (g : Given) (stage : Stage) (start ended : Reco
         begins_zeroed : (m : ℕ) → opened ≤ m → m ≤ length ended.steps → ZeroesStand (origin_at m origin_repaired) g.line.command next
         begins_zeroed m ge le =
             let starts : CanCarryOut (repaired_base g) g.sizes (repaired_of g.found) g.names g.backup g.line g.clock g.given =
-                can_start scans g stage start ended r repaired zeros in
+            can_start scans g stage start ended r repaired zeros in
             ⊎_elim
             (λ none. zeroes_stand (origin_at m origin_repaired) g.line.command next none makes_version)
             (λ created.
             let own : ChangesVolumes (Lvcreate created.0) version next =
-                subst (λ (c : Command). ChangesVolumes c version next) (sym created.1) (changes zeros group made) in
+            subst (λ (c : Command). ChangesVolumes c version next) (sym created.1) (changes zeros group made) in
             subst (λ (c : Command). ZeroesStand (origin_at m origin_repaired) c next) created.1
             (new_zeroes_stand (origin_at m origin_repaired) created.0 next own
             (λ x within low.
             zeros_left m ge le (place_at own.0.places x)
             (line_zeroed (repaired_of g.found) g.names g.backup g.clock g.given (r.repaired_shape repaired)
             (is_state (repaired_base g) g.sizes (repaired_of g.found) g.names g.backup g.line g.clock g.given starts)
-                (found_accepted (repaired_base g) g.sizes (repaired_of g.found) starts.scan) r.given.time g.line created.0 created.1
-                r.given.planned (r.takes zeros) (r.passes zeros) group made own.0
+            (found_accepted (repaired_base g) g.sizes (repaired_of g.found) starts.scan) r.given.time g.line created.0 created.1
+            r.given.planned (r.takes zeros) (r.passes zeros) group made own.0
             (own.2 ∙ ap (λ (v : Option Version). volumes_of v ++ own.0 ∷ []) (sym (same_version scans g stage start ended r repaired))) x
-                within low))))
+            within low))))
             (zero_cases g.line.command)
 
         pub commit_law : CommitLaw origin_repaired g.line opened next
@@ -339,7 +341,7 @@ module _ (scans : RepairedScans) (g : Given) (stage : Stage) (start ended : Reco
           between = λ m ge le image is.
               ⊎_elim
               (λ old. inl (subst (λ (v : Option Version). FindsVersion g.sizes image none_out v)
-                  (same_version scans g stage start ended r repaired) old))
+              (same_version scans g stage start ended r repaired) old))
               (λ new. inr new)
               (subst (λ (o : Option Group). FindsOnTheWay g.sizes image (repaired_of g.found) change o) made (way_at m ge le image is));
         }
@@ -350,11 +352,11 @@ module _ (scans : RepairedScans) (g : Given) (stage : Stage) (start ended : Reco
           still = is_still;
           after =
               from_start g stage start ended r repaired zeroed (λ image. FindsVersion g.sizes image none_out version)
-                  (λ image is. finds_zeroing scans g stage start ended r repaired image is)
+              (λ image is. finds_zeroing scans g stage start ended r repaired image is)
               (λ m ge le image is.
               subst (λ (v : Option Version). FindsVersion g.sizes image none_out v) (same_version scans g stage start ended r repaired)
               (unpublished_scans (zeroed_base g) g.sizes (repaired_of g.found) g.names g.backup g.line g.clock g.given can image
-                  line.submitted less
+              line.submitted less
               (submitted_after g stage start ended r repaired zeroed m ge le image is) group made));
         }
 
@@ -366,8 +368,8 @@ module _ (scans : RepairedScans) (g : Given) (stage : Stage) (start ended : Reco
           after = λ image is. subst (λ (i : Image). FindsVersion g.sizes i none_out next) (sym (last_image done image is)) finds_next;
           untouched =
               subst (λ (i : Image). AllUntouched i (volumes_of next) ended) (sym (last_now done))
-                  (all_stay done_image ended (done_base done) (volumes_of next));
+              (all_stay done_image ended (done_base done) (volumes_of next));
           found =
               subst (λ (i : Image). FindsVersion g.sizes i none_out next) (sym (last_now done))
-                  (finds_with g.sizes done_image none_out none_out next (λ pv. refl) finds_next);
+              (finds_with g.sizes done_image none_out none_out next (λ pv. refl) finds_next);
         }

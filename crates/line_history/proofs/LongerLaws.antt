@@ -10,8 +10,8 @@ use Rattle.volume_history.specs.Chronicles.{Origin, left_out, now_at, origin_at}
 use Rattle.volume_history.specs.Legal.{FindsNow, Makes}
 use Rattle.volume_history.specs.Placed.{volumes_of}
 use Rattle.volume_history.specs.Quiet.{AllUntouched}
-use Rattle.volume_history.specs.Single.{AllFind, AllFindEither, CommitLaw, DoneLaw, IsStill, MadeLaw, StaysLaw, ZeroesStand, begun_entries,
-    end_of, none_out}
+use Rattle.volume_history.specs.Single.{AllFind, AllFindEither, CommitLaw, DoneLaw, IsStill, MadeLaw, StaysLaw, ZeroesStand, begun_entries}
+use Rattle.volume_history.specs.Single.{end_of, none_out}
 use Rattle.line_history.proofs.Seen.{moment_seen, steps_more}
 
 module _ (o : Origin) (ended : Record) (newer : List Step) (is : ended ≡ steps_on newer o.told) where
@@ -52,11 +52,11 @@ module _ (o : Origin) (ended : Record) (newer : List Step) (is : ended ≡ steps
       until = let a = still.until in let b = ends_later in omega (arith, a, b);
       before =
           λ m ge le. subst (AllFind o.sizes none_out o.version) (sym (seen m (let a = still.until in omega (arith, a, le))))
-              (still.before m ge le);
+          (still.before m ge le);
       untouched =
           until_end (λ (told : Record). AllUntouched (now_at longer o.first) (volumes_of o.version) told) o.first
           (λ m ge le. subst (λ (i : Image). AllUntouched i (volumes_of o.version) (at_moment m o.told)) (same_now o.first begins)
-              (still.untouched m ge le)) untouched;
+          (still.untouched m ge le)) untouched;
       found = subst (λ (at : Origin). FindsNow at [] o.start o.version) (same_origin o.start still.until) still.found;
     }
 
@@ -81,7 +81,7 @@ module _ (o : Origin) (ended : Record) (newer : List Step) (is : ended ≡ steps
       zeroed = until_end (λ (told : Record). ZeroesStand (record o { told = told }) line.command version) opened law.zeroed zeroed;
       before =
           λ m ge lt. subst (AllFind o.sizes none_out o.version) (sym (seen m (let a = law.until in omega (arith, a, lt))))
-              (law.before m ge lt);
+          (law.before m ge lt);
       makes = subst (λ (at : Origin). Makes at (begun_entries o line) opened line version) (same_origin opened law.until) law.makes;
       between = until_end (AllFindEither o.sizes o.version version) opened law.between finds;
     }
@@ -98,6 +98,6 @@ module _ (o : Origin) (ended : Record) (newer : List Step) (is : ended ≡ steps
     found =
         subst (λ (i : Image). FindsVersion o.sizes i (left_out longer [] (end_of o)) version) (same_now (end_of o) (omega arith))
         (finds_with o.sizes (now_at o (end_of o)) (left_out o [] (end_of o)) (left_out longer [] (end_of o)) version (λ pv. refl)
-            done.found);
+        done.found);
     untouched = untouched;
   }

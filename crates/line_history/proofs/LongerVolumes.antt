@@ -1,6 +1,6 @@
 -- The volumes of a group in which a visible volume is longer, and of one with one more.
-use Rattle.std.proofs.Common.{◌≡◌, ℕ, zero, suc, ◌+◌, ◌*◌, Bool, true, false, ◌||◌, ◌&&◌, cond, List, [], ◌∷◌, ◌++◌, length, map, Some,
-    refl, sym, ap, ◌∙◌, arith}
+use Rattle.std.proofs.Common.{◌≡◌, ℕ, zero, suc, ◌+◌, ◌*◌, Bool, true, false, ◌||◌, ◌&&◌, cond, List, [], ◌∷◌, ◌++◌, length, map, Some}
+use Rattle.std.proofs.Common.{refl, sym, ap, ◌∙◌, arith}
 use Rattle.std.specs.Prelude.{nat_eq, slice_get}
 use Rattle.std.specs.Cmp.Lexicographic.{pointwise}
 use Rattle.std.specs.List.{AllByRecursion as Each, range_with_len}
@@ -65,13 +65,16 @@ module _ (name : List ℕ) (given : List Part) (before : Version) (disk_of : Lis
   abbrev pub places_behind : ℕ → Lv → List Place
   places_behind number lv =
       map (place_of after number) (range_with_len (extents_of lv * before.group.extent_size)
-          (extents_in (segments_of (last_kind lv.segments) (extents_of lv) given) * before.group.extent_size))
+      (extents_in (segments_of (last_kind lv.segments) (extents_of lv) given) * before.group.extent_size))
 
   -- a row, where it is known whether it has the name
   row_after : (number : ℕ) (row : Row) (rows : List Row) (b : Bool) → same_bytes row.0 name ≡ b
       → placed_from after number (map grown (row ∷ rows))
-      ≡ cond row.1.status.visible (record { id = row.1.id; name = row.0;
-      places = places_of after number (cond b (longer given row.1) row.1) } ∷ placed_from after (number + 1) (map grown rows))
+      ≡ cond row.1.status.visible (record {
+        id = row.1.id;
+        name = row.0;
+        places = places_of after number (cond b (longer given row.1) row.1);
+      } ∷ placed_from after (number + 1) (map grown rows))
       (placed_from after (number + 1) (map grown rows))
   row_after number row rows b is =
       ap (λ (same : Bool). listed (cond same (longer_row given row) row)) is ∙ by b
@@ -83,8 +86,11 @@ module _ (name : List ℕ) (given : List Part) (before : Version) (disk_of : Lis
       listed r = cond r.1.status.visible (record { id = r.1.id; name = r.0; places = places_of after number r.1 } ∷ later) later
 
       by : (b : Bool) → listed (cond b (longer_row given row) row)
-          ≡ cond row.1.status.visible (record { id = row.1.id; name = row.0;
-          places = places_of after number (cond b (longer given row.1) row.1) } ∷ later) later
+          ≡ cond row.1.status.visible (record {
+            id = row.1.id;
+            name = row.0;
+            places = places_of after number (cond b (longer given row.1) row.1);
+          } ∷ later) later
       by true = refl
       by false = refl
 
@@ -115,10 +121,10 @@ module _ (name : List ℕ) (given : List Part) (before : Version) (disk_of : Lis
         let more : ℕ = extents_in (segments_of (last_kind row.1.segments) (extents_of row.1) given) in
         let all : extents_of (longer given row.1) * size ≡ own * size + more * size =
         ap (λ (n : ℕ). n * size) (extents_both row.1.segments (segments_of (last_kind row.1.segments) (extents_of row.1) given))
-            ∙ omega arith
+        ∙ omega arith
         in
         map_parts (place_of after number) 0 (own * size) (extents_of (longer given row.1) * size) (own * size) (more * size) all
-            (omega arith)
+        (omega arith)
         ∙ ap (λ (l : List Place). l ++ places_behind number row.1) (own_kept number row there)
 
     -- rows of other names keep all
@@ -138,7 +144,7 @@ module _ (name : List ℕ) (given : List Part) (before : Version) (disk_of : Lis
     longer_from number [] taken v stand is are = absurd cc
     longer_from number (row ∷ rows) taken v stand is are =
         by row.1.status.visible (same_bytes row.0 name) refl refl is
-            (λ made. longer_from (number + 1) rows (row.0 ∷ taken) v (rest_stand before.group number row rows stand) made are.2)
+        (λ made. longer_from (number + 1) rows (row.0 ∷ taken) v (rest_stand before.group number row rows stand) made are.2)
       where
         grow : PlacedVolume → PlacedVolume
         grow = grown_by (places_behind v.0 v.1)
@@ -157,7 +163,7 @@ module _ (name : List ℕ) (given : List Part) (before : Version) (disk_of : Lis
             → changed_named name grow (placed number row ∷ later) ≡ cond b (grow (placed number row) ∷ later) (placed number row ∷ changed)
         first_named b same =
             ap (λ (c : Bool). cond c (grow (placed number row) ∷ later) (placed number row ∷ changed))
-                (pointwise-same_bytes row.0 name ∙ same)
+            (pointwise-same_bytes row.0 name ∙ same)
 
         by : (visible same : Bool) → row.1.status.visible ≡ visible → same_bytes row.0 name ≡ same
             → cond (visible && same) (Some (number, row.1)) (visible_from (number + 1) name rows) ≡ Some v
@@ -170,12 +176,12 @@ module _ (name : List ℕ) (given : List Part) (before : Version) (disk_of : Lis
             ∷ later_after) later_after) shown
             ∙ ap (λ (l : List Place). record { id = row.1.id; name = row.0; places = l } ∷ later_after)
             (places_grown number row (first_stands before.group number row rows stand)
-                ∙ ap (λ (x : ℕ × Lv). places_of before number row.1 ++ places_behind x.0 x.1) volume)
+            ∙ ap (λ (x : ℕ × Lv). places_of before number row.1 ++ places_behind x.0 x.1) volume)
             ∙ ap (λ (l : List PlacedVolume). grow (placed number row) ∷ l)
             (others_kept (number + 1) rows (rest_stand before.group number row rows stand)
-                (others_named name rows (row.0 ∷ taken) are.2
-                (ap (λ (b : Bool). b || is_among taken name)
-                (ap (pointwise nat_eq name) (same_bytes_tells row.0 name same) ∙ pointwise_same name))))
+            (others_named name rows (row.0 ∷ taken) are.2
+            (ap (λ (b : Bool). b || is_among taken name)
+            (ap (pointwise nat_eq name) (same_bytes_tells row.0 name same) ∙ pointwise_same name))))
             ∙ sym (first_named true same)
         by true false shown same made rest =
             row_kept number row rows stand same
@@ -184,8 +190,11 @@ module _ (name : List ℕ) (given : List Part) (before : Version) (disk_of : Lis
             ∙ sym (first_named false same)
         by false same hidden is_same made rest =
             row_after number row rows same is_same
-            ∙ ap (λ (b : Bool). cond b (record { id = row.1.id; name = row.0;
-            places = places_of after number (cond same (longer given row.1) row.1) } ∷ later_after) later_after) hidden
+            ∙ ap (λ (b : Bool). cond b (record {
+              id = row.1.id;
+              name = row.0;
+              places = places_of after number (cond same (longer given row.1) row.1);
+            } ∷ later_after) later_after) hidden
             ∙ rest made
 
   -- so it is in the group
@@ -204,25 +213,25 @@ free_from : (version : Version) (name : List ℕ) (number : ℕ) (rows : List Ro
 free_from version name number [] free = refl
 free_from version name number (row ∷ rows) free =
     by row.1.status.visible (pointwise nat_eq row.0 name) refl (free_from version name (number + 1) rows both.1) where
-  both : (pointwise nat_eq name row.0 ≡ false) × (is_among (names_of rows) name ≡ false)
-  both = parts (pointwise nat_eq name row.0) (is_among (names_of rows) name) free where
-    parts : (a b : Bool) → (a || b) ≡ false → (a ≡ false) × (b ≡ false)
-    parts true b is = absurd (true≢false is)
-    parts false b is = (refl, is)
+      both : (pointwise nat_eq name row.0 ≡ false) × (is_among (names_of rows) name ≡ false)
+      both = parts (pointwise nat_eq name row.0) (is_among (names_of rows) name) free where
+        parts : (a b : Bool) → (a || b) ≡ false → (a ≡ false) × (b ≡ false)
+        parts true b is = absurd (true≢false is)
+        parts false b is = (refl, is)
 
-  later : List PlacedVolume
-  later = placed_from version (number + 1) rows
+      later : List PlacedVolume
+      later = placed_from version (number + 1) rows
 
-  volume : PlacedVolume
-  volume = record { id = row.1.id; name = row.0; places = places_of version number row.1 }
+      volume : PlacedVolume
+      volume = record { id = row.1.id; name = row.0; places = places_of version number row.1 }
 
-  by : (seen same : Bool) → pointwise nat_eq row.0 name ≡ same → has_named name later ≡ false
-      → has_named name (cond seen (volume ∷ later) later) ≡ false
-  by false same is rest = rest
-  by true true is rest =
-      let own : row.0 ≡ name = same_bytes_tells row.0 name (sym (pointwise-same_bytes row.0 name) ∙ is) in
-      absurd (true≢false (sym (ap (pointwise nat_eq name) own ∙ pointwise_same name) ∙ both.0))
-  by true false is rest = ap (λ (b : Bool). b || has_named name later) is ∙ rest
+      by : (seen same : Bool) → pointwise nat_eq row.0 name ≡ same → has_named name later ≡ false
+          → has_named name (cond seen (volume ∷ later) later) ≡ false
+      by false same is rest = rest
+      by true true is rest =
+          let own : row.0 ≡ name = same_bytes_tells row.0 name (sym (pointwise-same_bytes row.0 name) ∙ is) in
+          absurd (true≢false (sym (ap (pointwise nat_eq name) own ∙ pointwise_same name) ∙ both.0))
+      by true false is rest = ap (λ (b : Bool). b || has_named name later) is ∙ rest
 
 pub named_free : (version : Version) (name : List ℕ) → is_among (names_of version.group.lvs) name ≡ false
     → has_named name (volumes_of (Some version)) ≡ false
@@ -248,8 +257,8 @@ module _ (row : Row) (before : Version) (disk_of : List ℕ) where
   last_placed number (r ∷ rows) visible =
       ap (λ (l : List PlacedVolume). cond r.1.status.visible (first ∷ l) l)
       (last_placed (number + 1) rows visible ∙ ap
-          (λ (n : ℕ). placed_from with_one (number + 1) rows ++ record { id = row.1.id; name = row.0; places = places_of with_one n row.1 }
-          ∷ []) (omega arith))
+      (λ (n : ℕ). placed_from with_one (number + 1) rows ++ record { id = row.1.id; name = row.0; places = places_of with_one n row.1 }
+      ∷ []) (omega arith))
       ∙ by r.1.status.visible
     where
       first : PlacedVolume

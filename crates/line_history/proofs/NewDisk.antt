@@ -1,6 +1,6 @@
 -- A line that makes a new physical volume: its disk is left out once it was written, until the line is done.
-use Rattle.std.proofs.Common.{◌≡◌, ◌≤◌, ℕ, ◌+◌, ◌-◌, ◌==◌, ◌&&◌, ◌||◌, Bool, true, false, List, [], ◌∷◌, ◌++◌, length, map, take, Option,
-    Some, None, refl, sym, ap, subst, ◌∙◌, arith}
+use Rattle.std.proofs.Common.{◌≡◌, ◌≤◌, ℕ, ◌+◌, ◌-◌, ◌==◌, ◌&&◌, ◌||◌, Bool, true, false, List, [], ◌∷◌, ◌++◌, length, map, take, Option}
+use Rattle.std.proofs.Common.{Some, None, refl, sym, ap, subst, ◌∙◌, arith}
 use Rattle.sector_base.specs.declared.spans.Span.{Span}
 use Rattle.disk_model.specs.CrashValues.{IsImage}
 use Rattle.disk_model.specs.Durability.{IsBase}
@@ -54,9 +54,9 @@ or_false false = refl
 module _ (scans : RepairedScans) (g : Given) (stage : Stage) (start ended : Record) (r : RunsLine g stage start ended)
     (repaired : is_repaired stage ≡ true) (zeroed : is_zeroed stage ≡ true)
     (disk : ℕ) (label : NewLabel) (none : (change scans g stage start ended r repaired).group ≡ None)
-        (created : created_disk g.names g.line.command ≡ Some disk)
+    (created : created_disk g.names g.line.command ≡ Some disk)
     (labels : (change scans g stage start ended r repaired).labels ≡ label ∷ []) (on : label.disk ≡ disk)
-        (no_zeros : (change scans g stage start ended r repaired).zero ≡ []) (places : IsCreated g.line.command disk label) where
+    (no_zeros : (change scans g stage start ended r repaired).zero ≡ []) (places : IsCreated g.line.command disk label) where
   -- what it may write there
   abbrev own : Span → Bool
   own = is_created_at g.line.command disk
@@ -69,7 +69,7 @@ module _ (scans : RepairedScans) (g : Given) (stage : Stage) (start ended : Reco
   line =
       subst (λ (l : List (List Put)). WritesInTurn start l (is_done stage) ended) all_batches
       (turns_both start r.zeroed ended (zeros_in g) (batches_in g) (is_done stage) (all_zeros g stage start ended r repaired zeroed)
-          (line_of g stage start ended r repaired zeroed))
+      (line_of g stage start ended r repaired zeroed))
 
   abbrev version : Option Version
   version = version_in g.found
@@ -94,9 +94,9 @@ module _ (scans : RepairedScans) (g : Given) (stage : Stage) (start ended : Reco
       (change scans g stage start ended r repaired).group
   new_way m ge le image is =
       images_scan (repaired_base g) g.sizes (repaired_of g.found) g.names g.backup g.line g.clock g.given
-          (can_start scans g stage start ended r repaired (begun_zeros stage zeroed)) image
+      (can_start scans g stage start ended r repaired (begun_zeros stage zeroed)) image
       (of_submitted line.submitted (batches_in g) (repaired_base g) image
-          (line.every_image (repaired_base g) (start_base g stage start ended r repaired) m ge le image is))
+      (line.every_image (repaired_base g) (start_base g stage start ended r repaired) m ge le image is))
 
   -- ---- at a moment from the start on
   module _ (m : ℕ) (ge : length start.steps ≤ m) (le : m ≤ length ended.steps) where
@@ -111,7 +111,7 @@ module _ (scans : RepairedScans) (g : Given) (stage : Stage) (start ended : Reco
         → is_half_made (origin_repaired scans g stage start ended r repaired) g.line disk m pv ≡ ((disk == pv) && w)
     half_made w is pv =
         ap (λ (l : List Step). (disk == pv) && has_written (is_created_at g.line.command pv) l) part_is
-            ∙ at_disk disk pv (λ k. has_written (is_created_at g.line.command k) steps) w is
+        ∙ at_disk disk pv (λ k. has_written (is_created_at g.line.command k) steps) w is
 
     labelled : (pv : ℕ) → is_labelled (change scans g stage start ended r repaired).labels pv ≡ (disk == pv)
     labelled pv = ap (λ (all : List NewLabel). is_labelled all pv) labels ∙ or_false (label.disk == pv) ∙ ap (λ (k : ℕ). k == pv) on
@@ -120,21 +120,21 @@ module _ (scans : RepairedScans) (g : Given) (stage : Stage) (start ended : Reco
         → FindsVersion g.sizes image (is_half_made (origin_repaired scans g stage start ended r repaired) g.line disk m) version
     finds_then true is image im =
         finds_with g.sizes image (is_labelled (change scans g stage start ended r repaired).labels)
-            (is_half_made (origin_repaired scans g stage start ended r repaired) g.line disk m) version
+        (is_half_made (origin_repaired scans g stage start ended r repaired) g.line disk m) version
         (λ pv. labelled pv ∙ sym (half_made true is pv ∙ and_true (disk == pv)))
         (subst (λ (v : Option Version). FindsVersion g.sizes image (is_labelled (change scans g stage start ended r repaired).labels) v)
-            (same_version scans g stage start ended r repaired)
+        (same_version scans g stage start ended r repaired)
         (subst (λ (o : Option Group). FindsOnTheWay g.sizes image (repaired_of g.found) (change scans g stage start ended r repaired) o)
-            none (new_way m ge le image im)))
+        none (new_way m ge le image im)))
     finds_then false is image im =
         let nothing : WritesNothing steps = unwritten own steps (older_on own (length ended.steps - m) line.since since_on) is in
         let stays : IsBase (steps_on steps start) (repaired_base g) =
-            quiet_base start (steps_on steps start) steps refl nothing (repaired_base g) (start_base g stage start ended r repaired) in
+        quiet_base start (steps_on steps start) steps refl nothing (repaired_base g) (start_base g stage start ended r repaired) in
         let same : image ≡ repaired_base g =
         image_of_base (steps_on steps start) (repaired_base g) image stays
-            (subst (λ (t : Record). IsImage t image) (told_then start ended line.since line.steps m ge le) im) in
+        (subst (λ (t : Record). IsImage t image) (told_then start ended line.since line.steps m ge le) im) in
         finds_with g.sizes image none_out (is_half_made (origin_repaired scans g stage start ended r repaired) g.line disk m) version
-            (λ pv. sym (half_made false is pv ∙ and_false (disk == pv)))
+        (λ pv. sym (half_made false is pv ∙ and_false (disk == pv)))
         (subst (λ (i : Image). FindsVersion g.sizes i none_out version) (sym same) (finds_start scans g stage start ended r repaired))
 
   -- ---- the laws
@@ -153,9 +153,9 @@ module _ (scans : RepairedScans) (g : Given) (stage : Stage) (start ended : Reco
   created_law base_is = record {
     after = λ image im.
         subst (λ (i : Image). FindsVersion g.sizes i none_out version)
-            (sym (image_of_base ended (done_image scans g stage start ended r repaired zeroed) image base_is im))
+        (sym (image_of_base ended (done_image scans g stage start ended r repaired zeroed) image base_is im))
         (subst (λ (v : Option Version). FindsVersion g.sizes (done_image scans g stage start ended r repaired zeroed) none_out v)
-            (same_version scans g stage start ended r repaired)
+        (same_version scans g stage start ended r repaired)
         (subst (λ (o : Option Group). FindsAtEnd g.sizes (done_image scans g stage start ended r repaired zeroed) (repaired_of g.found)
-            (change scans g stage start ended r repaired) o) none (done_finds scans g stage start ended r repaired zeroed)));
+        (change scans g stage start ended r repaired) o) none (done_finds scans g stage start ended r repaired zeroed)));
   }

@@ -1,6 +1,6 @@
 -- The first sectors of the volume that an lvcreate makes are those that it zeroes.
-use Rattle.std.proofs.Common.{◌≡◌, ◌<◌, ◌⊎◌, ℕ, zero, suc, ◌+◌, ◌*◌, ◌^◌, ◌||◌, Bool, true, false, List, [], ◌∷◌, ◌++◌, length, drop, map,
-    Option, Some, None, inl, inr, refl, sym, ap, subst, ◌∙◌, arith}
+use Rattle.std.proofs.Common.{◌≡◌, ◌<◌, ◌⊎◌, ℕ, zero, suc, ◌+◌, ◌*◌, ◌^◌, ◌||◌, Bool, true, false, List, [], ◌∷◌, ◌++◌, length, drop, map}
+use Rattle.std.proofs.Common.{Option, Some, None, inl, inr, refl, sym, ap, subst, ◌∙◌, arith}
 use Rattle.std.specs.Prelude.{IfSome, option_map, slice_index, unwrap_or}
 use Rattle.std.specs.List.{range_with_len}
 use Rattle.std.proofs.lemmas.Option.{same_Some}
@@ -71,9 +71,9 @@ module _ (old : Group) (disk_of : List ℕ) (accepted : IsAccepted old) (id : Li
       first_sectors old new.lv id (kind_for new) given now may accepted b.part b.is_part b.run b.is_run b.pv b.is_pv x low
       in
       let place : Place =
-          unwrap_or (option_map (on_disk disk_of) (primary (created_group id new now given old) (length old.lvs) x)) no_place in
+      unwrap_or (option_map (on_disk disk_of) (primary (created_group id new now given old) (length old.lvs) x)) no_place in
       let there : place ≡ record { disk = slice_index disk_of b.run.pv; sector = start + x } =
-          ap (λ (o : Option At). unwrap_or (option_map (on_disk disk_of) o) no_place) is in
+      ap (λ (o : Option At). unwrap_or (option_map (on_disk disk_of) o) no_place) is in
       ap (λ (spans : List Span). in_spans spans place.disk place.sector) (zeroed_is disk_of old given b)
       ∙ ap (λ (p : Place). in_spans (span ∷ []) p.disk p.sector) there
       ∙ ap (λ (c : Bool). c || false) (covers_from span (slice_index disk_of b.run.pv) (start + x) refl (omega arith) (omega (arith, low)))
@@ -88,11 +88,11 @@ module _ (old : Group) (disk_of : List ℕ) (accepted : IsAccepted old) (id : Li
         → in_spans (zeroed_at disk_of old given) (place_at volume.places x).disk (place_at volume.places x).sector ≡ true
     last_zeroed disks volume is x within low =
         subst (λ (v : PlacedVolume). x < length v.places
-            → in_spans (zeroed_at disk_of old given) (place_at v.places x).disk (place_at v.places x).sector ≡ true)
+        → in_spans (zeroed_at disk_of old given) (place_at v.places x).disk (place_at v.places x).sector ≡ true)
         (sym (last_same (volumes_of (Some before)) volume own (sym is ∙ volumes_more (new.lv, lv) before disk_of accepted disks refl)))
         (λ within. subst (λ (p : Place). in_spans (zeroed_at disk_of old given) p.disk p.sector ≡ true)
-            (sym (at_range (place_of after (length old.lvs)) 0 (extents_of lv * old.extent_size) x within
-            ∙ ap (place_of after (length old.lvs)) (omega arith))) (first_zeroed x low))
+        (sym (at_range (place_of after (length old.lvs)) 0 (extents_of lv * old.extent_size) x within
+        ∙ ap (place_of after (length old.lvs)) (omega arith))) (first_zeroed x low))
         within
       where
         lv : Lv
@@ -113,7 +113,7 @@ module _ (found : Found) (names : List (List ℕ)) (backup : Option Backup) (now
   abbrev ZeroesLast : Option Version → Change → Type 0
   ZeroesLast before change =
       (group : Group) → change.group ≡ Some group → (volume : PlacedVolume)
-          → volumes_of (Some (version_of group change)) ≡ volumes_of before ++ volume ∷ [] → (x : ℕ) → x < length volume.places → x < 8
+      → volumes_of (Some (version_of group change)) ≡ volumes_of before ++ volume ∷ [] → (x : ℕ) → x < length volume.places → x < 8
       → in_spans change.zero (place_at volume.places x).disk (place_at volume.places x).sector ≡ true
 
   new_zeroed : (number : ℕ) (id : Option (List ℕ)) (new : NewVolume) → IsPlanned id (Lvcreate new)
@@ -124,11 +124,11 @@ module _ (found : Found) (names : List (List ℕ)) (backup : Option Backup) (now
       subst (ZeroesLast (version_in found)) (sym made.change_is)
       (λ group is volume last.
       last_zeroed made.old found.disk_of (accepted made.old made.there) drawn new now given
-          (made.may state_is (accepted made.old made.there) time) (disks_of made.old found.disks)
-          (λ k pv there. ap (λ (l : List ℕ). slice_index l k) listed) volume
+      (made.may state_is (accepted made.old made.there) time) (disks_of made.old found.disks)
+      (λ k pv there. ap (λ (l : List ℕ). slice_index l k) listed) volume
       (ap (λ (g : Group). volumes_of (Some (record { group = g; disk_of = found.disk_of })))
-          (same_Some (created_group drawn new now given made.old) group is) ∙ last
-          ∙ ap (λ (v : Option Version). volumes_of v ++ volume ∷ []) was))
+      (same_Some (created_group drawn new now given made.old) group is) ∙ last
+      ∙ ap (λ (v : Option Version). volumes_of v ++ volume ∷ []) was))
     where
       drawn : List ℕ
       drawn = unwrap_or id []
@@ -149,8 +149,8 @@ module _ (found : Found) (names : List (List ℕ)) (backup : Option Backup) (now
   line_zeroed line new is =
       subst
       (λ (command : Command). IsPlanned line.id command
-          → Takes (asks_of state (record { number = line.number; id = line.id; command = command })) given
-          → refusal_of state (record { number = line.number; id = line.id; command = command }) now given ≡ None
+      → Takes (asks_of state (record { number = line.number; id = line.id; command = command })) given
+      → refusal_of state (record { number = line.number; id = line.id; command = command }) now given ≡ None
       → ZeroesLast (version_in found) (change_of state (record { number = line.number; id = line.id; command = command }) now given))
       is (new_zeroed line.number line.id new)
 

@@ -49,7 +49,7 @@ module _ (own : Span → Bool) where
       let areas : AreOn (area_puts label) = areas_on label.disk label.header.areas areas_are in
       batches_both (batch_if (flat_map area_puts (label ∷ [])) ++ batch_if (map label_put (label ∷ []))) []
       (batches_both (batch_if (flat_map area_puts (label ∷ []))) (batch_if (map label_put (label ∷ [])))
-          (if_on (area_puts label ++ []) (both_on (area_puts label) [] areas tt)) ((on, tt), tt))
+      (if_on (area_puts label ++ []) (both_on (area_puts label) [] areas tt)) ((on, tt), tt))
       tt
 
   -- the writes of the first of the batches
@@ -85,7 +85,7 @@ module _ (own : Span → Bool) where
   unwritten [] on none = tt
   unwritten (Submitted tag (Writing span sectors) ∷ steps) on none =
       absurd (true≢false (sym (ap (λ (b : Bool). b || has_written own steps) (the_last (writes_submitted steps) (span, sectors) on))
-          ∙ none))
+      ∙ none))
   unwritten (Submitted tag (Reading span) ∷ steps) on none = unwritten steps on none
   unwritten (Submitted tag (Flushing pv) ∷ steps) on none = unwritten steps on none
   unwritten (Completed tag work well fresh ∷ steps) on none = unwritten steps on none

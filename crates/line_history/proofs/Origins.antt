@@ -26,7 +26,7 @@ origin_of handed start sizes names clock version ended =
 module _ (handed at_start ended : Record) (first later : List Step) (is_start : at_start ≡ steps_on first handed)
     (is_end : ended ≡ steps_on later at_start) (record_is : IsRecord ended.steps)
     (base start_base : Image) (base_is : IsBase handed base) (start_is : IsBase at_start start_base) (sizes : List ℕ) (names : List Word)
-        (clock : ℕ) (version : Option Version) where
+    (clock : ℕ) (version : Option Version) where
   abbrev pub origin : Origin
   origin = origin_of handed (length at_start.steps) sizes names clock version ended
 
@@ -37,7 +37,7 @@ module _ (handed at_start ended : Record) (first later : List Step) (is_start : 
   pub now_start : now_at origin (length at_start.steps) ≡ start_base
   now_start =
       now_seen at_start ended later is_end ∙ one_image (now_after at_start.opened at_start.steps) start_base
-          (now_base at_start start_base record_start start_is)
+      (now_base at_start start_base record_start start_is)
 
   is_handed : ended ≡ steps_on (later ++ first) handed
   is_handed = steps_joined handed at_start ended first later is_start is_end
@@ -58,7 +58,7 @@ module _ (handed at_start ended : Record) (first later : List Step) (is_start : 
       → FindsVersion sizes (now_at (origin_at (length at_start.steps) origin) (length at_start.steps)) none_out version
   found_start finds =
       subst (λ (i : Image). FindsVersion sizes i none_out version)
-          (sym (now_before origin (length at_start.steps) (length at_start.steps) (omega arith) ends_later ∙ now_start)) finds
+      (sym (now_before origin (length at_start.steps) (length at_start.steps) (omega arith) ends_later ∙ now_start)) finds
 
   -- until the start every image shows the version in force, and no place of its volumes is touched at any moment
   pub still : ((m : ℕ) → length handed.steps ≤ m → m ≤ length at_start.steps → AllFind sizes none_out version (at_moment m ended))
@@ -72,5 +72,5 @@ module _ (handed at_start ended : Record) (first later : List Step) (is_start : 
         λ m ge le. subst (λ (i : Image). AllUntouched i (volumes_of version) (at_moment m ended)) (sym now_first) (untouched m ge le);
     found =
         finds_with sizes (now_at (origin_at (length at_start.steps) origin) (length at_start.steps)) none_out
-            (left_out (origin_at (length at_start.steps) origin) [] (length at_start.steps)) version (λ pv. refl) (found_start finds);
+        (left_out (origin_at (length at_start.steps) origin) [] (length at_start.steps)) version (λ pv. refl) (found_start finds);
   }

@@ -1,6 +1,6 @@
 -- A vgremove: it commits no group, and what clears the disks of the group is its commit.
-use Rattle.std.proofs.Common.{◌≡◌, ◌≤◌, ◌⊎◌, ℕ, ◌-◌, Bool, true, List, [], ◌∷◌, ◌++◌, length, map, take, Option, Some, None, inl, inr,
-    ⊎_elim, refl, sym, ap, subst, ◌∙◌, arith}
+use Rattle.std.proofs.Common.{◌≡◌, ◌≤◌, ◌⊎◌, ℕ, ◌-◌, Bool, true, List, [], ◌∷◌, ◌++◌, length, map, take, Option, Some, None, inl, inr}
+use Rattle.std.proofs.Common.{⊎_elim, refl, sym, ap, subst, ◌∙◌, arith}
 use Rattle.std.specs.Prelude.{flat_map, option_map, slice_get}
 use Rattle.sector_base.specs.declared.spans.Span.{Span}
 use Rattle.command_table.specs.Options.{Word}
@@ -55,8 +55,8 @@ use Rattle.line_history.proofs.LongerLaws.{stays_longer, still_longer}
 use Rattle.line_history.proofs.Seen.{moment_seen, now_seen}
 use Rattle.line_history.proofs.Unwritten.{newest, none_submitted, nothing_of}
 use Rattle.line_history.proofs.Stays.{all_stay}
-use Rattle.line_history.specs.LineRun.{ClearsLine, Given, RunsLine, Stage, Done, batches_in, clears_in, is_done, is_repaired, is_zeroed,
-    zeros_in}
+use Rattle.line_history.specs.LineRun.{ClearsLine, Given, RunsLine, Stage, Done, batches_in, clears_in, is_done, is_repaired, is_zeroed}
+use Rattle.line_history.specs.LineRun.{zeros_in}
 
 -- ---- its group has no volume
 
@@ -71,7 +71,7 @@ unfolding volumes_of
 no_volumes vg disks None passes = refl
 no_volumes vg disks (Some group) passes =
     ap (λ (lvs : List (List ℕ × Lv)). placed_from (record { group = group; disk_of = disks_of group disks }) 0 lvs)
-        (no_rows group.lvs (front_passes (named_rows group vg) (volume_row group ∷ []) passes))
+    (no_rows group.lvs (front_passes (named_rows group vg) (volume_row group ∷ []) passes))
 
 -- it creates no physical volume
 pub creates_none : (names : List Word) (command : Command) (vg : Word) → command ≡ Vgremove vg → created_disk names command ≡ None
@@ -84,14 +84,14 @@ module _ (scans : RepairedScans) (g : Given) (stage : Stage) (start ended : Reco
   pub no_batches : batches_in g ≡ []
   no_batches =
       ap (λ (command : Command). batches_of (state_in (repaired_of g.found) g.names g.backup)
-          (record { number = g.line.number; id = g.line.id; command = command }) g.clock g.given) command_is
+      (record { number = g.line.number; id = g.line.id; command = command }) g.clock g.given) command_is
 
   finds_still : (image : Image) → HasFirstBatches (batches_in g) (zeroed_base g) image
       → FindsVersion g.sizes image none_out (version_in g.found)
   finds_still image way =
       subst (λ (i : Image). FindsVersion g.sizes i none_out (version_in g.found))
       (sym (one_image image (zeroed_base g) (none_front (zeroed_base g) image
-          (subst (λ (l : List (List Put)). HasFirstBatches l (zeroed_base g) image) no_batches way))))
+      (subst (λ (l : List (List Put)). HasFirstBatches l (zeroed_base g) image) no_batches way))))
       (finds_zeroed scans g stage start ended r repaired (begun_zeros stage zeroed))
 
   pub stays_unwritten : StaysLaw (origin_repaired scans g stage start ended r repaired)
@@ -99,7 +99,7 @@ module _ (scans : RepairedScans) (g : Given) (stage : Stage) (start ended : Reco
     still = is_still scans g stage start ended r repaired;
     after =
         from_start g stage start ended r repaired zeroed (λ image. FindsVersion g.sizes image none_out (version_in g.found))
-            (λ image is. finds_zeroing scans g stage start ended r repaired image is)
+        (λ image is. finds_zeroing scans g stage start ended r repaired image is)
         (λ m ge le image is. finds_still image (after_zeros g stage start ended r repaired zeroed m ge le image is));
   }
 
@@ -117,10 +117,10 @@ module _ (scans : RepairedScans) (g : Given) (stage : Stage) (start ended : Reco
   since_nothing no_zeros =
       writes_nothing_append own.since zeros.since
       (none_submitted own.since (own.writes ∙ ap (λ (l : List (List Put)). flat_map (λ (batch : List Put). batch) (take own.submitted l))
-          no_batches ∙ nothing_of own.submitted))
+      no_batches ∙ nothing_of own.submitted))
       (none_submitted zeros.since
       (zeros.writes ∙ ap (λ (spans : List Span). flat_map (λ (batch : List Put). batch)
-          (take zeros.submitted (batch_if (map zero_put spans)))) no_zeros ∙ nothing_of zeros.submitted))
+      (take zeros.submitted (batch_if (map zero_put spans)))) no_zeros ∙ nothing_of zeros.submitted))
 
   pub removal_unwritten : (change scans g stage start ended r repaired).zero ≡ []
       → WritesNothing (take (length ended.steps - length start.steps) ended.steps)
@@ -160,13 +160,13 @@ module _ (scans : RepairedScans) (g : Given) (well : Bool) (start ended : Record
   state_passes : first_refusal (rows_where_found g.found.group vg (remove_rows vg)) ≡ None
   state_passes =
       subst (λ (command : Command). refusal_of (state_in (repaired_of g.found) g.names g.backup)
-          (record { number = g.line.number; id = g.line.id; command = command }) g.clock g.given ≡ None) command_is (c.line.passes refl)
+      (record { number = g.line.number; id = g.line.id; command = command }) g.clock g.given ≡ None) command_is (c.line.passes refl)
 
   makes_version : MakesVersion g.line.command (version_in g.found) None
   makes_version =
       changes_make g.line.command (version_in g.found) None
-          (subst (λ (command : Command). ChangesVolumes command (version_in g.found) None) (sym command_is)
-          (no_volumes vg g.found.disks g.found.group state_passes, refl))
+      (subst (λ (command : Command). ChangesVolumes command (version_in g.found) None) (sym command_is)
+      (no_volumes vg g.found.disks g.found.group state_passes, refl))
 
   now_there : now_at (origin_at opened (whole_origin scans g well start ended c)) opened ≡ zeroed_base g
   now_there =
@@ -179,28 +179,28 @@ module _ (scans : RepairedScans) (g : Given) (well : Bool) (start ended : Record
   none_made : None ≡ version_made (change scans g Done start c.made c.line refl)
   none_made =
       sym (ap (λ (command : Command). version_made
-          (change_of (state_in (repaired_of g.found) g.names g.backup)
-          (record { number = g.line.number; id = g.line.id; command = command }) g.clock g.given)) command_is)
+      (change_of (state_in (repaired_of g.found) g.names g.backup)
+      (record { number = g.line.number; id = g.line.id; command = command }) g.clock g.given)) command_is)
 
   pub removal_law : CommitLaw (whole_origin scans g well start ended c) g.line opened None
   removal_law = record {
     still =
         still_longer (made_origin scans g well start ended c) ended c.clears.since c.clears.steps stays.still
-            (untouched scans g well start ended c);
+        (untouched scans g well start ended c);
     from = stays.still.until;
     until = more scans g well start ended c;
     commits_is = ap commits command_is;
     keeps = makes_version;
     zeroed =
         λ m ge le. zeroes_stand (origin_at m (whole_origin scans g well start ended c)) g.line.command None (ap zeroes command_is)
-            makes_version;
+        makes_version;
     before = λ m ge lt image is.
         stays.after m ge (omega (arith, lt)) image
-            (subst (λ (told : Record). IsImage told image) (moment_seen c.made ended c.clears.since c.clears.steps m (omega (arith, lt)))
-            is);
+        (subst (λ (told : Record). IsImage told image) (moment_seen c.made ended c.clears.since c.clears.steps m (omega (arith, lt)))
+        is);
     makes =
         makes_then scans g Done start c.made c.line refl refl ended opened None (creates_none g.names g.line.command vg command_is)
-            now_there none_made;
+        now_there none_made;
     between = way;
   }
 
@@ -209,18 +209,18 @@ module _ (scans : RepairedScans) (g : Given) (well : Bool) (start ended : Record
   removed_law all =
       let last : Image = with_batches (clears_in g) (zeroed_base g) in
       let base : IsBase ended last =
-          subst (λ (i : Image). IsBase ended (with_batches (clears_in g) i)) nothing_made
-              (c.clears.lasting all (made_image scans g well start ended c) (made_base scans g well start ended c)) in
+      subst (λ (i : Image). IsBase ended (with_batches (clears_in g) i)) nothing_made
+      (c.clears.lasting all (made_image scans g well start ended c) (made_base scans g well start ended c)) in
       let now : now_at (whole_origin scans g well start ended c) (length ended.steps) ≡ last =
-          now_seen ended ended [] refl ∙ one_image (now_after ended.opened ended.steps) last (now_base ended last c.record_is base) in
+      now_seen ended ended [] refl ∙ one_image (now_after ended.opened ended.steps) last (now_base ended last c.record_is base) in
       let finds : FindsVersion g.sizes last none_out None =
-          removal_ends (zeroed_base g) last g.sizes (repaired_of g.found) g.names g.backup g.line g.clock g.given vg can command_is in
+      removal_ends (zeroed_base g) last g.sizes (repaired_of g.found) g.names g.backup g.line g.clock g.given vg can command_is in
       record {
         after =
             λ image is. subst (λ (i : Image). FindsVersion g.sizes i none_out None) (sym (image_of_base ended last image base is)) finds;
         found =
             subst (λ (i : Image). FindsVersion g.sizes i none_out None) (sym now)
-                (finds_with g.sizes last none_out none_out None (λ pv. refl) finds);
+            (finds_with g.sizes last none_out none_out None (λ pv. refl) finds);
         untouched = subst (λ (i : Image). AllUntouched i (volumes_of None) ended) (sym now) (all_stay last ended base (volumes_of None));
       }
 
@@ -232,12 +232,12 @@ module _ (scans : RepairedScans) (g : Given) (well : Bool) (start ended : Record
         (none_front (zeroed_base g) image
         (subst (λ (i : Image). HasFirstBatches [] i image) nothing_made
         (subst (λ (n : ℕ). HasFirstBatches (take n (clears_in g)) (made_image scans g well start ended c) image) unbegun
-            (submitted_clears scans g well start ended c m ge le image is))))
+        (submitted_clears scans g well start ended c m ge le image is))))
 
     pub stays_unremoved : StaysLaw (whole_origin scans g well start ended c)
     stays_unremoved =
         stays_longer (made_origin scans g well start ended c) ended c.clears.since c.clears.steps stays.still
-            (untouched scans g well start ended c) stays.after
+        (untouched scans g well start ended c) stays.after
         (λ m ge le image is.
         subst (λ (i : Image). FindsVersion g.sizes i none_out (version_in g.found)) (sym (as_it_was m ge le image is))
         (finds_zeroed scans g Done start c.made c.line refl (begun_zeros Done refl)))
@@ -246,12 +246,12 @@ module _ (scans : RepairedScans) (g : Given) (well : Bool) (start ended : Record
         → WritesNothing (take (length ended.steps - length start.steps) ended.steps)
     removal_unbegun no_zeros =
         let before : List Step =
-            (line g Done start c.made c.line refl refl).since ++ (all_zeros g Done start c.made c.line refl refl).since in
+        (line g Done start c.made c.line refl refl).since ++ (all_zeros g Done start c.made c.line refl refl).since in
         subst WritesNothing
         (sym (newest start ended (c.clears.since ++ before)
-            (steps_joined start c.made ended before c.clears.since (since_steps scans g Done start c.made c.line refl refl vg command_is)
-            c.clears.steps)))
+        (steps_joined start c.made ended before c.clears.since (since_steps scans g Done start c.made c.line refl refl vg command_is)
+        c.clears.steps)))
         (writes_nothing_append c.clears.since before
         (none_submitted c.clears.since (c.clears.writes
-            ∙ ap (λ (n : ℕ). flat_map (λ (batch : List Put). batch) (take n (clears_in g))) unbegun))
+        ∙ ap (λ (n : ℕ). flat_map (λ (batch : List Put). batch) (take n (clears_in g))) unbegun))
         (since_nothing scans g Done start c.made c.line refl refl vg command_is no_zeros))

@@ -23,10 +23,10 @@ found_from : (name : List ℕ) (number : ℕ) (rows : List (List ℕ × Lv)) (v 
 found_from name number [] v found = absurd cc
 found_from name number (row ∷ rows) v found =
     by (row.1.status.visible && same_bytes row.0 name) found (λ made. found_from name (number + 1) rows v made) where
-  by : (b : Bool) → cond b (Some (number, row.1)) (visible_from (number + 1) name rows) ≡ Some v
-      → (visible_from (number + 1) name rows ≡ Some v → number + 1 ≤ v.0) → number ≤ v.0
-  by true made later = let at : number ≡ v.0 = ap (λ (x : ℕ × Lv). x.0) (same_Some (number, row.1) v made) in omega (arith, at)
-  by false made later = let behind = later made in omega (arith, behind)
+      by : (b : Bool) → cond b (Some (number, row.1)) (visible_from (number + 1) name rows) ≡ Some v
+          → (visible_from (number + 1) name rows ≡ Some v → number + 1 ≤ v.0) → number ≤ v.0
+      by true made later = let at : number ≡ v.0 = ap (λ (x : ℕ × Lv). x.0) (same_Some (number, row.1) v made) in omega (arith, at)
+      by false made later = let behind = later made in omega (arith, behind)
 
 module _ (before : Version) (disk_of : List ℕ) (removed : ℕ) where
   abbrev after : Version
@@ -49,9 +49,9 @@ module _ (before : Version) (disk_of : List ℕ) (removed : ℕ) where
       ∷ left (number + 1) rows) (left (number + 1) rows)
   left_staying number row rows stayed =
       let volume : PlacedVolume =
-          record { id = row.1.id; name = row.0; places = places_of after (new stay number) (renumbered_lv (on_after stay) row.1) } in
+      record { id = row.1.id; name = row.0; places = places_of after (new stay number) (renumbered_lv (on_after stay) row.1) } in
       let next : new stay number + 1 ≡ new stay (number + 1) =
-          sym (next_staying stay number stayed) ∙ ap (new stay) (let e : suc number ≡ number + 1 = omega arith in e) in
+      sym (next_staying stay number stayed) ∙ ap (new stay) (let e : suc number ≡ number + 1 = omega arith in e) in
       ap (placed_from after (new stay number)) (rows_staying stay number row rows stayed)
       ∙ ap (λ (n : ℕ). cond row.1.status.visible (volume ∷ placed_from after n (rows_after stay (number + 1) rows))
       (placed_from after n (rows_after stay (number + 1) rows))) next
@@ -61,9 +61,9 @@ module _ (before : Version) (disk_of : List ℕ) (removed : ℕ) where
       → left number (row ∷ rows) ≡ left (number + 1) rows
   left_going number row rows goes =
       let next : new stay number ≡ new stay (number + 1) =
-          sym (next_going stay number goes) ∙ ap (new stay) (let e : suc number ≡ number + 1 = omega arith in e) in
+      sym (next_going stay number goes) ∙ ap (new stay) (let e : suc number ≡ number + 1 = omega arith in e) in
       ap (placed_from after (new stay number)) (rows_going stay number row rows goes)
-          ∙ ap (λ (n : ℕ). placed_from after n (rows_after stay (number + 1) rows)) next
+      ∙ ap (λ (n : ℕ). placed_from after n (rows_after stay (number + 1) rows)) next
 
   module _ (accepted : IsAccepted before.group) (row : List ℕ × Lv) (there : slice_get before.group.lvs removed ≡ Some row)
       (seen : row.1.status.visible ≡ true) (disks : KeepsDisks before after) where
@@ -76,8 +76,8 @@ module _ (before : Version) (disk_of : List ℕ) (removed : ℕ) where
         ∙ ap (λ (l : List Place). cond one.1.status.visible (record { id = one.1.id; name = one.0; places = l } ∷ left (number + 1) rows)
         (left (number + 1) rows))
         (places_kept before after accepted disks refl number (new stay number) one (renumbered_lv (on_after stay) one.1) is
-            (extents_same (on_after stay) one.1) (λ sector at goes. primary_without before.group removed row accepted there seen number
-            sector at stayed goes))
+        (extents_same (on_after stay) one.1) (λ sector at goes. primary_without before.group removed row accepted there seen number
+        sector at stayed goes))
 
     -- a hidden row leaves nothing, and a visible one its volume, where it isn't the removed one
     left_hidden : (number : ℕ) (one : List ℕ × Lv) (rows : List (List ℕ × Lv)) → slice_get before.group.lvs number ≡ Some one
@@ -86,7 +86,7 @@ module _ (before : Version) (disk_of : List ℕ) (removed : ℕ) where
       by : (b : Bool) → stay number ≡ b → left number (one ∷ rows) ≡ left (number + 1) rows
       by true stayed =
           left_kept number one rows is stayed ∙ ap
-              (λ (b : Bool). cond b (placed number one ∷ left (number + 1) rows) (left (number + 1) rows)) hidden
+          (λ (b : Bool). cond b (placed number one ∷ left (number + 1) rows) (left (number + 1) rows)) hidden
       by false goes = left_going number one rows goes
 
     left_visible : (number : ℕ) (one : List ℕ × Lv) (rows : List (List ℕ × Lv)) → slice_get before.group.lvs number ≡ Some one
@@ -101,17 +101,17 @@ module _ (before : Version) (disk_of : List ℕ) (removed : ℕ) where
     behind_stay number [] stand behind = refl
     behind_stay number (one ∷ rows) stand behind =
         by one.1.status.visible refl (behind_stay (number + 1) rows (rest_stand before.group number one rows stand) (omega (arith, behind)))
-            where
-      is : slice_get before.group.lvs number ≡ Some one
-      is = first_stands before.group number one rows stand
+      where
+        is : slice_get before.group.lvs number ≡ Some one
+        is = first_stands before.group number one rows stand
 
-      by : (b : Bool) → one.1.status.visible ≡ b → left (number + 1) rows ≡ placed_from before (number + 1) rows
-          → left number (one ∷ rows) ≡ cond b (placed number one ∷ placed_from before (number + 1) rows)
-          (placed_from before (number + 1) rows)
-      by true visible later =
-          left_visible number one rows is visible (λ same. omega (arith, behind, same))
-              ∙ ap (λ (l : List PlacedVolume). placed number one ∷ l) later
-      by false hidden later = left_hidden number one rows is hidden ∙ later
+        by : (b : Bool) → one.1.status.visible ≡ b → left (number + 1) rows ≡ placed_from before (number + 1) rows
+            → left number (one ∷ rows) ≡ cond b (placed number one ∷ placed_from before (number + 1) rows)
+            (placed_from before (number + 1) rows)
+        by true visible later =
+            left_visible number one rows is visible (λ same. omega (arith, behind, same))
+            ∙ ap (λ (l : List PlacedVolume). placed number one ∷ l) later
+        by false hidden later = left_hidden number one rows is hidden ∙ later
 
     -- of the others the first visible one of its name is gone
     removed_from : (name : List ℕ) (number : ℕ) (rows : List (List ℕ × Lv)) (lv : Lv) → StandFrom before.group number rows
@@ -119,7 +119,7 @@ module _ (before : Version) (disk_of : List ℕ) (removed : ℕ) where
     removed_from name number [] lv stand found = absurd cc
     removed_from name number (one ∷ rows) lv stand found =
         by one.1.status.visible (same_bytes one.0 name) refl refl found
-            (λ made. removed_from name (number + 1) rows lv (rest_stand before.group number one rows stand) made)
+        (λ made. removed_from name (number + 1) rows lv (rest_stand before.group number one rows stand) made)
       where
         is : slice_get before.group.lvs number ≡ Some one
         is = first_stands before.group number one rows stand

@@ -35,19 +35,19 @@ pub named_from : (version : Version) (name : List ℕ) (number : ℕ) (rows : Li
 named_from version name number [] v found = absurd cc
 named_from version name number (row ∷ rows) v found =
     by row.1.status.visible (same_bytes row.0 name) refl found (λ made. named_from version name (number + 1) rows v made) where
-  later : List PlacedVolume
-  later = placed_from version (number + 1) rows
+      later : List PlacedVolume
+      later = placed_from version (number + 1) rows
 
-  volume : PlacedVolume
-  volume = record { id = row.1.id; name = row.0; places = places_of version number row.1 }
+      volume : PlacedVolume
+      volume = record { id = row.1.id; name = row.0; places = places_of version number row.1 }
 
-  by : (seen same : Bool) → same_bytes row.0 name ≡ same
-      → cond (seen && same) (Some (number, row.1)) (visible_from (number + 1) name rows) ≡ Some v
-      → (visible_from (number + 1) name rows ≡ Some v → has_named name later ≡ true)
-      → has_named name (cond seen (volume ∷ later) later) ≡ true
-  by true true is made rest = ap (λ (b : Bool). b || has_named name later) (pointwise-same_bytes row.0 name ∙ is)
-  by true false is made rest = or_true (pointwise nat_eq row.0 name) (has_named name later) (rest made)
-  by false same is made rest = rest made
+      by : (seen same : Bool) → same_bytes row.0 name ≡ same
+          → cond (seen && same) (Some (number, row.1)) (visible_from (number + 1) name rows) ≡ Some v
+          → (visible_from (number + 1) name rows ≡ Some v → has_named name later ≡ true)
+          → has_named name (cond seen (volume ∷ later) later) ≡ true
+      by true true is made rest = ap (λ (b : Bool). b || has_named name later) (pointwise-same_bytes row.0 name ∙ is)
+      by true false is made rest = or_true (pointwise nat_eq row.0 name) (has_named name later) (rest made)
+      by false same is made rest = rest made
 
 pub named_in : (version : Version) (name : List ℕ) (v : ℕ × Lv) → visible_named version.group name ≡ Some v
     → has_named name (volumes_of (Some version)) ≡ true
@@ -59,9 +59,11 @@ pub others_named : (old : List ℕ) (rows : List (List ℕ × Lv)) (taken : List
     → AreNames taken (map (λ (row : List ℕ × Lv). row.0) rows) → is_among taken old ≡ true
     → Each (λ (row : List ℕ × Lv). same_bytes row.0 old ≡ false) rows
 others_named old [] taken are among = tt
-others_named old (row ∷ rows) taken are among =
-    (by (same_bytes row.0 old) refl, others_named old rows (row.0 ∷ taken) are.2
-        (or_true (pointwise nat_eq old row.0) (is_among taken old) among)) where
+others_named old (row ∷ rows) taken are among = (
+  by (same_bytes row.0 old) refl,
+  others_named old rows (row.0 ∷ taken) are.2
+      (or_true (pointwise nat_eq old row.0) (is_among taken old) among),
+) where
   by : (b : Bool) → same_bytes row.0 old ≡ b → b ≡ false
   by true is = absurd (true≢false (sym among ∙ ap (is_among taken) (sym (same_bytes_tells row.0 old is)) ∙ are.1))
   by false is = refl
@@ -88,10 +90,10 @@ module _ (old new : List ℕ) (before : Version) (disk_of : List ℕ) where
     row_renamed number row rows stand =
         let later : List PlacedVolume = placed_from after (number + 1) (map named rows) in
         ap (λ (lv : Lv). cond lv.status.visible (record { id = lv.id; name = (named row).0; places = places_of after number lv } ∷ later)
-            later) (named_same old new row)
+        later) (named_same old new row)
         ∙ ap (λ (l : List Place). cond row.1.status.visible (record { id = row.1.id; name = (named row).0; places = l } ∷ later) later)
         (places_kept before after accepted disks refl number number row row.1 (first_stands before.group number row rows stand) refl
-            (primary_renamed old new before.group number))
+        (primary_renamed old new before.group number))
 
     name_is : (row : List ℕ × Lv) (b : Bool) → same_bytes row.0 old ≡ b → (named row).0 ≡ cond b new row.0
     name_is row true is = ap (λ (b : Bool). (cond b (new, row.1) row).0) is
@@ -137,9 +139,9 @@ module _ (old new : List ℕ) (before : Version) (disk_of : List ℕ) where
             ap (λ (name : List ℕ). placed number row name ∷ later_after) (name_is row true is)
             ∙ ap (λ (l : List PlacedVolume). placed number row new ∷ l)
             (others_kept (number + 1) rows (rest_stand before.group number row rows stand)
-                (others_named old rows (row.0 ∷ taken) are.2
-                (ap (λ (b : Bool). b || is_among taken old)
-                (ap (pointwise nat_eq old) (same_bytes_tells row.0 old is) ∙ pointwise_same old))))
+            (others_named old rows (row.0 ∷ taken) are.2
+            (ap (λ (b : Bool). b || is_among taken old)
+            (ap (pointwise nat_eq old) (same_bytes_tells row.0 old is) ∙ pointwise_same old))))
             ∙ sym (ap (λ (b : Bool). cond b (placed number row new ∷ later) (placed number row row.0 ∷ changed))
             (pointwise-same_bytes row.0 old ∙ is))
         by true false is made rest =

@@ -51,7 +51,7 @@ names_from version number [] taken are = tt
 names_from version number (row ∷ rows) taken are =
     by row.1.status.visible
     (none_named version row.0 (number + 1) rows
-        (others_named row.0 rows (row.0 ∷ taken) are.2 (ap (λ (b : Bool). b || is_among taken row.0) (pointwise_same row.0))))
+    (others_named row.0 rows (row.0 ∷ taken) are.2 (ap (λ (b : Bool). b || is_among taken row.0) (pointwise_same row.0))))
     (names_from version (number + 1) rows (row.0 ∷ taken) are.2)
   where
     by : (seen : Bool) → has_named row.0 (placed_from version (number + 1) rows) ≡ false
@@ -92,11 +92,12 @@ ids_from : (version : Version) (number : ℕ) (rows : List Row) → Pairs Differ
 ids_from version number [] pairs = tt
 ids_from version number (row ∷ rows) pairs =
     by row.1.status.visible (none_of_id version row.1.id (number + 1) rows pairs.0) (ids_from version (number + 1) rows pairs.1) where
-  by : (seen : Bool) → volume_of_id (placed_from version (number + 1) rows) row.1.id ≡ None
-      → HaveOwnIds (placed_from version (number + 1) rows)
-      → HaveOwnIds (cond seen (placed version number row ∷ placed_from version (number + 1) rows) (placed_from version (number + 1) rows))
-  by true none rest = (none, rest)
-  by false none rest = rest
+      by : (seen : Bool) → volume_of_id (placed_from version (number + 1) rows) row.1.id ≡ None
+          → HaveOwnIds (placed_from version (number + 1) rows)
+          → HaveOwnIds (cond seen (placed version number row ∷ placed_from version (number + 1) rows)
+          (placed_from version (number + 1) rows))
+      by true none rest = (none, rest)
+      by false none rest = rest
 
 -- pairs of the last ones of a list
 pairs_behind : (front rest : List (List ℕ)) → Pairs Differ (front ++ rest) → Pairs Differ rest
@@ -109,7 +110,7 @@ unfolding volumes_of
 own_ids version accepted =
     ids_from version 0 version.group.lvs
     (pairs_behind (map (λ (pv : List ℕ × Pv). pv.1.id) version.group.pvs) (map (λ (row : Row). row.1.id) version.group.lvs)
-        (pairs_from Differ (ids_of version.group) (accepted Ids)).1)
+    (pairs_from Differ (ids_of version.group) (accepted Ids)).1)
 
 -- ---- the restored group
 
@@ -117,6 +118,8 @@ own_ids version accepted =
 pub restore_changes : (vg text : List ℕ) (before : Version) (said : Group) (disk_of : List ℕ) → HasTree before.group
     → IsAccepted (restored_group before.group said) → said.name ≡ before.group.name
     → ChangesVolumes (Vgcfgrestore vg text) (Some before) (Some (record { group = restored_group before.group said; disk_of = disk_of }))
-restore_changes vg text before said disk_of tree accepted named =
-    (own_names before tree, own_ids (record { group = restored_group before.group said; disk_of = disk_of }) accepted,
-        ap (λ (name : List ℕ). Some name) named)
+restore_changes vg text before said disk_of tree accepted named = (
+  own_names before tree,
+  own_ids (record { group = restored_group before.group said; disk_of = disk_of }) accepted,
+  ap (λ (name : List ℕ). Some name) named,
+)

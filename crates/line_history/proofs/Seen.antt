@@ -1,6 +1,6 @@
 -- What was told of the disks by an earlier moment.
-use Rattle.std.proofs.Common.{◌≡◌, ◌≤◌, ℕ, zero, suc, ◌+◌, ◌-◌, List, [], ◌∷◌, ◌++◌, length, drop, take, refl, sym, ap, subst, ◌∙◌, arith,
-    length-append}
+use Rattle.std.proofs.Common.{◌≡◌, ◌≤◌, ℕ, zero, suc, ◌+◌, ◌-◌, List, [], ◌∷◌, ◌++◌, length, drop, take, refl, sym, ap, subst, ◌∙◌, arith}
+use Rattle.std.proofs.Common.{length-append}
 use Rattle.std.proofs.lemmas.List.{length-drop}
 use Rattle.disk_model.proofs.EveryMoment.{drop_newer}
 use Rattle.disk_model.specs.Moments.{at_moment}
@@ -43,7 +43,7 @@ pub now_seen : (old new : Record) (newer : List Step) → new ≡ steps_on newer
 now_seen old new newer is =
     let e : length old.steps - length old.steps ≡ 0 = omega arith in
     let m : at_moment (length old.steps) new ≡ at_moment (length old.steps) old =
-        moment_seen old new newer is (length old.steps) (omega arith) in
+    moment_seen old new newer is (length old.steps) (omega arith) in
     ap (λ (t : Record). now_after t.opened t.steps) m ∙ ap (λ (n : ℕ). now_after old.opened (drop n old.steps)) e
 
 -- ---- by a moment of the newer steps
@@ -74,7 +74,7 @@ module _ (old new : Record) (newer : List Step) (is : new ≡ steps_on newer old
   pub steps_then : drop (length new.steps - m) new.steps ≡ part ++ old.steps
   steps_then =
       ap (λ (l : List Step). drop (length new.steps - m) l) new_steps
-          ∙ drop_front (length new.steps - m) newer old.steps (let l = long in omega (arith, l, ge, le))
+      ∙ drop_front (length new.steps - m) newer old.steps (let l = long in omega (arith, l, ge, le))
 
   pub part_then : take (m - length old.steps) (drop (length new.steps - m) new.steps) ≡ part
   part_then =

@@ -1,6 +1,6 @@
 -- The volumes of a group in which a visible volume has its first extents alone.
-use Rattle.std.proofs.Common.{◌≡◌, ◌≤◌, ◌<◌, ℕ, zero, suc, ◌+◌, ◌*◌, Bool, true, false, ◌||◌, ◌&&◌, cond, List, [], ◌∷◌, map, take, Some,
-    refl, sym, ap, subst, ◌∙◌, arith}
+use Rattle.std.proofs.Common.{◌≡◌, ◌≤◌, ◌<◌, ℕ, zero, suc, ◌+◌, ◌*◌, Bool, true, false, ◌||◌, ◌&&◌, cond, List, [], ◌∷◌, map, take, Some}
+use Rattle.std.proofs.Common.{refl, sym, ap, subst, ◌∙◌, arith}
 use Rattle.std.specs.Prelude.{nat_eq, slice_get}
 use Rattle.std.specs.Cmp.Lexicographic.{pointwise}
 use Rattle.std.specs.List.{AllByRecursion as Each, range_with_len}
@@ -60,8 +60,11 @@ module _ (name : List ℕ) (left : ℕ) (before : Version) (disk_of : List ℕ) 
   -- a row, where it is known whether it has the name
   row_after : (number : ℕ) (row : Row) (rows : List Row) (b : Bool) → same_bytes row.0 name ≡ b
       → placed_from after number (map short (row ∷ rows))
-      ≡ cond row.1.status.visible (record { id = row.1.id; name = row.0;
-      places = places_of after number (cond b (shortened left row.1) row.1) } ∷ placed_from after (number + 1) (map short rows))
+      ≡ cond row.1.status.visible (record {
+        id = row.1.id;
+        name = row.0;
+        places = places_of after number (cond b (shortened left row.1) row.1);
+      } ∷ placed_from after (number + 1) (map short rows))
       (placed_from after (number + 1) (map short rows))
   row_after number row rows b is =
       ap (λ (same : Bool). listed (cond same (row.0, shortened left row.1) row)) is ∙ by b
@@ -73,8 +76,11 @@ module _ (name : List ℕ) (left : ℕ) (before : Version) (disk_of : List ℕ) 
       listed r = cond r.1.status.visible (record { id = r.1.id; name = r.0; places = places_of after number r.1 } ∷ later) later
 
       by : (b : Bool) → listed (cond b (row.0, shortened left row.1) row)
-          ≡ cond row.1.status.visible (record { id = row.1.id; name = row.0;
-          places = places_of after number (cond b (shortened left row.1) row.1) } ∷ later) later
+          ≡ cond row.1.status.visible (record {
+            id = row.1.id;
+            name = row.0;
+            places = places_of after number (cond b (shortened left row.1) row.1);
+          } ∷ later) later
       by true = refl
       by false = refl
 
@@ -92,7 +98,7 @@ module _ (name : List ℕ) (left : ℕ) (before : Version) (disk_of : List ℕ) 
         ∙ ap (λ (l : List Place). cond row.1.status.visible (record { id = row.1.id; name = row.0; places = l } ∷ later) later)
         (places_kept before after accepted disks refl number number row row.1 there refl
         (λ sector at is. primary_others before.group name left v accepted can found seen number sector at
-            (λ r stands. subst (λ (x : Row). same_bytes x.0 name ≡ false) (same_Some row r (sym there ∙ stands)) other) is))
+        (λ r stands. subst (λ (x : Row). same_bytes x.0 name ≡ false) (same_Some row r (sym there ∙ stands)) other) is))
 
     -- the volume has the places of its first sectors
     places_cut : (number : ℕ) (row : Row) → slice_get before.group.lvs number ≡ Some row → same_bytes row.0 name ≡ true
@@ -100,15 +106,15 @@ module _ (name : List ℕ) (left : ℕ) (before : Version) (disk_of : List ℕ) 
     places_cut number row there same =
         let size : ℕ = before.group.extent_size in
         let fewer : sectors row.1 ≤ extents_of row.1 * size =
-            mul-le (extents_of (shortened left row.1)) size (extents_of row.1) size (fewer_extents row.1.segments left) (omega arith) in
+        mul-le (extents_of (shortened left row.1)) size (extents_of row.1) size (fewer_extents row.1.segments left) (omega arith) in
         let most : sectors row.1 ≤ left * size =
-            mul-le (extents_of (shortened left row.1)) size left size (front_most row.1.segments left) (omega arith) in
+        mul-le (extents_of (shortened left row.1)) size left size (front_most row.1.segments left) (omega arith) in
         map_front (place_of after number) (place_of before number) 0 (sectors row.1) (extents_of row.1 * size) fewer
         (λ sector less.
         let at = primary_stands before.group number sector row accepted there (omega (arith, less, fewer)) in
         place_kept before after accepted disks refl number number sector at.0 at.1
-            (primary_front before.group name left v accepted can found seen number row there same sector at.0 (omega (arith, less, most))
-            at.1))
+        (primary_front before.group name left v accepted can found seen number row there same sector at.0 (omega (arith, less, most))
+        at.1))
 
     -- rows of other names keep all
     others_kept : (number : ℕ) (rows : List Row) → StandFrom before.group number rows
@@ -127,7 +133,7 @@ module _ (name : List ℕ) (left : ℕ) (before : Version) (disk_of : List ℕ) 
     shortened_from number [] taken stand is are = absurd cc
     shortened_from number (row ∷ rows) taken stand is are =
         by row.1.status.visible (same_bytes row.0 name) refl refl is
-            (λ made. shortened_from (number + 1) rows (row.0 ∷ taken) (rest_stand before.group number row rows stand) made are.2)
+        (λ made. shortened_from (number + 1) rows (row.0 ∷ taken) (rest_stand before.group number row rows stand) made are.2)
       where
         later : List PlacedVolume
         later = placed_from before (number + 1) rows
@@ -144,7 +150,7 @@ module _ (name : List ℕ) (left : ℕ) (before : Version) (disk_of : List ℕ) 
             ≡ cond b (cut_to (sectors v.1) (placed number row) ∷ later) (placed number row ∷ changed)
         first_named b same =
             ap (λ (c : Bool). cond c (cut_to (sectors v.1) (placed number row) ∷ later) (placed number row ∷ changed))
-                (pointwise-same_bytes row.0 name ∙ same)
+            (pointwise-same_bytes row.0 name ∙ same)
 
         by : (visible same : Bool) → row.1.status.visible ≡ visible → same_bytes row.0 name ≡ same
             → cond (visible && same) (Some (number, row.1)) (visible_from (number + 1) name rows) ≡ Some v
@@ -155,7 +161,7 @@ module _ (name : List ℕ) (left : ℕ) (before : Version) (disk_of : List ℕ) 
             let volume : row.1 ≡ v.1 = ap (λ (x : ℕ × Lv). x.1) (same_Some (number, row.1) v made) in
             let cut_places : places_of after number (shortened left row.1) ≡ take (sectors v.1) (places_of before number row.1) =
             places_cut number row (first_stands before.group number row rows stand) same
-                ∙ ap (λ (lv : Lv). take (sectors lv) (places_of before number row.1)) volume
+            ∙ ap (λ (lv : Lv). take (sectors lv) (places_of before number row.1)) volume
             in
             row_after number row rows true same
             ∙ ap (λ (b : Bool). cond b (record { id = row.1.id; name = row.0; places = places_of after number (shortened left row.1) }
@@ -163,9 +169,9 @@ module _ (name : List ℕ) (left : ℕ) (before : Version) (disk_of : List ℕ) 
             ∙ ap (λ (l : List Place). record { id = row.1.id; name = row.0; places = l } ∷ later_after) cut_places
             ∙ ap (λ (l : List PlacedVolume). cut_to (sectors v.1) (placed number row) ∷ l)
             (others_kept (number + 1) rows (rest_stand before.group number row rows stand)
-                (others_named name rows (row.0 ∷ taken) are.2
-                (ap (λ (b : Bool). b || is_among taken name)
-                (ap (pointwise nat_eq name) (same_bytes_tells row.0 name same) ∙ pointwise_same name))))
+            (others_named name rows (row.0 ∷ taken) are.2
+            (ap (λ (b : Bool). b || is_among taken name)
+            (ap (pointwise nat_eq name) (same_bytes_tells row.0 name same) ∙ pointwise_same name))))
             ∙ sym (first_named true same)
         by true false shown same made rest =
             row_kept number row rows stand same
@@ -174,8 +180,11 @@ module _ (name : List ℕ) (left : ℕ) (before : Version) (disk_of : List ℕ) 
             ∙ sym (first_named false same)
         by false same hidden is_same made rest =
             row_after number row rows same is_same
-            ∙ ap (λ (b : Bool). cond b (record { id = row.1.id; name = row.0;
-            places = places_of after number (cond same (shortened left row.1) row.1) } ∷ later_after) later_after) hidden
+            ∙ ap (λ (b : Bool). cond b (record {
+              id = row.1.id;
+              name = row.0;
+              places = places_of after number (cond same (shortened left row.1) row.1);
+            } ∷ later_after) later_after) hidden
             ∙ rest made
 
   -- so it is in the group

@@ -51,7 +51,7 @@ module _ (g : Given) (stage : Stage) (start ended : Record) (r : RunsLine g stag
   before_are : r.zeroed ≡ steps_on before g.handed
   before_are =
       steps_joined g.handed r.opened r.zeroed r.since (zeros.since ++ repairs.since) r.opening
-          (steps_joined r.opened start r.zeroed repairs.since zeros.since repairs.steps zeros.steps)
+      (steps_joined r.opened start r.zeroed repairs.since zeros.since repairs.steps zeros.steps)
 
   before_write : writes_submitted before ≡ all_writes (repairs_in g ++ zeros_in g)
   before_write =

@@ -1,6 +1,6 @@
 -- From what every image has at the places of the group that was found to what a crash may leave there.
-use Rattle.std.proofs.Common.{◌≡◌, ◌<◌, ℕ, zero, suc, ◌+◌, ◌*◌, Bool, true, false, cond, List, [], ◌∷◌, map, Option, Some, None, refl, sym,
-    subst, arith}
+use Rattle.std.proofs.Common.{◌≡◌, ◌<◌, ℕ, zero, suc, ◌+◌, ◌*◌, Bool, true, false, cond, List, [], ◌∷◌, map, Option, Some, None, refl, sym}
+use Rattle.std.proofs.Common.{subst, arith}
 use Rattle.std.specs.Prelude.{IfSome, option_map, slice_get, slice_index, unwrap_or}
 use Rattle.std.specs.List.{range_with_len}
 use Rattle.sector_base.specs.declared.places.At.{At}
@@ -28,7 +28,7 @@ use Rattle.volume_history.specs.Quiet.{AllUntouched, AreUntouched}
 abbrev IsUntouched : Image → Record → Place → Type 0
 IsUntouched base told place =
     (write : Option ℕ) (value : List ℕ) → MayLeave told.opened told.steps place.disk place.sector write value
-        → value ≡ base place.disk place.sector
+    → value ≡ base place.disk place.sector
 
 -- where each place of a range has nothing else
 range_untouched : (base : Image) (told : Record) (f : ℕ → Place) (from count : ℕ)
@@ -44,7 +44,7 @@ first_untouched false base told v vs here later = later
 
 module _ (base : Image) (told : Record) (is : IsRecord told.steps) (group : Group) (accepted : IsAccepted group) (disk_of : List ℕ)
     (same : (image : Image) → IsImage told image → (lv sector : ℕ) (at : At) → primary group lv sector ≡ Some at
-        → at_place image disk_of at ≡ at_place base disk_of at) where
+    → at_place image disk_of at ≡ at_place base disk_of at) where
   abbrev version : Version
   version = record { group = group; disk_of = disk_of }
 
@@ -53,7 +53,7 @@ module _ (base : Image) (told : Record) (is : IsRecord told.steps) (group : Grou
   one_untouched lv sector at there =
       subst (λ (o : Option At). IsUntouched base told (unwrap_or (option_map (on_disk disk_of) o) no_place)) (sym there)
       (leaves_by_images told (slice_index disk_of at.pv) at.sector (λ value. value ≡ base (slice_index disk_of at.pv) at.sector) is
-          (λ image has. same image has lv sector at there)).each
+      (λ image has. same image has lv sector at there)).each
 
   untouched_from : (number : ℕ) (lvs : List (List ℕ × Lv))
       → ((k : ℕ) (lv : List ℕ × Lv) → slice_get lvs k ≡ Some lv → slice_get group.lvs (number + k) ≡ Some lv)
@@ -61,14 +61,14 @@ module _ (base : Image) (told : Record) (is : IsRecord told.steps) (group : Grou
   untouched_from number [] there = tt
   untouched_from number (lv ∷ lvs) there =
       let here : slice_get group.lvs number ≡ Some lv =
-          subst (λ (n : ℕ). slice_get group.lvs n ≡ Some lv) (omega arith) (there zero lv refl) in
+      subst (λ (n : ℕ). slice_get group.lvs n ≡ Some lv) (omega arith) (there zero lv refl) in
       first_untouched lv.1.status.visible base told (record { id = lv.1.id; name = lv.0; places = places_of version number lv.1 })
-          (placed_from version (number + 1) lvs)
+      (placed_from version (number + 1) lvs)
       (range_untouched base told (place_of version number) 0 (extents_of lv.1 * group.extent_size)
       (λ sector lt. let at = primary_stands group number sector lv accepted here (omega (arith, lt)) in one_untouched number sector at.0
-          at.1))
+      at.1))
       (untouched_from (number + 1) lvs (λ k volume at. subst (λ (n : ℕ). slice_get group.lvs n ≡ Some volume) (omega arith)
-          (there (suc k) volume at)))
+      (there (suc k) volume at)))
 
   volumes_untouched : AllUntouched base (volumes_of (Some version)) told
   unfolding volumes_of
@@ -77,7 +77,7 @@ module _ (base : Image) (told : Record) (is : IsRecord told.steps) (group : Grou
 abbrev AllHave : Image → Found → Record → Type 0
 AllHave base found told =
     (image : Image) → IsImage told image → (group : Group) → found.group ≡ Some group → (lv sector : ℕ) (at : At)
-        → primary group lv sector ≡ Some at → at_place image found.disk_of at ≡ at_place base found.disk_of at
+    → primary group lv sector ≡ Some at → at_place image found.disk_of at ≡ at_place base found.disk_of at
 
 by_group : (base : Image) (found : Found) (told : Record) → HasShape found → IsRecord told.steps → AllHave base found told
     → ((group : Group) → found.group ≡ Some group → IsAccepted group) → (o : Option Group) → found.group ≡ o
@@ -86,7 +86,7 @@ unfolding volumes_of
 by_group base found told shape is same accepted None there = tt
 by_group base found told shape is same accepted (Some group) there =
     let listed : found.disk_of ≡ disks_of group found.disks =
-        subst (λ (o : Option Group). IfSome o (λ g. found.disk_of ≡ disks_of g found.disks)) there shape.disk_of in
+    subst (λ (o : Option Group). IfSome o (λ g. found.disk_of ≡ disks_of g found.disks)) there shape.disk_of in
     subst (λ (l : List ℕ). AllUntouched base (volumes_of (Some (record { group = group; disk_of = l }))) told) listed
     (volumes_untouched base told is group (accepted group there) found.disk_of (λ image has. same image has group there))
 

@@ -45,7 +45,7 @@ module _ (base : Image) (sizes : List ℕ) (found : Found) (names : List (List �
   abbrev batches_with : Option Group → List (List Put)
   batches_with g =
       batch_if (new_area_puts g change.labels) ++ batch_if (map label_put change.labels)
-          ++ commit_batches g now (areas_of change state.areas)
+      ++ commit_batches g now (areas_of change state.areas)
 
   at_label : (value : List ℕ) → IsWrittenBy (map label_put change.labels) pv sector value → IsPlace
   at_label value by = AtLabel (written_of pv sector label_put change.labels value by)
@@ -53,18 +53,18 @@ module _ (base : Image) (sizes : List ℕ) (found : Found) (names : List (List �
   commit_lies : Commits found state change → (value : List ℕ) → AnyWrites (batches_of state line now given) pv sector value → IsPlace
   commit_lies c value by =
       ⊎_elim (at_label value) (λ area. InArea c.group c.makes.made
-          (area_write pv sector (printed (tree_of c.group now)) (areas_of change state.areas) value area))
+      (area_write pv sector (printed (tree_of c.group now)) (areas_of change state.areas) value area))
       (writes state (is_state base sizes found names backup line now given p) change c.group c.makes (printed (tree_of c.group now))
-          ((can base sizes found names backup line now given p).commit c.group c.makes.made)
+      ((can base sizes found names backup line now given p).commit c.group c.makes.made)
       (can base sizes found names backup line now given p).labels (lies base sizes found names backup line now given p).differ base pv
-          sector value
+      sector value
       (subst (λ (g : Option Group). AnyWrites (batches_with g) pv sector value) c.makes.made by))
 
   at_header : change.group ≡ None → (value : List ℕ) → IsWrittenBy (flat_map area_puts change.labels) pv sector value → IsPlace
   at_header none value by =
       AtHeader none
       (written_of_flat pv sector area_puts (λ (label : NewLabel). list_any
-          (λ (area : Extent). covers (one_sector label.disk (area.offset / 512)) pv sector) label.header.areas)
+      (λ (area : Extent). covers (one_sector label.disk (area.offset / 512)) pv sector) label.header.areas)
       (λ label own here. written_of pv sector (area_put label.disk) label.header.areas own here) change.labels value by)
 
   none_lies : change.group ≡ None → (value : List ℕ) → AnyWrites (batches_of state line now given) pv sector value → IsPlace
@@ -77,7 +77,7 @@ module _ (base : Image) (sizes : List ℕ) (found : Found) (names : List (List �
       (any_append (batch_if (flat_map area_puts change.labels)) (batch_if (map label_put change.labels)) pv sector value near))
       (λ behind. absurd behind)
       (any_append (batch_if (flat_map area_puts change.labels) ++ batch_if (map label_put change.labels)) [] pv sector value
-          (subst (λ (g : Option Group). AnyWrites (batches_with g) pv sector value) none by))
+      (subst (λ (g : Option Group). AnyWrites (batches_with g) pv sector value) none by))
 
   by_line : LineMakes found state change → (value : List ℕ) → AnyWrites (batches_of state line now given) pv sector value → IsPlace
   by_line (makes_version c) value by = commit_lies c value by
@@ -87,4 +87,4 @@ module _ (base : Image) (sizes : List ℕ) (found : Found) (names : List (List �
   pub line_writes_lie : BatchesWrite (batches_of state line now given) pv sector → IsPlace
   line_writes_lie is =
       let w = any_writes pv sector (batches_of state line now given) is in by_line
-          (line_makes base sizes found names backup line now given p) w.0 w.1
+      (line_makes base sizes found names backup line now given p) w.0 w.1

@@ -25,7 +25,7 @@ module _ (base : Image) (sizes : List ℕ) (found : Found) (p : CanRepair base s
       AtStrayHeader
       (list_any_at (λ (area : Area × Option Locn). covers (header_span area.0) pv sector) (stray_areas found) w.number no_area w.among
       (covers_from (header_span (get_or (stray_areas found) w.number no_area).0) pv sector w.disk (omega (arith, w.at))
-          (omega (arith, w.at))))
+      (omega (arith, w.at))))
 
   pub repair_writes_lie : BatchesWrite (repair_batches found) pv sector → IsRepairPlace found pv sector
   repair_writes_lie is =

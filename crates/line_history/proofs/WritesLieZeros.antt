@@ -25,4 +25,4 @@ zero_writes_lie base sizes found names backup line now given p pv sector is =
     let change : Change = change_of (state_in found names backup) line now given in
     let w = any_writes pv sector (zeros_of (state_in found names backup) line now given) is in
     zeroes_lie base sizes found names backup line now given p pv sector
-        (written_of pv sector zero_put change.zero w.0 (any_if (map zero_put change.zero) pv sector w.0 w.1))
+    (written_of pv sector zero_put change.zero w.0 (any_if (map zero_put change.zero) pv sector w.0 w.1))

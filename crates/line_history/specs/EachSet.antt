@@ -25,7 +25,7 @@ use Rattle.line_history.specs.LineRun.{ClearsLine, Given}
 abbrev pub EachSetFinds : Type 0
 EachSetFinds =
     (base : Image) (sizes : List ℕ) (found : Found) (names : List (List ℕ)) (backup : Option Backup) (line : Line) (now : ℕ)
-        (given : List Part) (group : Group) → CanCarryOut base sizes found names backup line now given
+    (given : List Part) (group : Group) → CanCarryOut base sizes found names backup line now given
     → (change_of (state_in found names backup) line now given).group ≡ Some group
     → (some : Found) (other : Group) → IsScanOf
     (with_batches (clears_of (state_in found names backup) line now given)
@@ -35,7 +35,7 @@ EachSetFinds =
 abbrev pub EachSetRemoved : Type 0
 EachSetRemoved =
     (base : Image) (sizes : List ℕ) (found : Found) (names : List (List ℕ)) (backup : Option Backup) (line : Line) (now : ℕ)
-        (given : List Part) (vg : List ℕ) → CanCarryOut base sizes found names backup line now given → line.command ≡ Vgremove vg
+    (given : List Part) (vg : List ℕ) → CanCarryOut base sizes found names backup line now given → line.command ≡ Vgremove vg
     → (some : Found) → IsScanOf (with_batches (clears_of (state_in found names backup) line now given) base) sizes some → some.group ≡ None
 
 -- each of the disks that were read is one of these
@@ -46,7 +46,7 @@ AreMembers sizes disks some = (pv : ℕ) → pv < length sizes → set.contains 
 abbrev pub EachMemberFinds : Type 0
 EachMemberFinds =
     (base image : Image) (sizes : List ℕ) (found : Found) (names : List (List ℕ)) (backup : Option Backup) (line : Line) (now : ℕ)
-        (given : List Part) (group : Group) → CanCarryOut base sizes found names backup line now given
+    (given : List Part) (group : Group) → CanCarryOut base sizes found names backup line now given
     → (change_of (state_in found names backup) line now given).group ≡ Some group
     → HasFirstBatches (clears_of (state_in found names backup) line now given)
     (with_batches (batches_of (state_in found names backup) line now given) base) image

@@ -92,8 +92,8 @@ pub record HasSubmittedAll (handed : Record) (base : Image) (sizes : List ℕ) (
   pub writes : writes_submitted since ≡ flat_map (λ batch. batch)
       (repair_batches found ++ zeros_of (state_in (repaired_of found) names backup) line clock given ++
       making (is_some (change_of (state_in (repaired_of found) names backup) line clock given).group) count
-          (batches_of (state_in (repaired_of found) names backup) line clock given)
-          (clears_of (state_in (repaired_of found) names backup) line clock given))
+      (batches_of (state_in (repaired_of found) names backup) line clock given)
+      (clears_of (state_in (repaired_of found) names backup) line clock given))
 
 -- a run of one line had come so far
 abbrev pub IsAtLast : Record → Image → List ℕ → List Word → ℕ → List (Line × Option Answer) → Record → Type 0
@@ -155,7 +155,7 @@ pub record LooksAlone (handed : Record) (sizes : List ℕ) (start ended : Record
 abbrev pub LooksHaveHistories : Type 0
 LooksHaveHistories =
     (handed : Record) (sizes : List ℕ) (names : List Word) (clock : ℕ) (start ended : Record) (l : LooksAlone handed sizes start ended)
-        → HasRunHistory handed l.base sizes names clock ended [] []
+    → HasRunHistory handed l.base sizes names clock ended [] []
 
 -- the answer is ok, or none that is given for something done
 abbrev pub IsFineOrBad : Answer → Type 0
@@ -171,7 +171,7 @@ took_if _ ended = None
 abbrev pub ReportsHaveHistories : Type 0
 ReportsHaveHistories =
     (handed : Record) (sizes : List ℕ) (names : List Word) (clock : ℕ) (start ended : Record) (line : Line) (said : Answer)
-        (l : LooksAlone handed sizes start ended)
+    (l : LooksAlone handed sizes start ended)
     → is_quiet line.command ≡ true → commits line.command ≡ false → IsFineOrBad said → may_say line.command said ≡ true
     → HasRunHistory handed l.base sizes names clock ended
     (journal_of_line (length start.steps) (took_if said (length ended.steps)) (length ended.steps)) ((line, Some said) ∷ [])

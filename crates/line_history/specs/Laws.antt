@@ -25,7 +25,7 @@ use Rattle.volume_history.specs.Changing.{ChangesVolumes}
 abbrev pub CommitChangesVolumes : Type 0
 CommitChangesVolumes =
     (base : Image) (sizes : List ℕ) (found : Found) (names : List (List ℕ)) (backup : Option Backup) (line : Line) (now : ℕ)
-        (given : List Part) (group : Group) → CanCarryOut base sizes found names backup line now given
+    (given : List Part) (group : Group) → CanCarryOut base sizes found names backup line now given
     → (change_of (state_in found names backup) line now given).group ≡ Some group
     → ChangesVolumes line.command (version_in found) (Some (version_of group (change_of (state_in found names backup) line now given)))
 

@@ -48,7 +48,7 @@ in_headers areas pv sector = list_any (λ (area : Area × Option Locn). covers (
 abbrev pub in_new_headers : List NewLabel → ℕ → ℕ → Bool
 in_new_headers labels pv sector =
     list_any (λ (label : NewLabel). list_any (λ (area : Extent). covers (one_sector label.disk (area.offset / 512)) pv sector)
-        label.header.areas) labels
+    label.header.areas) labels
 
 -- where a line may write that makes this change, on disks with these areas
 pub data IsLinePlace (change : Change) (areas : List (Area × Option Locn)) (pv sector : ℕ) : Type 0 where
@@ -80,7 +80,7 @@ pub data IsClearPlace (cleared : set.FinSet nat_cmp) (disks : List Disk) (areas 
 abbrev pub LineWritesLie : Type 0
 LineWritesLie =
     (base : Image) (sizes : List ℕ) (found : Found) (names : List (List ℕ)) (backup : Option Backup) (line : Line) (now : ℕ)
-        (given : List Part) → CanCarryOut base sizes found names backup line now given
+    (given : List Part) → CanCarryOut base sizes found names backup line now given
     → (pv sector : ℕ) → BatchesWrite (batches_of (state_in found names backup) line now given) pv sector
     → IsLinePlace (change_of (state_in found names backup) line now given) (state_in found names backup).areas pv sector
 
@@ -88,7 +88,7 @@ LineWritesLie =
 abbrev pub ZeroWritesLie : Type 0
 ZeroWritesLie =
     (base : Image) (sizes : List ℕ) (found : Found) (names : List (List ℕ)) (backup : Option Backup) (line : Line) (now : ℕ)
-        (given : List Part) → CanCarryOut base sizes found names backup line now given
+    (given : List Part) → CanCarryOut base sizes found names backup line now given
     → (pv sector : ℕ) → BatchesWrite (zeros_of (state_in found names backup) line now given) pv sector
     → (group : Group) × (found.group ≡ Some group) × IsFree group found.disk_of pv sector
 
@@ -96,12 +96,12 @@ ZeroWritesLie =
 abbrev pub ClearWritesLie : Type 0
 ClearWritesLie =
     (state : GroupState) (line : Line) (now : ℕ) (given : List Part) (pv sector : ℕ)
-        → BatchesWrite (clears_of state line now given) pv sector
+    → BatchesWrite (clears_of state line now given) pv sector
     → IsClearPlace (change_of state line now given).cleared state.disks state.areas pv sector
 
 -- each write of a repair lies where a repair may write
 abbrev pub RepairWritesLie : Type 0
 RepairWritesLie =
     (base : Image) (sizes : List ℕ) (found : Found) → CanRepair base sizes found → (pv sector : ℕ)
-        → BatchesWrite (repair_batches found) pv sector
+    → BatchesWrite (repair_batches found) pv sector
     → IsRepairPlace found pv sector

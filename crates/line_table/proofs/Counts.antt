@@ -1,6 +1,6 @@
 -- How many lines are open.
-use Rattle.std.proofs.Common.{◌≡◌, ◌≤◌, ℕ, zero, suc, ◌-◌, Bool, true, false, cond, not, ◌||◌, nat_eq, slice_set, List, [], ◌∷◌, length,
-    Option, refl, arith}
+use Rattle.std.proofs.Common.{◌≡◌, ◌≤◌, ℕ, zero, suc, ◌-◌, Bool, true, false, cond, not, ◌||◌, nat_eq, slice_set, List, [], ◌∷◌, length}
+use Rattle.std.proofs.Common.{Option, refl, arith}
 use Rattle.std.proofs.lemmas.Bool.Decides.{nat_tests}
 use Rattle.std.specs.Prelude.{filter, slice_get}
 use Rattle.std.specs.Option.{option_map_or}

@@ -25,8 +25,8 @@ use Rattle.lv_plans.proofs.Creating.{may_have}
 use Rattle.lv_plans.proofs.Extending.{few_segments}
 use Rattle.lv_plans.proofs.RowsOnVolume.{name_free}
 use Rattle.lv_plans.specs.Allocating.{Takes, space_row}
-use Rattle.lv_plans.specs.Lvcreate.{IsNewVolume, add_rows, create_asks, create_change, create_in_rows, created_group, kind_for, limit_rows,
-    lvcreate_change, name_rows, new_lv_rows, want_for}
+use Rattle.lv_plans.specs.Lvcreate.{IsNewVolume, add_rows, create_asks, create_change, create_in_rows, created_group, kind_for, limit_rows}
+use Rattle.lv_plans.specs.Lvcreate.{lvcreate_change, name_rows, new_lv_rows, want_for}
 
 -- the group in force gets one more volume, which it may have
 pub record Creates (state : GroupState) (id : List ℕ) (new : NewVolume) (now : ℕ) (given : List Part) : Type 0 where
@@ -48,19 +48,19 @@ creates state id new now given is_id values (Some group) there takes none =
     let names : List (Option OpRefusal) = name_rows state new group in
     let limits : List (Option OpRefusal) = limit_rows state id new group in
     let front : first_refusal (new_lv_rows state id new group) ≡ None =
-        back_passes (new_lv_rows state id new group) (add_rows state id new now group given) none in
+    back_passes (new_lv_rows state id new group) (add_rows state id new now group given) none in
     let both : first_refusal (names ++ limits) ≡ None =
-        back_passes (names ++ limits) (space_row state group (want_for state group new) ∷ []) front in
+    back_passes (names ++ limits) (space_row state group (want_for state group new) ∷ []) front in
     let named = none_holds names (back_passes names limits both) in
     let limited : first_refusal limits ≡ None = front_passes names limits both in
     let rows = none_holds limits limited in
     let more =
-        none_holds (add_rows state id new now group given)
-            (front_passes (new_lv_rows state id new group) (add_rows state id new now group given) none) in
+    none_holds (add_rows state id new now group given)
+    (front_passes (new_lv_rows state id new group) (add_rows state id new now group given) none) in
     let free : is_among (names_of group.lvs) new.lv ≡ false = name_free group new.lv named.1.1.0 in
     let may : IsState state → IsAccepted group → now < 2 ^ 48 → MayHave group id (kind_for new) given now =
     λ is accepted time. may_have state is group there accepted id new now values time given limited (takes front).0
-        (few_segments group (length given) more.0)
+    (few_segments group (length given) more.0)
     in
     record {
       old = group;
@@ -73,5 +73,5 @@ creates state id new now given is_id values (Some group) there takes none =
       may = may;
       whole =
           λ is accepted tree time. new_whole group new.lv id (kind_for new) given now (may is accepted time) accepted free values.named
-              is_id (seqno_left group rows.1.1.1.0) tree;
+          is_id (seqno_left group rows.1.1.1.0) tree;
     }

@@ -1,6 +1,6 @@
 -- What the rows of an lvcreate say of its volume, and how it is planned.
-use Rattle.std.proofs.Common.{◌≡◌, ◌≢◌, ◌≤◌, ◌<◌, ℕ, ◌+◌, ◌%◌, ◌^◌, Bool, true, false, not, ◌&&◌, ◌||◌, ◌==◌, cond, List, [], ◌∷◌, ◌++◌,
-    length, map, Option, Some, None, Result, Err, refl, sym, ap, subst, ◌∙◌, arith}
+use Rattle.std.proofs.Common.{◌≡◌, ◌≢◌, ◌≤◌, ◌<◌, ℕ, ◌+◌, ◌%◌, ◌^◌, Bool, true, false, not, ◌&&◌, ◌||◌, ◌==◌, cond, List, [], ◌∷◌, ◌++◌}
+use Rattle.std.proofs.Common.{length, map, Option, Some, None, Result, Err, refl, sym, ap, subst, ◌∙◌, arith}
 use Rattle.std.specs.Prelude.{nat_lt, slice_get, slice_index, All, IfSome}
 use Rattle.std.specs.FinSet as set
 use Rattle.std.specs.Option.{option_and_then, option_map_or}
@@ -53,8 +53,9 @@ use Rattle.lv_plans.proofs.GivenParts.{few_parts, planned_given, refused_early}
 use Rattle.lv_plans.proofs.Reducing.{some_extents, some_parts}
 use Rattle.lv_plans.proofs.RowsOnVolume.{name_free}
 use Rattle.lv_plans.specs.Allocating.{segments_row, space_row, PlansWith}
-use Rattle.lv_plans.specs.Lvcreate.{Begins, IsNewVolume, add_rows, create_asks, create_change, create_in_rows, created_group, eight_from,
-    first_run, id_row, kind_for, leg_zeroed, legs_for, limit_rows, name_rows, share_for, want_for, want_on, zeroed_at}
+use Rattle.lv_plans.specs.Lvcreate.{Begins, IsNewVolume, add_rows, create_asks, create_change, create_in_rows, created_group, eight_from}
+use Rattle.lv_plans.specs.Lvcreate.{first_run, id_row, kind_for, leg_zeroed, legs_for, limit_rows, name_rows, share_for, want_for, want_on}
+use Rattle.lv_plans.specs.Lvcreate.{zeroed_at}
 use Rattle.lv_plans.specs.Sizes.{extents_for}
 
 -- ---- what it asks for
@@ -115,7 +116,7 @@ can_have_legs size new is none = by (nat_lt 0 new.mirrors) refl where
       (cond b (Mirror 1024 None []) (Striped (cond (nat_lt 1 new.stripes) new.stripe_size 0) []))
   by true some =
       let more = ltb-true 0 new.mirrors some in let most =
-          is.mirrors.0 in (omega arith, omega (arith, more), omega (arith, most), (10, refl), omega arith)
+      is.mirrors.0 in (omega arith, omega (arith, more), omega (arith, most), (10, refl), omega arith)
   by false none' = striped (nat_lt 1 new.stripes) refl
 
 -- the id stands nowhere in the group
@@ -123,12 +124,12 @@ fresh_id : (state : GroupState) (group : Group) (id : List ℕ) → id_row state
 fresh_id state group id none =
     let nowhere : (has_any_id group id ≡ false) × (stands_on_disk id state.disks ≡ false) =
     both_false (has_any_id group id) (stands_on_disk id state.disks)
-        (test_fails (has_any_id group id || stands_on_disk id state.disks) (IdTaken id) none)
+    (test_fails (has_any_id group id || stands_on_disk id state.disks) (IdTaken id) none)
     in
     let no_pv : (has_other_id group id ≡ false) × (has_pv_id group id ≡ false) =
-        both_false (has_other_id group id) (has_pv_id group id) nowhere.0 in
+    both_false (has_other_id group id) (has_pv_id group id) nowhere.0 in
     let no_lv : (same_bytes group.id id ≡ false) × (has_lv_id group id ≡ false) =
-        both_false (same_bytes group.id id) (has_lv_id group id) no_pv.0 in
+    both_false (same_bytes group.id id) (has_lv_id group id) no_pv.0 in
     All-from_recursion (λ other. other ≢ id) (ids_of group) (
       not_same group.id id no_lv.0,
       each_both (λ other. other ≢ id) (map (λ (pv : List ℕ × Pv). pv.1.id) group.pvs) (map (λ (lv : List ℕ × Lv). lv.1.id) group.lvs)
@@ -153,7 +154,7 @@ may_have state is group found accepted id new now values time given none takes f
       some = given_some group (want_for state group new) given (is_request state group new accepted values) takes;
       sectors =
           new_sectors group (kind_for new) (legs_for new) given accepted (lie_on_disks state is group found) legs
-              (given_may group (want_for state group new) given takes);
+          (given_may group (want_for state group new) given takes);
       segments = few;
       lvs = (let most = count.0 in omega (arith, most));
       max_lv = λ limit. let most = count.1 limit in omega (arith, most);
@@ -181,7 +182,7 @@ begins group name id kind given now may accepted =
     let within = start_within group name id kind given now may accepted b.part b.is_part b.run b.is_run b.pv b.is_pv in
     let ends = (all_at (λ (pv : List ℕ × Pv). FitsDevice group.extent_size pv.1) group.pvs b.run.pv b.pv (accepted Extents) b.is_pv).0 in
     subst (λ (o : Option PartRun). IfSome o (Begins group)) (sym (begins_with group given b))
-        (record { row = b.pv; there = b.is_pv; fits = omega (arith, within, ends) })
+    (record { row = b.pv; there = b.is_pv; fits = omega (arith, within, ends) })
 
 -- so it does as it was found
 pub found_begins : (found group : Group) (name id : List ℕ) (kind : SegKind) (given parts : List Part) (now : ℕ) → found ≡ group
@@ -189,7 +190,7 @@ pub found_begins : (found group : Group) (name id : List ℕ) (kind : SegKind) (
 found_begins found group name id kind given parts now same slice accepted may =
     subst (λ (ps : List Part). IfSome (first_run ps) (Begins found)) (sym slice)
     (subst (λ (g : Group). IfSome (first_run given) (Begins g)) (sym same)
-        (begins group name id kind given now may (subst IsAccepted same accepted)))
+    (begins group name id kind given now may (subst IsAccepted same accepted)))
 
 -- ---- what passes where none of the rows before the allocator's refuses
 
@@ -197,12 +198,12 @@ module _ (state : GroupState) (found group : Group) (same : found ≡ group) (ne
   pub free_name : first_refusal (name_rows state new found) ≡ None → is_among (names_of group.lvs) new.lv ≡ false
   free_name none =
       name_free group new.lv (none_holds (name_rows state new group)
-          (subst (λ (g : Group). first_refusal (name_rows state new g) ≡ None) same none)).1.1.0
+      (subst (λ (g : Group). first_refusal (name_rows state new g) ≡ None) same none)).1.1.0
 
   pub seqno_free : (id : List ℕ) → first_refusal (limit_rows state id new found) ≡ None → group.seqno ≢ 4294967295
   seqno_free id none =
       seqno_left group (none_holds (limit_rows state id new group)
-          (subst (λ (g : Group). first_refusal (limit_rows state id new g) ≡ None) same none)).1.1.1.0
+      (subst (λ (g : Group). first_refusal (limit_rows state id new g) ≡ None) same none)).1.1.1.0
 
   -- and what is given then
   module _ (is : IsState state) (there : state.group ≡ Some group) (accepted : IsAccepted group) (values : IsNewVolume new) (want : Request)
@@ -217,8 +218,8 @@ module _ (state : GroupState) (found group : Group) (same : found ≡ group) (ne
         → IsGiven group want given → segments_in group + length given ≤ 16384 → MayHave group id (kind_for new) given now
     may_add id now time none given takes few =
         may_have state is group there accepted id new now values time given
-            (subst (λ (g : Group). first_refusal (limit_rows state id new g) ≡ None) same none)
-            (subst (λ (w : Request). IsGiven group w given) asked takes) few
+        (subst (λ (g : Group). first_refusal (limit_rows state id new g) ≡ None) same none)
+        (subst (λ (w : Request). IsGiven group w given) asked takes) few
 
 -- ---- its exits
 
@@ -241,7 +242,7 @@ module _ (state : GroupState) (id : List ℕ) (new : NewVolume) (now : ℕ) (fou
   refused_before : (e : PlanRefusal) → IsRefusedBy (first_refusal (names ++ limits)) e → PlansNew state id new now group (Err e)
   refused_before e is =
       refused_early group (want_for state group new) (names ++ limits ++ room ∷ []) (add_rows state id new now group)
-          (create_change state id new now group) e
+      (create_change state id new now group) e
       (refused_front (names ++ limits) (room ∷ []) e is)
 
   pub refused_names : (e : PlanRefusal) → IsRefusedBy (first_refusal (name_rows state new found)) e
@@ -257,30 +258,30 @@ module _ (state : GroupState) (id : List ℕ) (new : NewVolume) (now : ℕ) (fou
         → PlansNew state id new now group (Err e)
     refused_limits e is =
         refused_before e (refused_back names limits e names_pass
-            (subst (λ (g : Group). IsRefusedBy (first_refusal (limit_rows state id new g)) e) same is))
+        (subst (λ (g : Group). IsRefusedBy (first_refusal (limit_rows state id new g)) e) same is))
 
     module _ (limited : first_refusal (limit_rows state id new found) ≡ None) (want : Request) (asked : want ≡ want_for state group new)
-        where
-      both_pass : first_refusal (names ++ limits) ≡ None
-      both_pass = none_both names limits names_pass (subst (λ (g : Group). first_refusal (limit_rows state id new g) ≡ None) same limited)
+      where
+        both_pass : first_refusal (names ++ limits) ≡ None
+        both_pass = none_both names limits names_pass (subst (λ (g : Group). first_refusal (limit_rows state id new g) ≡ None) same limited)
 
-      pub refused_room : (e : PlanRefusal) → IsRefusedBy (space_row state group want) e → PlansNew state id new now group (Err e)
-      refused_room e is =
-          refused_early group (want_for state group new) (names ++ limits ++ room ∷ []) (add_rows state id new now group)
-              (create_change state id new now group) e
-          (refused_back (names ++ limits) (room ∷ []) e both_pass
-              (one_row room e (subst (λ (w : Request). IsRefusedBy (space_row state group w) e) asked is)))
+        pub refused_room : (e : PlanRefusal) → IsRefusedBy (space_row state group want) e → PlansNew state id new now group (Err e)
+        refused_room e is =
+            refused_early group (want_for state group new) (names ++ limits ++ room ∷ []) (add_rows state id new now group)
+            (create_change state id new now group) e
+            (refused_back (names ++ limits) (room ∷ []) e both_pass
+            (one_row room e (subst (λ (w : Request). IsRefusedBy (space_row state group w) e) asked is)))
 
-      pub planned_new : (given : List Part) → IsGiven group want given → AreFew group want given → space_row state group want ≡ None
-          → (result : Result Change PlanRefusal)
-          → Plans (add_rows state id new now group given) (create_change state id new now group given) result
-          → PlansNew state id new now group result
-      planned_new given is few none result plans =
-          planned_given group (want_for state group new) (names ++ limits ++ room ∷ []) (add_rows state id new now group)
-              (create_change state id new now group) given
-          (none_both (names ++ limits) (room ∷ []) both_pass
-              (none_row room (subst (λ (w : Request). space_row state group w ≡ None) asked none)))
-          (subst (λ (w : Request). IsGiven group w given) asked is) (subst (λ (w : Request). AreFew group w given) asked few) result plans
+        pub planned_new : (given : List Part) → IsGiven group want given → AreFew group want given → space_row state group want ≡ None
+            → (result : Result Change PlanRefusal)
+            → Plans (add_rows state id new now group given) (create_change state id new now group given) result
+            → PlansNew state id new now group result
+        planned_new given is few none result plans =
+            planned_given group (want_for state group new) (names ++ limits ++ room ∷ []) (add_rows state id new now group)
+            (create_change state id new now group) given
+            (none_both (names ++ limits) (room ∷ []) both_pass
+            (none_row room (subst (λ (w : Request). space_row state group w ≡ None) asked none)))
+            (subst (λ (w : Request). IsGiven group w given) asked is) (subst (λ (w : Request). AreFew group w given) asked few) result plans
 
 -- ---- the rows behind the allocator's
 
@@ -289,7 +290,7 @@ few_more : (found group : Group) (given : List Part) (count : ℕ) → found ≡
     → segments_in group + length given ≤ 16384
 few_more found group given count same counted none =
     few_segments group (length given) (subst (λ (g : Group). segments_row g (length given) ≡ None) same
-        (subst (λ (n : ℕ). segments_row found n ≡ None) counted none))
+    (subst (λ (n : ℕ). segments_row found n ≡ None) counted none))
 
 -- then the group may have the volume
 pub has_volume : (found group : Group) (id : List ℕ) (kind : SegKind) (given : List Part) (now count : ℕ) → found ≡ group
@@ -304,8 +305,8 @@ pub add_refused : (state : GroupState) (id : List ℕ) (new : NewVolume) (now : 
 add_refused state id new now found group given count e same counted is =
     refused_front (segments_row group (length given) ∷ []) (length_row state (created_group id new now given group) now ∷ []) e
     (one_row (segments_row group (length given)) e
-        (subst (λ (g : Group). IsRefusedBy (segments_row g (length given)) e) same
-        (subst (λ (n : ℕ). IsRefusedBy (segments_row found n) e) counted is)))
+    (subst (λ (g : Group). IsRefusedBy (segments_row g (length given)) e) same
+    (subst (λ (n : ℕ). IsRefusedBy (segments_row found n) e) counted is)))
 
 -- where it doesn't
 pub add_plans : (state : GroupState) (id : List ℕ) (new : NewVolume) (now : ℕ) (found group next : Group) (zero : List Span)
@@ -315,8 +316,8 @@ pub add_plans : (state : GroupState) (id : List ℕ) (new : NewVolume) (now : �
     → Plans (add_rows state id new now group given) (create_change state id new now group given) result
 add_plans state id new now found group next zero given count result same counted is begins none plans =
     plans_back (segments_row group (length given) ∷ []) (length_row state (created_group id new now given group) now ∷ [])
-        (create_change state id new now group given) result
+    (create_change state id new now group given) result
     (none_row (segments_row group (length given))
-        (subst (λ (g : Group). segments_row g (length given) ≡ None) same (subst (λ (n : ℕ). segments_row found n ≡ None) counted none)))
+    (subst (λ (g : Group). segments_row g (length given) ≡ None) same (subst (λ (n : ℕ). segments_row found n ≡ None) counted none)))
     (subst (λ (g : Group). Plans (length_row state g now ∷ []) (zeroing_change state (zeroed_at state.disk_of group given) g) result) is
     (subst (λ (z : List Span). Plans (length_row state next now ∷ []) (zeroing_change state z next) result) begins plans))

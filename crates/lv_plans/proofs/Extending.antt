@@ -1,6 +1,6 @@
 -- What the rows of an lvextend say of its volume, and what it may be given.
-use Rattle.std.proofs.Common.{◌≡◌, ◌≢◌, ◌≤◌, ◌<◌, ℕ, zero, suc, ◌+◌, ◌-◌, ◌*◌, false, List, [], ◌∷◌, ◌++◌, length, Option, Some, None,
-    Result, Err, inl, inr, refl, sym, ap, subst, ◌∙◌, arith}
+use Rattle.std.proofs.Common.{◌≡◌, ◌≢◌, ◌≤◌, ◌<◌, ℕ, zero, suc, ◌+◌, ◌-◌, ◌*◌, false, List, [], ◌∷◌, ◌++◌, length, Option, Some, None}
+use Rattle.std.proofs.Common.{Result, Err, inl, inr, refl, sym, ap, subst, ◌∙◌, arith}
 use Rattle.std.specs.Prelude.{nat_le, nat_lt, option_map, slice_get, All, IsSomeAnd}
 use Rattle.std.specs.FinSet as set
 use Rattle.std.specs.Option.{option_map_or}
@@ -50,8 +50,8 @@ use Rattle.group_plan.specs.declared.state.GroupState.{GroupState}
 use Rattle.lv_plans.proofs.GivenParts.{planned_back, planned_given, refused_asking, refused_early}
 use Rattle.lv_plans.proofs.Reducing.{has_few_legs, keeps_no_more, not_layered, some_extents}
 use Rattle.lv_plans.specs.Allocating.{Asking, segments_row, space_row, PlansWith}
-use Rattle.lv_plans.specs.Lvextend.{extend_asks, extend_in_rows, extend_lv_rows, growth_rows, lengthen_rows, longer_row, more_for, more_on,
-    share_of, volume_asks}
+use Rattle.lv_plans.specs.Lvextend.{extend_asks, extend_in_rows, extend_lv_rows, growth_rows, lengthen_rows, longer_row, more_for, more_on}
+use Rattle.lv_plans.specs.Lvextend.{share_of, volume_asks}
 use Rattle.lv_plans.specs.Sizes.{IsGrowth, extents_for, growth_for, kept_by}
 use Rattle.lv_plans.specs.Volumes.{layered_row, locked_row, rows_on}
 
@@ -61,7 +61,7 @@ pub few_segments : (group : Group) (more : ℕ) → segments_row group more ≡ 
 unfolding segments_row
 few_segments group more none =
     let fails : nat_lt 16384 (segments_in group + more) ≡ false =
-        test_fails (nat_lt 16384 (segments_in group + more)) (TooMany (segments_in group + more) 16384) none in
+    test_fails (nat_lt 16384 (segments_in group + more)) (TooMany (segments_in group + more) 16384) none in
     grind (arith, nat_tests, fails)
 
 -- the volume grows by an extent or more, where it keeps no more than it has of what is no more
@@ -110,7 +110,7 @@ pub kind_found : (segments found : List Segment) (last : Segment) → 1 ≤ leng
     → slice_get found (length found - 1) ≡ Some last → last_kind segments ≡ last.kind
 kind_found segments found last some same at =
     kind_at segments (length segments - 1) last (omega (arith, some))
-        (subst (λ (xs : List Segment). slice_get xs (length xs - 1) ≡ Some last) same at)
+    (subst (λ (xs : List Segment). slice_get xs (length xs - 1) ≡ Some last) same at)
 
 -- and one is found
 pub none_found : (segments found : List Segment) → 1 ≤ length segments → found ≡ segments → slice_get found (length found - 1) ≡ None → ⊥
@@ -131,8 +131,8 @@ module _ (group : Group) (accepted : IsAccepted group) (name : List ℕ) (number
   has_segment =
       let at : IsVisibleAt 0 name group.lvs (number, lv) = visible_at group name (number, lv) volume in
       subst (λ (v : Lv). 1 ≤ length v.segments) at.volume
-          (All-contains (λ (row : List ℕ × Lv). 1 ≤ length row.1.segments) group.lvs at.row (accepted Segments).some
-          (contains_at group.lvs at.k at.row at.there))
+      (All-contains (λ (row : List ℕ × Lv). 1 ≤ length row.1.segments) group.lvs at.row (accepted Segments).some
+      (contains_at group.lvs at.k at.row at.there))
 
   pub has_last_legs : HasFewLegs (last_kind lv.segments)
   has_last_legs = last_few lv.segments has_segment (has_few_legs group accepted name number lv volume)
@@ -145,8 +145,8 @@ module _ (group : Group) (accepted : IsAccepted group) (name : List ℕ) (number
       record {
         extents =
             some_share (growth_for group.extent_size (extents_of lv) growth) (last_kind lv.segments)
-                (some_growth group.extent_size lv growth (omega (arith, least)) (keeps_no_more group accepted name number lv volume) is
-                none) has_last_legs;
+            (some_growth group.extent_size lv growth (omega (arith, least)) (keeps_no_more group accepted name number lv volume) is
+            none) has_last_legs;
         legs = has_last_legs;
       }
 
@@ -157,7 +157,7 @@ module _ (group : Group) (accepted : IsAccepted group) (name : List ℕ) (number
       → segments_in group + length given ≤ 16384 → MayGrow group lv given
   grows_by state is found tree growth pvs given apart takes few =
       may_grow group name given (number, lv) accepted tree (lie_on_disks state is group found) volume
-          (lie_on_pvs lv.segments (not_layered name lv apart)) (given_may group (more_for state group growth pvs lv) given takes) few
+      (lie_on_pvs lv.segments (not_layered name lv apart)) (given_may group (more_for state group growth pvs lv) given takes) few
 
 pub more_made : (on : set.FinSet nat_cmp) (want : Request) (count growth : ℕ) (own kind : SegKind) → want ≡ more_on on count own
     → count ≡ growth → kind ≡ own → want ≡ more_on on growth kind
@@ -192,8 +192,8 @@ more_is state found group growth pvs lv on want same named is =
 abbrev pub PlansVolume : GroupState → List ℕ → Growth → List (List ℕ) → ℕ → Group → ℕ × Lv → Result Change PlanRefusal → Type 0
 PlansVolume state name growth pvs now group v result =
     PlansWith (Some (volume_asks [] state name growth pvs group v))
-        (λ given. extend_lv_rows state name growth pvs group v ++ lengthen_rows state name now group given)
-        (λ given. version_change state (longer_volume name given group)) result
+    (λ given. extend_lv_rows state name growth pvs group v ++ lengthen_rows state name now group given)
+    (λ given. version_change state (longer_volume name given group)) result
 
 module _ (state : GroupState) (name : List ℕ) (growth : Growth) (pvs : List (List ℕ)) (now number : ℕ) (lv : Lv) (found group : Group)
     (same : found ≡ group) where
@@ -214,7 +214,7 @@ module _ (state : GroupState) (name : List ℕ) (growth : Growth) (pvs : List (L
   refused_growth e is =
       refused_early group (more_for state group growth pvs lv) (rows ++ row ∷ []) (lengthen_rows state name now group) wanted e
       (refused_front rows (row ∷ []) e (subst (λ (g : Group). IsRefusedBy (first_refusal (growth_rows state name growth pvs g (number, lv)))
-          e) same is))
+      e) same is))
 
   module _ (passes : first_refusal (growth_rows state name growth pvs found (number, lv)) ≡ None) (want : Request)
       (asked : want ≡ more_for state group growth pvs lv) where
@@ -242,9 +242,9 @@ pub grows_if : (group : Group) (accepted : IsAccepted group) (name : List ℕ) (
     → IsSomeAnd (visible_named group name) (λ (volume : ℕ × Lv). segments_in group + length given ≤ 16384 → MayGrow group volume.1 given)
 grows_if group accepted name number lv volume state is found tree growth pvs want asked given apart takes =
     subst (λ (o : Option (ℕ × Lv)). IsSomeAnd o (λ (v : ℕ × Lv). segments_in group + length given ≤ 16384 → MayGrow group v.1 given))
-        (sym volume)
+    (sym volume)
     (grows_by group accepted name number lv volume state is found tree growth pvs given apart
-        (subst (λ (w : Request). IsGiven group w given) asked takes))
+    (subst (λ (w : Request). IsGiven group w given) asked takes))
 
 -- ---- in the group
 
@@ -259,13 +259,13 @@ plans_named state path growth pvs now found group v result same named there plan
     (λ (o : Option (ℕ × Lv)).
     PlansWith (option_map (volume_asks (named_rows group path.vg) state path.lv growth pvs group) o)
     (λ given. named_rows group path.vg ++ option_map_or
-        (λ volume. extend_lv_rows state path.lv growth pvs group volume ++ lengthen_rows state path.lv now group given) o
-        (Some (UnknownVolume path.lv) ∷ []))
+    (λ volume. extend_lv_rows state path.lv growth pvs group volume ++ lengthen_rows state path.lv now group given) o
+    (Some (UnknownVolume path.lv) ∷ []))
     (λ given. version_change state (longer_volume path.lv given group)) result)
     (sym there)
     (planned_back group (more_for state group growth pvs v.1) (extend_lv_rows state path.lv growth pvs group v)
-        (lengthen_rows state path.lv now group) (λ given. version_change state (longer_volume path.lv given group))
-        (named_rows group path.vg)
+    (lengthen_rows state path.lv now group) (λ given. version_change state (longer_volume path.lv given group))
+    (named_rows group path.vg)
     (subst (λ (g : Group). first_refusal (named_rows g path.vg) ≡ None) same named) result plans)
 
 -- the group has another name, or may not be changed
@@ -275,10 +275,10 @@ pub refused_named : (state : GroupState) (path : Path) (growth : Growth) (pvs : 
     (λ given. version_change state (longer_volume path.lv given group)) (Err e)
 refused_named state path growth pvs now found group e same is =
     refused_asking (extend_asks state path growth pvs group) (extend_in_rows state path growth pvs now group)
-        (λ given. version_change state (longer_volume path.lv given group)) e (each (visible_named group path.lv))
+    (λ given. version_change state (longer_volume path.lv given group)) e (each (visible_named group path.lv))
     (refused_front (named_rows group path.vg)
-        (rows_on group path.lv (λ volume. extend_lv_rows state path.lv growth pvs group volume ++ lengthen_rows state path.lv now group []))
-        e own)
+    (rows_on group path.lv (λ volume. extend_lv_rows state path.lv growth pvs group volume ++ lengthen_rows state path.lv now group []))
+    e own)
   where
     own : IsRefusedBy (first_refusal (named_rows group path.vg)) e
     own = subst (λ (g : Group). IsRefusedBy (first_refusal (named_rows g path.vg)) e) same is
@@ -289,7 +289,7 @@ refused_named state path growth pvs now found group e same is =
     each None a asks = absurd cc
     each (Some v) a asks =
         subst (λ (b : Asking). IsRefusedBy (first_refusal b.rows) e)
-            (same_Some (volume_asks (named_rows group path.vg) state path.lv growth pvs group v) a asks)
+        (same_Some (volume_asks (named_rows group path.vg) state path.lv growth pvs group v) a asks)
         (refused_front (named_rows group path.vg) (extend_lv_rows state path.lv growth pvs group v) e own)
 
 -- no visible volume has the name, or memory was wanting
@@ -303,12 +303,12 @@ refused_unknown state path growth pvs now found group e same named there is =
     (λ (o : Option (ℕ × Lv)).
     PlansWith (option_map (volume_asks (named_rows group path.vg) state path.lv growth pvs group) o)
     (λ given. named_rows group path.vg ++ option_map_or
-        (λ volume. extend_lv_rows state path.lv growth pvs group volume ++ lengthen_rows state path.lv now group given) o
-        (Some (UnknownVolume path.lv) ∷ []))
+    (λ volume. extend_lv_rows state path.lv growth pvs group volume ++ lengthen_rows state path.lv now group given) o
+    (Some (UnknownVolume path.lv) ∷ []))
     (λ given. version_change state (longer_volume path.lv given group)) (Err e))
     (sym there)
     (refused_back (named_rows group path.vg) (Some (UnknownVolume path.lv) ∷ []) e
-        (subst (λ (g : Group). first_refusal (named_rows g path.vg) ≡ None) same named) (one_row (Some (UnknownVolume path.lv)) e is))
+    (subst (λ (g : Group). first_refusal (named_rows g path.vg) ≡ None) same named) (one_row (Some (UnknownVolume path.lv)) e is))
 
 -- no volume was found
 pub none_named : (o : Option (ℕ × Lv)) → None ≡ option_map (λ (v : ℕ × Lv). v.0) o → o ≡ None
@@ -325,7 +325,7 @@ grows_now group found name given count same counted none grows = by (visible_nam
   few : segments_in group + length given ≤ 16384
   few =
       few_segments group (length given) (subst (λ (g : Group). segments_row g (length given) ≡ None) same
-          (subst (λ (n : ℕ). segments_row found n ≡ None) counted none))
+      (subst (λ (n : ℕ). segments_row found n ≡ None) counted none))
 
   by : (o : Option (ℕ × Lv)) → IsSomeAnd o (λ (volume : ℕ × Lv). segments_in group + length given ≤ 16384 → MayGrow group volume.1 given)
       → IsSomeAnd o (λ (volume : ℕ × Lv). MayGrow group volume.1 given)
@@ -339,8 +339,8 @@ pub lengthen_refused : (state : GroupState) (name : List ℕ) (now : ℕ) (found
 lengthen_refused state name now found group given count e same counted is =
     refused_front (segments_row group (length given) ∷ []) (length_row state (longer_volume name given group) now ∷ []) e
     (one_row (segments_row group (length given)) e
-        (subst (λ (g : Group). IsRefusedBy (segments_row g (length given)) e) same
-        (subst (λ (n : ℕ). IsRefusedBy (segments_row found n) e) counted is)))
+    (subst (λ (g : Group). IsRefusedBy (segments_row g (length given)) e) same
+    (subst (λ (n : ℕ). IsRefusedBy (segments_row found n) e) counted is)))
 
 -- where it doesn't
 pub lengthen_plans : (state : GroupState) (name : List ℕ) (now : ℕ) (found group next : Group) (given : List Part) (count : ℕ)
@@ -349,7 +349,7 @@ pub lengthen_plans : (state : GroupState) (name : List ℕ) (now : ℕ) (found g
     → Plans (lengthen_rows state name now group given) (version_change state (longer_volume name given group)) result
 lengthen_plans state name now found group next given count result same counted is none plans =
     plans_back (segments_row group (length given) ∷ []) (length_row state (longer_volume name given group) now ∷ [])
-        (version_change state (longer_volume name given group)) result
+    (version_change state (longer_volume name given group)) result
     (none_row (segments_row group (length given))
-        (subst (λ (g : Group). segments_row g (length given) ≡ None) same (subst (λ (n : ℕ). segments_row found n ≡ None) counted none)))
+    (subst (λ (g : Group). segments_row g (length given) ≡ None) same (subst (λ (n : ℕ). segments_row found n ≡ None) counted none)))
     (subst (λ (g : Group). Plans (length_row state g now ∷ []) (version_change state g) result) is plans)

@@ -1,6 +1,6 @@
 -- The parts that a line is given, and how it is planned with them.
-use Rattle.std.proofs.Common.{◌≡◌, ◌≤◌, ◌<◌, ℕ, ◌+◌, ◌^◌, List, [], ◌∷◌, ◌++◌, length, Option, Some, None, Result, Ok, Err, inl, inr, refl,
-    arith, sym, subst}
+use Rattle.std.proofs.Common.{◌≡◌, ◌≤◌, ◌<◌, ℕ, ◌+◌, ◌^◌, List, [], ◌∷◌, ◌++◌, length, Option, Some, None, Result, Ok, Err, inl, inr, refl}
+use Rattle.std.proofs.Common.{arith, sym, subst}
 use Rattle.std.specs.Prelude.{All, IfOk}
 use Rattle.std.proofs.lemmas.Bool.{cases_lt}
 use Rattle.std.proofs.lemmas.List.Elements.{All-head, All-tail}
@@ -55,8 +55,8 @@ few_by : (group : Group) (kind : SegKind) (count : ℕ) (given : List Part) → 
 few_by group kind count given accepted disks some legs laid =
     let least = parts_least kind count some 0 given laid.legs in
     let below =
-        below_sectors group accepted (extents_in (segments_of kind 0 given))
-            (new_sectors group kind count given accepted disks legs laid) in
+    below_sectors group accepted (extents_in (segments_of kind 0 given))
+    (new_sectors group kind count given accepted disks legs laid) in
     omega (arith, least, below)
 
 -- parts that are given are few
@@ -101,7 +101,7 @@ module _ (group : Group) (want : Request) (rows : List (Option OpRefusal)) (back
       → PlansWith (asks rows) (λ given. rows ++ back given) wanted (Err e)
   refused_early e is =
       refused_with (record { group = group; want = want; rows = rows }) (λ given. rows ++ back given) wanted e is
-          (refused_front rows (back []) e is)
+      (refused_front rows (back []) e is)
 
   -- where none does, with what is given
   pub planned_given : (given : List Part) → first_refusal rows ≡ None → IsGiven group want given → AreFew group want given
@@ -117,13 +117,17 @@ module _ (group : Group) (want : Request) (rows : List (Option OpRefusal)) (back
   pub planned_back : (front : List (Option OpRefusal)) → first_refusal front ≡ None → (result : Result Change PlanRefusal)
       → PlansWith (asks rows) (λ given. rows ++ back given) wanted result
       → PlansWith (asks (front ++ rows)) (λ given. front ++ (rows ++ back given)) wanted result
-  planned_back front none (Ok change) plans =
-      (plans.0, (λ passes. plans.1 (front_passes front rows passes)),
-          plans_back front (rows ++ back plans.0) (wanted plans.0) (Ok change) none plans.2)
+  planned_back front none (Ok change) plans = (
+    plans.0,
+    (λ passes. plans.1 (front_passes front rows passes)),
+    plans_back front (rows ++ back plans.0) (wanted plans.0) (Ok change) none plans.2,
+  )
   planned_back front none (Err NoMemory) plans = tt
-  planned_back front none (Err (Refused refusal)) plans =
-      (plans.0, (λ passes. plans.1 (front_passes front rows passes)),
-          plans_back front (rows ++ back plans.0) (wanted plans.0) (Err (Refused refusal)) none plans.2)
+  planned_back front none (Err (Refused refusal)) plans = (
+    plans.0,
+    (λ passes. plans.1 (front_passes front rows passes)),
+    plans_back front (rows ++ back plans.0) (wanted plans.0) (Err (Refused refusal)) none plans.2,
+  )
 
 -- of a change whose zeros lie in the disks
 pub plans_within : (disks : List Disk) (rows : List (Option OpRefusal)) (wanted : Change) (result : Result Change PlanRefusal)

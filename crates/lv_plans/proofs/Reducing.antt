@@ -1,6 +1,6 @@
 -- What the rows of an lvreduce say of its volume, and that they plan its change.
-use Rattle.std.proofs.Common.{◌≡◌, ◌≤◌, ◌<◌, ℕ, zero, suc, ◌*◌, ◌^◌, true, false, List, [], ◌∷◌, length, Option, Some, None, Result, refl,
-    sym, ap, subst, ◌∙◌, arith}
+use Rattle.std.proofs.Common.{◌≡◌, ◌≤◌, ◌<◌, ℕ, zero, suc, ◌*◌, ◌^◌, true, false, List, [], ◌∷◌, length, Option, Some, None, Result, refl}
+use Rattle.std.proofs.Common.{sym, ap, subst, ◌∙◌, arith}
 use Rattle.std.specs.Prelude.{nat_le, slice_get, All, IsSomeAnd}
 use Rattle.std.specs.Option.{option_map_or}
 use Rattle.std.proofs.lemmas.Bool.Decides.{nat_tests}
@@ -79,17 +79,17 @@ module _ (group : Group) (accepted : IsAccepted group) (name : List ℕ) (number
   pub keeps_no_more : (said : ℕ) → said ≤ extents_of lv → kept_of lv.segments said ≤ extents_of lv
   keeps_no_more said =
       subst (λ (v : Lv). said ≤ extents_of v → kept_of v.segments said ≤ extents_of v) at.volume
-          (keeps_within group accepted at.k at.row at.there said)
+      (keeps_within group accepted at.k at.row at.there said)
 
   -- where the rows on it pass
   pub may_be_cut : (said : ℕ) → 1 ≤ said → layered_row name lv ≡ None → shorter_row (kept_of lv.segments said) (extents_of lv) ≡ None
       → MayKeep (kept_of lv.segments said) lv
   may_be_cut said some apart fewer =
       by lv at.volume (not_layered name lv apart) (keeps_fewer (kept_of lv.segments said) (extents_of lv) fewer) where
-    by : (v : Lv) → at.row.1 ≡ v → is_layered v ≡ false → kept_of v.segments said < extents_of v → MayKeep (kept_of v.segments said) v
-    by v is apart' fewer' =
-        subst (λ (w : Lv). MayKeep (kept_of w.segments said) w) is
-        (may_keep group accepted at.k at.row at.there said some (subst (λ (w : Lv). is_layered w ≡ false) (sym is) apart')
+        by : (v : Lv) → at.row.1 ≡ v → is_layered v ≡ false → kept_of v.segments said < extents_of v → MayKeep (kept_of v.segments said) v
+        by v is apart' fewer' =
+            subst (λ (w : Lv). MayKeep (kept_of w.segments said) w) is
+            (may_keep group accepted at.k at.row at.there said some (subst (λ (w : Lv). is_layered w ≡ false) (sym is) apart')
             (subst (λ (w : Lv). kept_of w.segments said < extents_of w) (sym is) fewer'))
 
 -- ---- one after another
@@ -108,14 +108,14 @@ pub reduce_plans : (state : GroupState) (name : List ℕ) (amount : Amount) (now
 reduce_plans state name amount now number kept lv found group next result same is made unlocked apart area fewer seqno plans =
     let by_group : kept ≡ kept_by group.extent_size amount lv = is ∙ ap (λ (g : Group). kept_by g.extent_size amount lv) same in
     plans_back (locked_row group name number ∷ layered_row name lv ∷ no_area_row state
-        ∷ shorter_row (kept_by group.extent_size amount lv) (extents_of lv) ∷ seqno_row group ∷ [])
+    ∷ shorter_row (kept_by group.extent_size amount lv) (extents_of lv) ∷ seqno_row group ∷ [])
     (length_row state (reduced_group name amount group lv) now ∷ []) (version_change state (reduced_group name amount group lv)) result
     (five_pass (locked_row group name number) (layered_row name lv) (no_area_row state)
-        (shorter_row (kept_by group.extent_size amount lv) (extents_of lv)) (seqno_row group)
+    (shorter_row (kept_by group.extent_size amount lv) (extents_of lv)) (seqno_row group)
     (subst (λ (g : Group). locked_row g name number ≡ None) same unlocked) apart area
-        (subst (λ (k : ℕ). shorter_row k (extents_of lv) ≡ None) by_group fewer) (subst (λ (g : Group). seqno_row g ≡ None) same seqno))
+    (subst (λ (k : ℕ). shorter_row k (extents_of lv) ≡ None) by_group fewer) (subst (λ (g : Group). seqno_row g ≡ None) same seqno))
     (subst (λ (g : Group). Plans (length_row state g now ∷ []) (version_change state g) result)
-        (made ∙ ap (λ (k : ℕ). shortened_volume name k group) by_group) plans)
+    (made ∙ ap (λ (k : ℕ). shortened_volume name k group) by_group) plans)
 
 -- the rows and the change, where this is the volume
 pub plans_there : (o : Option (ℕ × Lv)) (v : ℕ × Lv) (rows : ℕ × Lv → List (Option OpRefusal)) (others : List (Option OpRefusal))

@@ -85,12 +85,12 @@ pub rename_plans : (state : GroupState) (old name new : List ℕ) (now number : 
     → (lv : Lv) → Plans (rename_lv_rows state old new now group (number, lv)) (version_change state (renamed_volume old new group)) result
 rename_plans state old name new now number found group next result same named is free unlocked area seqno plans lv =
     subst (λ (n : List ℕ). Plans (rename_lv_rows state old n now group (number, lv)) (version_change state (renamed_volume old n group))
-        result) named
+    result) named
     (plans_back (taken_row group name ∷ locked_row group old number ∷ no_area_row state ∷ seqno_row group ∷ [])
-        (length_row state (renamed_volume old name group) now ∷ []) (version_change state (renamed_volume old name group)) result
+    (length_row state (renamed_volume old name group) now ∷ []) (version_change state (renamed_volume old name group)) result
     (four_pass (taken_row group name) (locked_row group old number) (no_area_row state) (seqno_row group)
     (subst (λ (g : Group). taken_row g name ≡ None) same free) (subst (λ (g : Group). locked_row g old number ≡ None) same unlocked) area
-        (subst (λ (g : Group). seqno_row g ≡ None) same seqno))
+    (subst (λ (g : Group). seqno_row g ≡ None) same seqno))
     (subst (λ (g : Group). Plans (length_row state g now ∷ []) (version_change state g) result) is plans))
 
 -- those of an lvremove
@@ -101,7 +101,7 @@ pub remove_plans : (state : GroupState) (name : List ℕ) (now number : ℕ) (fo
     → (lv : Lv) → Plans (remove_lv_rows state name now group (number, lv)) (version_change state (without_volume group number)) result
 remove_plans state name now number found group next result same is unlocked area seqno plans lv =
     plans_back (locked_row group name number ∷ no_area_row state ∷ seqno_row group ∷ [])
-        (length_row state (without_volume group number) now ∷ []) (version_change state (without_volume group number)) result
+    (length_row state (without_volume group number) now ∷ []) (version_change state (without_volume group number)) result
     (three_pass (locked_row group name number) (no_area_row state) (seqno_row group)
     (subst (λ (g : Group). locked_row g name number ≡ None) same unlocked) area (subst (λ (g : Group). seqno_row g ≡ None) same seqno))
     (subst (λ (g : Group). Plans (length_row state g now ∷ []) (version_change state g) result) is plans)

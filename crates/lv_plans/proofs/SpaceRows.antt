@@ -23,7 +23,7 @@ module _ (state : GroupState) (group : Group) (want : Request) (disk_of : List �
   unfolding space_row
   by_reason refusal e reason is =
       subst (λ (o : Option AllocRefusal). IsRefusedBy (option_and_then (shown_refusal state.disk_of) o) e) (sym reason)
-          (subst (λ (l : List ℕ). IsRefusedBy (shown_refusal l refusal) e) same is)
+      (subst (λ (l : List ℕ). IsRefusedBy (shown_refusal l refusal) e) same is)
 
   -- memory was wanting, or this is its first reason
   pub space_refused : (refusal : AllocRefusal) (e : PlanRefusal) → IsReason (refusal_of group want) refusal

@@ -1,6 +1,6 @@
 -- The first sectors of a new volume lie in their disk.
-use Rattle.std.proofs.Common.{◌≡◌, ◌≤◌, ◌<◌, ℕ, zero, suc, ◌+◌, ◌*◌, Bool, true, false, ◌&&◌, ◌||◌, cond, ltb, List, [], ◌∷◌, length, map,
-    Option, Some, None, refl, sym, ap, subst, ◌∙◌, arith}
+use Rattle.std.proofs.Common.{◌≡◌, ◌≤◌, ◌<◌, ℕ, zero, suc, ◌+◌, ◌*◌, Bool, true, false, ◌&&◌, ◌||◌, cond, ltb, List, [], ◌∷◌, length, map}
+use Rattle.std.proofs.Common.{Option, Some, None, refl, sym, ap, subst, ◌∙◌, arith}
 use Rattle.std.specs.Prelude.{option_map, slice_get, slice_index, unwrap_or, All, Contains, IfSome}
 use Rattle.std.specs.List.{AllByRecursion as Each, list_any}
 use Rattle.std.proofs.lemmas.Bool.{false≢true}
@@ -105,15 +105,15 @@ pv_ends state is group found k pv at =
     placed : Each (IsPlacedOn group) (shapes state.disks)
     placed =
         each_placed group 0 (shapes state.disks)
-            (subst (λ (o : Option Group). IfSome o (λ g. first_misplaced g (shapes state.disks) ≡ None)) found is.placed)
+        (subst (λ (o : Option Group). IfSome o (λ g. first_misplaced g (shapes state.disks) ≡ None)) found is.placed)
 
     within : slice_index state.disk_of k < length state.disks
     within =
         let less = below_length group.pvs k pv at in
         let count : length state.disk_of ≡ length group.pvs =
-            ap length listed ∙ length-map group.pvs (λ (p : Row). disk_with state.disks p.1.id) in
+        ap length listed ∙ length-map group.pvs (λ (p : Row). disk_with state.disks p.1.id) in
         subst (λ (o : Option Group). IfSome o (λ g. All (λ n. n < length state.disks) state.disk_of)) found is.there k 0
-            (omega (arith, less, count))
+        (omega (arith, less, count))
 
 -- the first eight sectors of the volume that the group may have
 pub new_within : (state : GroupState) → IsState state → (group : Group) → state.group ≡ Some group
@@ -135,5 +135,5 @@ pub zeroed_within : (state : GroupState) → IsState state → (found group : Gr
     → AreWithin state.disks spans
 zeroed_within state is found group same there name id kind given parts slice now may accepted disk_of listed spans at =
     subst (AreWithin state.disks) (sym (at ∙ ap (λ (l : List ℕ). zeroed_at l found parts) listed
-        ∙ ap (λ (g : Group). zeroed_at state.disk_of g parts) same ∙ ap (zeroed_at state.disk_of group) slice))
+    ∙ ap (λ (g : Group). zeroed_at state.disk_of g parts) same ∙ ap (zeroed_at state.disk_of group) slice))
     (new_within state is group there name id kind given now may (subst IsAccepted same accepted))

@@ -1,6 +1,6 @@
 -- lvcreate(8): the rows of its refusals, and its change.
-use Rattle.std.specs.Prelude.{◌≡◌, ◌≤◌, ◌<◌, ℕ, ◌+◌, ◌*◌, ◌^◌, ◌||◌, nat_lt, if◌then◌else◌, List, [], ◌∷◌, ◌++◌, length, Option, None, Some,
-    option_map, slice_get, slice_index}
+use Rattle.std.specs.Prelude.{◌≡◌, ◌≤◌, ◌<◌, ℕ, ◌+◌, ◌*◌, ◌^◌, ◌||◌, nat_lt, if◌then◌else◌, List, [], ◌∷◌, ◌++◌, length, Option, None, Some}
+use Rattle.std.specs.Prelude.{option_map, slice_get, slice_index}
 use Rattle.std.specs.FinSet as set
 use Rattle.std.specs.Option.{option_and_then, option_map_or}
 use Rattle.std.specs.Ordering.{nat_cmp}
@@ -19,8 +19,8 @@ use Rattle.extent_alloc.specs.declared.part.PartRun.{PartRun}
 use Rattle.extent_alloc.specs.declared.request.Request.{Request}
 use Rattle.group_edits.specs.NewVolume.{new_lv, with_volume}
 use Rattle.group_edits.specs.ShortenedVolume.{parts_of}
-use Rattle.group_plan.specs.Committing.{change_where_found, length_row, named_rows, no_area_row, rows_where_found, seqno_row,
-    zeroing_change}
+use Rattle.group_plan.specs.Committing.{change_where_found, length_row, named_rows, no_area_row, rows_where_found, seqno_row}
+use Rattle.group_plan.specs.Committing.{zeroing_change}
 use Rattle.group_plan.specs.Ids.{has_any_id}
 use Rattle.group_plan.specs.Judging.{many_row, refused_if, stands_on_disk, unknown_row}
 use Rattle.group_plan.specs.Members.{outside_row, pvs_named}
@@ -127,7 +127,7 @@ eight_from disk extent_size pv run = record { pv = disk; first = pv.pe_start + r
 abbrev pub leg_zeroed : List ℕ → Group → PartRun → List Span
 leg_zeroed disk_of group run =
     option_map_or (λ (row : List ℕ × Pv). eight_from (slice_index disk_of run.pv) group.extent_size row.1 run ∷ [])
-        (slice_get group.pvs run.pv) []
+    (slice_get group.pvs run.pv) []
 
 -- the first eight sectors of a volume of these parts, at its first leg
 abbrev pub zeroed_at : List ℕ → Group → List Part → List Span

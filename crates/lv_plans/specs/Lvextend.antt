@@ -18,8 +18,8 @@ use Rattle.extent_alloc.specs.declared.request.Request.{Request}
 use Rattle.group_edits.specs.LongerVolume.{last_kind, longer_volume}
 use Rattle.group_edits.specs.ShortenedVolume.{parts_of}
 use Rattle.group_edits.specs.Visible.{visible_named}
-use Rattle.group_plan.specs.Committing.{change_where_found, length_row, named_rows, no_area_row, rows_where_found, seqno_row,
-    version_change}
+use Rattle.group_plan.specs.Committing.{change_where_found, length_row, named_rows, no_area_row, rows_where_found, seqno_row}
+use Rattle.group_plan.specs.Committing.{version_change}
 use Rattle.group_plan.specs.Judging.{refused_if, unknown_row}
 use Rattle.group_plan.specs.Members.{outside_row, pvs_named}
 use Rattle.group_plan.specs.declared.state.Change.{Change}
@@ -78,7 +78,7 @@ lengthen_rows state name now group given = segments_row group (length given) ∷
 abbrev pub extend_in_rows : GroupState → Path → Growth → List (List ℕ) → ℕ → Group → List Part → List (Option OpRefusal)
 extend_in_rows state path growth pvs now group given =
     named_rows group path.vg ++ rows_on group path.lv
-        (λ volume. extend_lv_rows state path.lv growth pvs group volume ++ lengthen_rows state path.lv now group given)
+    (λ volume. extend_lv_rows state path.lv growth pvs group volume ++ lengthen_rows state path.lv now group given)
 
 -- all rows
 abbrev pub lvextend_rows : GroupState → Path → Growth → List (List ℕ) → ℕ → List Part → List (Option OpRefusal)

@@ -10,8 +10,8 @@ use Rattle.meta_model.specs.declared.lv.Lv.{Lv}
 use Rattle.volume_rules.specs.Extents.{extents_of}
 use Rattle.group_edits.specs.ShortenedVolume.{shortened_volume}
 use Rattle.group_edits.specs.Visible.{visible_named}
-use Rattle.group_plan.specs.Committing.{change_where_found, length_row, named_rows, no_area_row, no_change, rows_where_found, seqno_row,
-    version_change}
+use Rattle.group_plan.specs.Committing.{change_where_found, length_row, named_rows, no_area_row, no_change, rows_where_found, seqno_row}
+use Rattle.group_plan.specs.Committing.{version_change}
 use Rattle.group_plan.specs.Judging.{refused_if}
 use Rattle.group_plan.specs.declared.state.Change.{Change}
 use Rattle.group_plan.specs.declared.state.GroupState.{GroupState}
@@ -50,7 +50,7 @@ lvreduce_rows state path amount now = rows_where_found state.group path.vg (redu
 abbrev pub reduce_change : GroupState → List ℕ → Amount → Group → Change
 reduce_change state name amount group =
     option_map_or (λ (volume : ℕ × Lv). version_change state (reduced_group name amount group volume.1)) (visible_named group name)
-        (no_change state)
+    (no_change state)
 
 -- so it does in the group that was found
 abbrev pub lvreduce_change : GroupState → List ℕ → Amount → Change

@@ -7,8 +7,8 @@ use Rattle.meta_model.specs.declared.group.Group.{Group}
 use Rattle.meta_model.specs.declared.lv.Lv.{Lv}
 use Rattle.group_edits.specs.Removing.{without_volume}
 use Rattle.group_edits.specs.Visible.{visible_named}
-use Rattle.group_plan.specs.Committing.{change_where_found, length_row, named_rows, no_area_row, no_change, rows_where_found, seqno_row,
-    version_change}
+use Rattle.group_plan.specs.Committing.{change_where_found, length_row, named_rows, no_area_row, no_change, rows_where_found, seqno_row}
+use Rattle.group_plan.specs.Committing.{version_change}
 use Rattle.group_plan.specs.declared.state.Change.{Change}
 use Rattle.group_plan.specs.declared.state.GroupState.{GroupState}
 use Rattle.lv_plans.specs.Volumes.{locked_row, rows_on}

@@ -6,8 +6,8 @@ ghost use Rattle.group_edits.specs.GivenSegments.{segments_in};
 ghost use Rattle.group_plan.specs.Judging.{IsRefusedBy, Judges};
 ghost use Rattle.lv_plans.specs.Allocating.{segments_row, shown_refusal, space_row};
 
-use group_plan::{GroupState, PlanRefusal};
 use extent_alloc::{AllocRefusal, Given, Request, alloc as give};
+use group_plan::{GroupState, PlanRefusal};
 use line_answers::OpRefusal;
 use meta_model::Group;
 use std::alloc::Global;

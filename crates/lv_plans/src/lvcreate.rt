@@ -12,20 +12,17 @@ ghost use Rattle.group_plan.specs.Zeroing.{AreWithin};
 ghost use Rattle.lv_plans.specs.Lvcreate as specs;
 ghost use Rattle.lv_plans.specs.Allocating.{PlansWith};
 
-use group_plan::judge_known;
 use crate::allocating::{disk_at, judge_segments, take_extents};
-use group_plan::{commit_zeroed, judge_named, judge_seqno, unknown_group};
-use group_plan::volume_name;
-use group_plan::has_id;
-use group_plan::{judge_areas, judge_count, stands_on_disk};
-use group_plan::{judge_members, pvs_named};
 use crate::sizes::extents_for;
-use group_plan::judge_stripe;
 use crate::volumes::judge_name;
-use group_plan::{Change, GroupState, PlanRefusal, Spans};
 use command_table::NewVolume;
 use extent_alloc::{Given, Part, PartRun, Request};
 use group_edits::with_volume;
+use group_plan::{
+    Change, GroupState, PlanRefusal, Spans, commit_zeroed, has_id, judge_areas, judge_count,
+    judge_known, judge_members, judge_named, judge_seqno, judge_stripe, pvs_named, stands_on_disk,
+    unknown_group, volume_name,
+};
 use line_answers::OpRefusal;
 use lvm_id::LvmId;
 use meta_model::{Group, Legs, SegKind};

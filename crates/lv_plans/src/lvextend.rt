@@ -17,18 +17,16 @@ ghost use Rattle.lv_plans.specs.Lvextend as specs;
 ghost use Rattle.lv_plans.specs.Allocating.{PlansWith};
 ghost use Rattle.lv_plans.specs.Sizes.{IsGrowth, growth_for};
 
-use group_plan::judge_known;
 use crate::allocating::{judge_segments, take_extents};
-use group_plan::{commit_version, judge_named, judge_seqno, unknown_group};
-use group_plan::copied_text;
-use group_plan::judge_areas;
-use group_plan::{judge_members, pvs_named};
 use crate::sizes::{extents_for, growth_for};
 use crate::volumes::{judge_layers, judge_lock};
-use group_plan::{Change, GroupState, PlanRefusal};
 use command_table::{Growth, Path};
 use extent_alloc::{Given, Request};
 use group_edits::{extents, find_visible, kept_extents, longer_volume};
+use group_plan::{
+    Change, GroupState, PlanRefusal, commit_version, copied_text, judge_areas, judge_known,
+    judge_members, judge_named, judge_seqno, pvs_named, unknown_group,
+};
 use line_answers::OpRefusal;
 use meta_model::{Group, Lv, SegKind};
 use sector_base::{PvSet, Text};

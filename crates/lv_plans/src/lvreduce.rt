@@ -9,14 +9,14 @@ ghost use Rattle.group_plan.specs.State.{IsState};
 ghost use Rattle.lv_plans.specs.Lvreduce.{lvreduce_change, lvreduce_rows, reduce_change, reduce_in_rows, reduce_lv_rows, reduced_group, shorter_row};
 ghost use Rattle.lv_plans.specs.Sizes.{IsAmount};
 
-use group_plan::{commit_version, judge_named, judge_seqno, unknown_group};
-use group_plan::copied_text;
-use group_plan::judge_areas;
 use crate::sizes::extents_for;
 use crate::volumes::{judge_layers, judge_lock};
-use group_plan::{Change, GroupState, PlanRefusal};
 use command_table::{Amount, Path};
 use group_edits::{extents, find_visible, kept_extents, shortened_volume};
+use group_plan::{
+    Change, GroupState, PlanRefusal, commit_version, copied_text, judge_areas, judge_named,
+    judge_seqno, unknown_group,
+};
 use line_answers::OpRefusal;
 use meta_model::Lv;
 use sector_base::Text;

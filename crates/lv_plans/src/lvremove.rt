@@ -8,13 +8,13 @@ ghost use Rattle.group_plan.specs.Plans.{Plans};
 ghost use Rattle.group_plan.specs.State.{IsState};
 ghost use Rattle.lv_plans.specs.Lvremove.{lvremove_change, lvremove_rows, remove_change, remove_in_rows, remove_lv_rows};
 
-use group_plan::{commit_version, judge_named, judge_seqno, unknown_group};
-use group_plan::copied_text;
-use group_plan::judge_areas;
 use crate::volumes::judge_lock;
-use group_plan::{Change, GroupState, PlanRefusal};
 use command_table::Path;
 use group_edits::{find_visible, without_volume};
+use group_plan::{
+    Change, GroupState, PlanRefusal, commit_version, copied_text, judge_areas, judge_named,
+    judge_seqno, unknown_group,
+};
 use line_answers::OpRefusal;
 use sector_base::Text;
 use std::alloc::Global;

@@ -9,12 +9,12 @@ ghost use Rattle.group_plan.specs.Plans.{Plans};
 ghost use Rattle.group_plan.specs.State.{IsState};
 ghost use Rattle.lv_plans.specs.Lvrename.{lvrename_change, lvrename_rows, rename_in_rows, rename_lv_rows};
 
-use group_plan::{commit_version, judge_named, judge_seqno, unknown_group};
-use group_plan::{copied_text, volume_name};
-use group_plan::judge_areas;
 use crate::volumes::{judge_lock, judge_name};
-use group_plan::{Change, GroupState, PlanRefusal};
 use group_edits::{find_visible, renamed_volume};
+use group_plan::{
+    Change, GroupState, PlanRefusal, commit_version, copied_text, judge_areas, judge_named,
+    judge_seqno, unknown_group, volume_name,
+};
 use line_answers::OpRefusal;
 use sector_base::Text;
 use std::alloc::Global;

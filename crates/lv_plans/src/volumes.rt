@@ -3,9 +3,8 @@ ghost use Rattle.volume_rules.specs.Rules.{IsAccepted};
 ghost use Rattle.group_plan.specs.Judging.{Judges};
 ghost use Rattle.lv_plans.specs.Volumes.{layered_row, locked_row, taken_row};
 
-use group_plan::PlanRefusal;
-use group_plan::{copied_bytes, copied_text};
 use group_edits::is_layered;
+use group_plan::{PlanRefusal, copied_bytes, copied_text};
 use line_answers::OpRefusal;
 use lvm_name::VolumeName;
 use meta_model::{Group, Lv};

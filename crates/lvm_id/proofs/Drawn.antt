@@ -32,8 +32,8 @@ IsId-four a b c d = record {
   length_is = length-four a b c d;
   in_alphabet =
       All-append IsIdChar _ _ (All-word_chars a)
-          (All-append IsIdChar _ _ (All-word_chars b)
-          (All-append IsIdChar _ _ (All-word_chars c) (All-append IsIdChar _ _ (All-word_chars d) (All-nil IsIdChar))));
+      (All-append IsIdChar _ _ (All-word_chars b)
+      (All-append IsIdChar _ _ (All-word_chars c) (All-append IsIdChar _ _ (All-word_chars d) (All-nil IsIdChar))));
 }
 
 -- the characters of four numbers, put behind one another
@@ -51,7 +51,7 @@ module _ {S : Type 0} (upcoming : S → ℕ → List ℕ) (s0 s1 s2 s3 s4 : S) (
   four_and_more : (n : ℕ) → upcoming s0 (4 + n) ≡ a ∷ b ∷ c ∷ d ∷ upcoming s4 n
   four_and_more n =
       ap (upcoming s0) (omega arith) ∙ first (n + 1 + 1 + 1)
-          ∙ ap (λ xs. a ∷ xs) (second (n + 1 + 1) ∙ ap (λ xs. b ∷ xs) (third (n + 1) ∙ ap (λ xs. c ∷ xs) (fourth n)))
+      ∙ ap (λ xs. a ∷ xs) (second (n + 1 + 1) ∙ ap (λ xs. b ∷ xs) (third (n + 1) ∙ ap (λ xs. c ∷ xs) (fourth n)))
 
   pub four_drawn : upcoming s0 4 ≡ a ∷ b ∷ c ∷ d ∷ []
   four_drawn = four_and_more 0 ∙ ap (λ xs. a ∷ b ∷ c ∷ d ∷ xs) (nil_from_length _ (counted 0))

@@ -33,23 +33,23 @@ written_out P n each =
 each_of : (P : ℕ → Type 0) (n : ℕ) → AllByRecursion P (range_with_len 0 n) → (k : ℕ) → k < n → P k
 each_of P n all k below =
     subst P (get_or-range_with_len 0 n k 0 below ∙ omega arith)
-        (All-get_or P (range_with_len 0 n) k 0 (omega (arith, length-range_with_len 0 n)) (All-from_recursion P (range_with_len 0 n) all))
+    (All-get_or P (range_with_len 0 n) k 0 (omega (arith, length-range_with_len 0 n)) (All-from_recursion P (range_with_len 0 n) all))
 
 -- the groups of an id, put into a text of hyphens
 abbrev pub with_groups : List ℕ → List ℕ
 with_groups chars =
     with_bytes (with_bytes (with_bytes (with_bytes
-        (with_bytes (with_bytes (with_bytes (replicate 38 45) 0 (slice_range chars 0 6)) 7 (slice_range chars 6 10)) 12
-        (slice_range chars 10 14)) 17 (slice_range chars 14 18)) 22 (slice_range chars 18 22)) 27 (slice_range chars 22 26)) 32
-        (slice_range chars 26 32)
+    (with_bytes (with_bytes (with_bytes (replicate 38 45) 0 (slice_range chars 0 6)) 7 (slice_range chars 6 10)) 12
+    (slice_range chars 10 14)) 17 (slice_range chars 14 18)) 22 (slice_range chars 18 22)) 27 (slice_range chars 22 26)) 32
+    (slice_range chars 26 32)
 
 -- the groups of a printed id, put behind one another
 abbrev pub joined : List ℕ → List ℕ
 joined text =
     with_bytes (with_bytes (with_bytes (with_bytes
-        (with_bytes (with_bytes (with_bytes (replicate 32 0) 0 (slice_range text 0 6)) 6 (slice_range text 7 11)) 10
-        (slice_range text 12 16)) 14 (slice_range text 17 21)) 18 (slice_range text 22 26)) 22 (slice_range text 27 31)) 26
-        (slice_range text 32 38)
+    (with_bytes (with_bytes (with_bytes (replicate 32 0) 0 (slice_range text 0 6)) 6 (slice_range text 7 11)) 10
+    (slice_range text 12 16)) 14 (slice_range text 17 21)) 18 (slice_range text 22 26)) 22 (slice_range text 27 31)) 26
+    (slice_range text 32 38)
 
 with_groups-values : (f : ℕ → ℕ) → with_groups (values 32 f) ≡ hyphen_form (values 32 f)
 unfolding hyphen_form
@@ -95,7 +95,7 @@ pub hyphen_form-joined : (text : List ℕ) → length text ≡ 38 → ((k : ℕ)
     → hyphen_form (joined text) ≡ text
 hyphen_form-joined text e fits =
     subst (λ xs. hyphen_form (joined xs) ≡ xs) (values-element text 38 e)
-        (hyphen_form-joined-values (element text) (written_out (Fits (element text)) 38 fits))
+    (hyphen_form-joined-values (element text) (written_out (Fits (element text)) 38 fits))
 
 IsId-joined-values : (f : ℕ → ℕ) → AllByRecursion (Fits f) (range_with_len 0 38) → IsId (joined (values 38 f))
 IsId-joined-values f fits = record {
@@ -107,7 +107,7 @@ pub IsId-joined : (text : List ℕ) → length text ≡ 38 → ((k : ℕ) → k 
     → IsId (joined text)
 IsId-joined text e fits =
     subst (λ xs. IsId (joined xs)) (values-element text 38 e)
-        (IsId-joined-values (element text) (written_out (Fits (element text)) 38 fits))
+    (IsId-joined-values (element text) (written_out (Fits (element text)) 38 fits))
 
 fits-hyphen_form-values : (f : ℕ → ℕ) → AllByRecursion IsIdChar (values 32 f)
     → AllByRecursion (Fits (element (hyphen_form (values 32 f)))) (range_with_len 0 38)
@@ -119,9 +119,9 @@ fits-hyphen_form : (chars : List ℕ) → IsId chars → (k : ℕ) → k < 38 �
 fits-hyphen_form chars valid =
     let e = values-element chars 32 valid.length_is in
     let written =
-        recursion_from_All IsIdChar (values 32 (element chars)) (All-same IsIdChar (values 32 (element chars)) chars e valid.in_alphabet) in
+    recursion_from_All IsIdChar (values 32 (element chars)) (All-same IsIdChar (values 32 (element chars)) chars e valid.in_alphabet) in
     subst (λ xs. (k : ℕ) → k < 38 → Fits (element (hyphen_form xs)) k) e
-        (each_of (Fits (element (hyphen_form (values 32 (element chars))))) 38 (fits-hyphen_form-values (element chars) written))
+    (each_of (Fits (element (hyphen_form (values 32 (element chars))))) 38 (fits-hyphen_form-values (element chars) written))
 
 -- so a printed id has no misfit
 pub no_misfit : (chars text : List ℕ) (place : ℕ) → IsId chars → hyphen_form chars ≡ text → IsFirstMisfit fits_hyphenated text place → ⊥
@@ -143,9 +143,9 @@ pub IsUtf8-hyphen_form : (chars : List ℕ) → IsId chars → IsUtf8 (hyphen_fo
 IsUtf8-hyphen_form chars valid =
     let e = values-element chars 32 valid.length_is in
     let small =
-        All-weaker IsIdChar (λ b. b < 128) IsIdChar-small (values 32 (element chars))
-            (All-same IsIdChar (values 32 (element chars)) chars e valid.in_alphabet) in
+    All-weaker IsIdChar (λ b. b < 128) IsIdChar-small (values 32 (element chars))
+    (All-same IsIdChar (values 32 (element chars)) chars e valid.in_alphabet) in
     let printed =
-        All-from_recursion (λ b. b < 128) (hyphen_form (values 32 (element chars)))
-            (small-hyphen_form-values (element chars) (recursion_from_All (λ b. b < 128) (values 32 (element chars)) small)) in
+    All-from_recursion (λ b. b < 128) (hyphen_form (values 32 (element chars)))
+    (small-hyphen_form-values (element chars) (recursion_from_All (λ b. b < 128) (values 32 (element chars)) small)) in
     subst (λ xs. IsUtf8 (hyphen_form xs)) e (IsUtf8-from_ascii _ (IsAscii-from_all _ printed))

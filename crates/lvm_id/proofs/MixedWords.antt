@@ -20,5 +20,5 @@ pub splitmix_words-more : (state n : ℕ) → splitmix_words state (n + 1)
     ≡ splitmix_output (state_after state 1) ∷ splitmix_words (state_after state 1) n
 splitmix_words-more state n =
     rw (add-one n) (ap (λ xs. splitmix_output (state_after state 1) ∷ xs)
-        (map-ranges (λ i. splitmix_output (state_after state (i + 1))) (λ i. splitmix_output (state_after (state_after state 1) (i + 1))) 1
-        0 n (λ i. ap splitmix_output (ap (state_after state) (omega arith) ∙ sym (state_after-after state (0 + i + 1))))))
+    (map-ranges (λ i. splitmix_output (state_after state (i + 1))) (λ i. splitmix_output (state_after (state_after state 1) (i + 1))) 1
+    0 n (λ i. ap splitmix_output (ap (state_after state) (omega arith) ∙ sym (state_after-after state (0 + i + 1))))))

@@ -1,6 +1,6 @@
 -- The names of lvm2, as lvm(8) has them.
-use Rattle.std.specs.Prelude.{ℕ, Bool, false, not, ◌||◌, ◌==◌, nat_eq, nat_le, if◌then◌else◌, List, [], ◌∷◌, length, take, Option, Some,
-    None, codes}
+use Rattle.std.specs.Prelude.{ℕ, Bool, false, not, ◌||◌, ◌==◌, nat_eq, nat_le, if◌then◌else◌, List, [], ◌∷◌, length, take, Option, Some}
+use Rattle.std.specs.Prelude.{None, codes}
 use Rattle.std.specs.Char.{is_ascii_alphanumeric}
 use Rattle.std.specs.List.{list_any, position}
 use Rattle.std.specs.Cmp.Lexicographic.{pointwise}
@@ -33,7 +33,7 @@ is_top_key text =
 abbrev pub is_reserved : List ℕ → Bool
 is_reserved text =
     begins_with (codes "pvmove") text || begins_with (codes "snapshot") text || has_within (codes "_mimage") text
-        || has_within (codes "_mlog") text
+    || has_within (codes "_mlog") text
 
 -- the first test that the text fails, where these names are reserved
 abbrev pub name_refusal : (List ℕ → Bool) → List ℕ → Option NameRefusal

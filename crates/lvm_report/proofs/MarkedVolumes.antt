@@ -1,6 +1,6 @@
 -- Marks go up along the legs, a step at a time.
-use Rattle.std.proofs.Common.{◌≡◌, ℕ, zero, suc, ◌+◌, ◌<◌, ◌≤◌, Bool, false, ◌||◌, List, [], ◌∷◌, ◌++◌, length, get_or, map, drop,
-    append_assoc, Some, inl, inr, refl, sym, ap, ◌∙◌, arith, add-one}
+use Rattle.std.proofs.Common.{◌≡◌, ℕ, zero, suc, ◌+◌, ◌<◌, ◌≤◌, Bool, false, ◌||◌, List, [], ◌∷◌, ◌++◌, length, get_or, map, drop}
+use Rattle.std.proofs.Common.{append_assoc, Some, inl, inr, refl, sym, ap, ◌∙◌, arith, add-one}
 use Rattle.std.specs.Prelude.{filter_map, slice_get, slice_index_or}
 use Rattle.std.specs.List.{flat_map, list_any, range_with_len}
 use Rattle.std.proofs.Math.Path.{fun_ext}
@@ -47,7 +47,7 @@ pub mark_at : (group : Group) (marks : List Bool) (steps number : ℕ) (other : 
     → number < length group.lvs → get_or marks number other ≡ leads_to_pvmove group steps number
 mark_at group marks steps number other is within =
     ap (λ (some : List Bool). get_or some number other) is
-        ∙ get_or-map-range_with_len (leads_to_pvmove group steps) 0 (length group.lvs) number number other within (omega arith)
+    ∙ get_or-map-range_with_len (leads_to_pvmove group steps) 0 (length group.lvs) number number other within (omega arith)
 
 -- one step more
 pub more_steps : (group : Group) (marked : List Bool) (steps : ℕ) → marked ≡ leading_down group steps
@@ -55,7 +55,7 @@ pub more_steps : (group : Group) (marked : List Bool) (steps : ℕ) → marked �
 more_steps group marked steps is =
     rw add-one
     (ap (λ (test : ℕ → Bool). map (λ number. has_pvmove group number || list_any test (named_by group number))
-        (range_with_len 0 (length group.lvs)))
+    (range_with_len 0 (length group.lvs)))
     (fun_ext (λ lv. mark_is group marked steps lv is)))
 
 -- ---- the legs of a volume

@@ -1,6 +1,6 @@
 -- A walk over a list by number, and the text that it puts.
-use Rattle.std.proofs.Common.{◌≡◌, ℕ, suc, ◌+◌, ◌<◌, ◌≤◌, List, [], ◌∷◌, ◌++◌, length, get_or, drop, sum_by, Some, sym, ap, ◌∙◌,
-    append_assoc, add-one, drop-cons, arith}
+use Rattle.std.proofs.Common.{◌≡◌, ℕ, suc, ◌+◌, ◌<◌, ◌≤◌, List, [], ◌∷◌, ◌++◌, length, get_or, drop, sum_by, Some, sym, ap, ◌∙◌}
+use Rattle.std.proofs.Common.{append_assoc, add-one, drop-cons, arith}
 use Rattle.std.specs.Prelude.{slice_get}
 use Rattle.std.specs.List.{enumerate_from, flat_map, range_with_len}
 use Rattle.std.proofs.lemmas.List.{append-nil, at_drop_all}
@@ -27,7 +27,7 @@ pub range_at : (n i : ℕ) → i < n → slice_get (range_with_len 0 n) i ≡ So
 range_at n i within =
     let from_zero : 0 + i ≡ i = omega arith in
     slice_get-get_or (range_with_len 0 n) i 0 (omega (arith, length-range_with_len 0 n))
-        ∙ ap Some (get_or-range_with_len 0 n i 0 within ∙ from_zero)
+    ∙ ap Some (get_or-range_with_len 0 n i 0 within ∙ from_zero)
 
 -- one line more
 pub one_line : (before after line whole rest rest' : List ℕ) → after ≡ before ++ line → rest ≡ line ++ rest' → before ++ rest ≡ whole

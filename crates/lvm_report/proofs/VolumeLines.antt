@@ -34,13 +34,13 @@ pub count_next : (group : Group) (number : ℕ) (row : Row) → slice_get group.
     → length (visible_from group number) ≡ (if row.1.status.visible then 1 else 0) + length (visible_from group (number + 1))
 count_next group number row here =
     ap (λ (rows : List (ℕ × Row)). length (filter (λ (lv : ℕ × Row). lv.1.1.status.visible) rows))
-        (next_row (enumerate_from 0 group.lvs) number (number, row) (numbered_at group.lvs number row here))
+    (next_row (enumerate_from 0 group.lvs) number (number, row) (numbered_at group.lvs number row here))
     ∙ one_or_none row.1.status.visible (number, row) (visible_from group (number + 1))
 
 pub none_past : (group : Group) (number : ℕ) → length group.lvs ≤ number → length (visible_from group number) ≡ 0
 none_past group number done =
     at_drop_all (λ (rows : List (ℕ × Row)). length (filter (λ (lv : ℕ × Row). lv.1.1.status.visible) rows)) (enumerate_from 0 group.lvs)
-        number (omega (arith, done, length-enumerate_from 0 group.lvs))
+    number (omega (arith, done, length-enumerate_from 0 group.lvs))
 
 -- their lines
 line_or_none : (line : ℕ × Row → List ℕ) (is : Bool) (row : ℕ × Row) (rows : List (ℕ × Row))
@@ -53,7 +53,7 @@ lines_next : (group : Group) (number : ℕ) (row : Row) → slice_get group.lvs 
     ≡ (if row.1.status.visible then lv_line group (number, row) else []) ++ flat_map (lv_line group) (visible_from group (number + 1))
 lines_next group number row here =
     ap (λ (rows : List (ℕ × Row)). flat_map (lv_line group) (filter (λ (lv : ℕ × Row). lv.1.1.status.visible) rows))
-        (next_row (enumerate_from 0 group.lvs) number (number, row) (numbered_at group.lvs number row here))
+    (next_row (enumerate_from 0 group.lvs) number (number, row) (numbered_at group.lvs number row here))
     ∙ line_or_none (lv_line group) row.1.status.visible (number, row) (visible_from group (number + 1))
 
 pub line_more : (group : Group) (number : ℕ) (row : Row) (moving : Bool) (kind before after whole : List ℕ)
@@ -65,7 +65,7 @@ pub line_more : (group : Group) (number : ℕ) (row : Row) (moving : Bool) (kind
 line_more group number row moving kind before after whole here moves is put so_far =
     let same : kind ≡ kind_of group number row.1 = is ∙ ap (λ m. if m then codes "moving" else first_kind row.1.segments) moves in
     one_line before after (if row.1.status.visible then lv_line group (number, row) else []) whole
-        (flat_map (lv_line group) (visible_from group number)) (flat_map (lv_line group) (visible_from group (number + 1)))
+    (flat_map (lv_line group) (visible_from group number)) (flat_map (lv_line group) (visible_from group (number + 1)))
     (put ∙ ap (λ k. before ++ (if row.1.status.visible then volume_line group row.0 k (extents_of row.1) else [])) same)
     (lines_next group number row here) so_far
 
@@ -78,7 +78,7 @@ pub sectors_are_few : (group : Group) (number : ℕ) (row : Row) → IsAccepted 
     → extents_of row.1 * group.extent_size < 2 ^ 48
 sectors_are_few group number row accepted here =
     (all_at (λ (lv : List ℕ × Lv). Follow 0 lv.1.segments × (extents_of lv.1 * group.extent_size < 2 ^ 48)) group.lvs number row
-        (accepted Follows) here).1
+    (accepted Follows) here).1
 
 -- no more extents than sectors
 pub extents_are_fewer : (extents size : ℕ) → 1 ≤ size → extents * size < 2 ^ 48 → extents < 2 ^ 64

@@ -11,8 +11,8 @@ use Rattle.disk_contents.specs.declared.contents.AreaFound.{AreaFound}
 use Rattle.disk_contents.specs.declared.contents.PvFound.{PvFound}
 use Rattle.disk_contents.specs.declared.contents.PvFound.TheVariants.{NoLabel, NoHeader, Whole}
 use Rattle.disk_contents.specs.Contents.{IsFound}
-use Rattle.lvm_report.specs.Lines.{area_line, committed_line, data_line, extension_line, id_line, label_line, precommitted_line,
-    refusal_line, size_line}
+use Rattle.lvm_report.specs.Lines.{area_line, committed_line, data_line, extension_line, id_line, label_line, precommitted_line}
+use Rattle.lvm_report.specs.Lines.{refusal_line, size_line}
 
 -- the line on a text where there is one
 abbrev pub locn_lines : (Locn → List ℕ) → Option Locn → List ℕ

@@ -1,6 +1,6 @@
 -- The reports of pvs(8), vgs(8), lvs(8) and vgck(8) on what a scan found.
-use Rattle.std.specs.Prelude.{ℕ, ◌*◌, Bool, ◌==◌, if◌then◌else◌, Option, Some, None, option_map, unwrap_or, List, [], ◌∷◌, ◌++◌, length,
-    codes, slice_index_or}
+use Rattle.std.specs.Prelude.{ℕ, ◌*◌, Bool, ◌==◌, if◌then◌else◌, Option, Some, None, option_map, unwrap_or, List, [], ◌∷◌, ◌++◌, length}
+use Rattle.std.specs.Prelude.{codes, slice_index_or}
 use Rattle.std.specs.FinSet as set
 use Rattle.std.specs.List.{enumerate_from, flat_map, list_any, range_with_len}
 use Rattle.lvm_id.specs.LvmId.{hyphen_form}

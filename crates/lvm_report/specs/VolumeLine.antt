@@ -9,7 +9,7 @@ use Rattle.lvm_report.specs.Columns.{left, right}
 abbrev pub volume_line : Group → List ℕ → List ℕ → ℕ → List ℕ
 volume_line group name kind extents =
     left 16 name ++ codes " " ++ left 16 group.name ++ codes " " ++ left 6 kind ++ codes " " ++ right 12 (extents * group.extent_size)
-        ++ codes "\n"
+    ++ codes "\n"
 
 -- the visible volumes from this number on
 abbrev pub visible_from : Group → ℕ → List (ℕ × (List ℕ × Lv))

@@ -23,8 +23,8 @@ use Rattle.lvm_run.specs.Commands.{is_built, spec_of}
 use Rattle.lvm_run.specs.History.{IsEntered, Said, answers_of, is_answer, journal_by, lines_asked, lines_of_task, lines_of_words, said_of}
 use Rattle.lvm_run.specs.Meets.{IsCause}
 use Rattle.lvm_run.specs.Outcomes.{IsOfLineOne, output_of}
-use Rattle.lvm_run.specs.Runs.{EndsUnread, IsRefused, IsRefusedUnread, MeetsSourced, RunsLine, RunsRequest, RunsWords, context_with,
-    ended_by, names_of}
+use Rattle.lvm_run.specs.Runs.{EndsUnread, IsRefused, IsRefusedUnread, MeetsSourced, RunsLine, RunsRequest, RunsWords, context_with}
+use Rattle.lvm_run.specs.Runs.{ended_by, names_of}
 use Rattle.lvm_run.specs.Sourced.{SourceState}
 use Rattle.lvm_run.specs.declared.ending.Ending.{Ending}
 use Rattle.lvm_run.specs.declared.outcome.Outcome.{Outcome}
@@ -144,7 +144,7 @@ line_first names line now text from to old outcome new = by (is_built line.comma
         (IsRefusedUnread from to old outcome new) → IsOfLineOne outcome
     by true runs =
         ⊎_elim (λ m. cause_first (spec_of (with_text text line).command) (context_with names line.id now old) m.meets.given old new outcome
-            m.meets.cause)
+        m.meets.cause)
         (λ e. subst IsOfLineOne (sym e.is) tt) runs
     by false refused = refused_first old outcome new refused.refused
 
@@ -170,7 +170,7 @@ one_text : (names : List Word) (number : ℕ) (said : Answer) → number ≡ 1
     → output_of names (Answered number said) ≡ answers_text names ((1, Some said) ∷ [])
 one_text names number said first =
     ap (λ (n : ℕ). decimal n ++ codes ": " ++ answer_text names said ++ codes "\n") first
-        ∙ sym (append-nil (decimal 1 ++ codes ": " ++ answer_text names said ++ codes "\n"))
+    ∙ sym (append-nil (decimal 1 ++ codes ": " ++ answer_text names said ++ codes "\n"))
 
 pub printed_answers : (names : List Word) (outcome : Outcome) → IsOfLineOne outcome → is_answer outcome ≡ true
     → output_of names outcome ≡ answers_text names (ByOutcome outcome)

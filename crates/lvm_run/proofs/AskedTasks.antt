@@ -48,7 +48,7 @@ module _ (words : List Word) (now : ℕ) (ids : ℕ → List ℕ) (old : State) 
     [],
     subst (λ (drawn : ℕ → List ℕ). RunsWords words now [] from from ids old ran.outcome drawn old) (sym undrawn)
         (subst (λ (r : TimedOutcome). RunsWords words now [] from from ids old r.outcome ids old) (sym is)
-            (undone_words words now [] from ids old disks)),
+        (undone_words words now [] from ids old disks)),
     kept_ended (names_of words) now old told ran NoMemory is (λ outcome. lines_of_words words [] ids outcome)
         (none_asked words [] ids NoMemory),
   )
@@ -79,17 +79,17 @@ module _ (words : List Word) (now : ℕ) (ids : ℕ → List ℕ) (old : State) 
         let by_line : RunsRequest line.names line.request ids now runs.0 from to old ran.outcome new =
         subst (λ (r : Request). RunsRequest line.names r ids now runs.0 from to old ran.outcome new) (sym asked)
         (as_request line.names (request_in task) ids now runs.0 from to old ran.outcome new
-            (subst (λ (t : Task). RunsTask line.names t now runs.0 from to old ran.outcome new) is runs.1))
+        (subst (λ (t : Task). RunsTask line.names t now runs.0 from to old ran.outcome new) is runs.1))
         in (
           runs.0,
           record {
             refused = λ none. absurd (true≢false (ap is_some (sym meant ∙ none)));
             lines =
                 λ own also. subst (λ (l : CommandLine). RunsRequest l.names l.request ids now runs.0 from to old ran.outcome new)
-                    (same_Some line own (sym meant ∙ also)) by_line;
+                (same_Some line own (sym meant ∙ also)) by_line;
             drawn = λ own also.
                 inl (subst (λ (l : CommandLine). TakesId (draws_id l.request) ids after) (same_Some line own (sym meant ∙ also))
-                    (subst (λ (r : Request). TakesId (draws_id r) ids after) (sym asked) takes));
+                (subst (λ (r : Request). TakesId (draws_id r) ids after) (sym asked) takes));
           },
           kept_asked words line task now runs.0 ids old ran.outcome (journal_by ran.begun ran.took new.steps ran.outcome) new meant asked is
               runs.2,

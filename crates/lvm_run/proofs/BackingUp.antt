@@ -96,8 +96,8 @@ module _ (names : List Word) (id : Option (List ℕ)) (vg : List ℕ) (time : �
       scanned : IsScanned (vgcfgbackup vg) context set.empty old (Finds (Some found))
       scanned =
           holds_now_weaker old.told (λ image. IsScanOf image old.sizes found)
-              (λ image. IsScanOf image old.sizes found × (found.unread ≡ set.empty) × IsWhole found) (λ image h. (h, whole.read, whole))
-              is.now
+          (λ image. IsScanOf image old.sizes found × (found.unread ≡ set.empty) × IsWhole found) (λ image h. (h, whole.read, whole))
+          is.now
 
       taken : IsTaken (vgcfgbackup vg) context old (Some found) None
       taken = record { scanned = scanned; stuck_is = refl }
@@ -121,8 +121,10 @@ module _ (names : List Word) (id : Option (List ℕ)) (vg : List ℕ) (time : �
           (
             set.empty,
             Some found,
-            record { failed = subst (λ (s : set.FinSet nat_cmp). FailedOn s old new) whole.read is.faults;
-                all = (λ yes. refl, λ none. up.0) },
+            record {
+              failed = subst (λ (s : set.FinSet nat_cmp). FailedOn s old new) whole.read is.faults;
+              all = (λ yes. refl, λ none. up.0);
+            },
             scanned,
             rw (there, up.2) refl,
             holds_now_anyway old.told (λ image. (g : Group) × (group_in (Some found) ≡ Some g) × HasTree g

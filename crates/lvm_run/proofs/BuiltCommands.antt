@@ -1,8 +1,9 @@
 -- Which commands change something.
 use Rattle.std.proofs.Common.{◌≡◌, true, refl}
 use Rattle.command_table.specs.declared.command.Command.{Command}
-use Rattle.command_table.specs.declared.command.Command.TheVariants.{Lvcreate, Lvextend, Lvreduce, Lvremove, Lvrename, Lvs, Pvcreate, Pvck,
-    Pvs, Vgcfgbackup, Vgcfgrestore, Vgck, Vgcreate, Vgextend, Vgreduce, Vgremove, Vgrename, Vgs}
+use Rattle.command_table.specs.declared.command.Command.TheVariants.{Lvcreate, Lvextend, Lvreduce, Lvremove, Lvrename, Lvs, Pvcreate, Pvck}
+use Rattle.command_table.specs.declared.command.Command.TheVariants.{Pvs, Vgcfgbackup, Vgcfgrestore, Vgck, Vgcreate, Vgextend, Vgreduce}
+use Rattle.command_table.specs.declared.command.Command.TheVariants.{Vgremove, Vgrename, Vgs}
 use Rattle.command_table.specs.Commands.{changes}
 use Rattle.lvm_run.specs.Changing.{changing}
 use Rattle.lvm_run.specs.Commands.{is_built, spec_of}

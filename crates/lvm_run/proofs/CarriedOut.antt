@@ -1,6 +1,6 @@
 -- Each exit of a command that changes something.
-use Rattle.std.proofs.Common.{◌≡◌, ◌<◌, ℕ, ◌^◌, Bool, true, false, List, length, take, Option, Some, None, ⊎_elim, refl, sym, ap, subst,
-    ◌∙◌, arith}
+use Rattle.std.proofs.Common.{◌≡◌, ◌<◌, ℕ, ◌^◌, Bool, true, false, List, length, take, Option, Some, None, ⊎_elim, refl, sym, ap, subst}
+use Rattle.std.proofs.Common.{◌∙◌, arith}
 use Rattle.std.specs.FinSet as set
 use Rattle.std.specs.Prelude.{All, IsTrue, Result, Ok, Err, MatchResult, is_some}
 use Rattle.command_table.specs.Options.{Word}
@@ -58,8 +58,8 @@ use Rattle.lvm_run.specs.CommandSpec.{Context, Finds, Inputs, no_inputs}
 use Rattle.lvm_run.specs.Meets.{ChangesDisks, IsJudged, IsTaken, Meets, batches_if, is_done, line_begun}
 use Rattle.lvm_run.specs.Scan.{FindsWhole, IsOpenCause, IsOpened, OpensDisks}
 use Rattle.lvm_run.specs.declared.ending.Ending.{Ending}
-use Rattle.lvm_run.specs.declared.ending.Ending.TheVariants.{WordsRefused, NoMemory, SourceFailed, ScriptTooLong, OpenFailed,
-    ScanReadFailed, ScanRefused, RepairFailed, RepairRefused}
+use Rattle.lvm_run.specs.declared.ending.Ending.TheVariants.{WordsRefused, NoMemory, SourceFailed, ScriptTooLong, OpenFailed}
+use Rattle.lvm_run.specs.declared.ending.Ending.TheVariants.{ScanReadFailed, ScanRefused, RepairFailed, RepairRefused}
 use Rattle.lvm_run.specs.declared.outcome.Outcome.{Outcome}
 use Rattle.lvm_run.specs.declared.outcome.Outcome.TheVariants.{Ended, Answered}
 use Rattle.lvm_run.proofs.ChangedDisks.{looks, none_begun, none_in_turn, unpassed, untrue, unwritten}
@@ -96,7 +96,7 @@ module _ (names : List Word) (command : Command) (id : Option (List ℕ)) (time 
     cause = (refl, cause);
     told = between_weaker (λ a b. OpensDisks old.sizes a false b) (Does no_inputs (Ended (OpenFailed pv))) old.told new.told
         (λ a b o. looks (changing command) context no_inputs (Ended (OpenFailed pv)) refl refl refl None a b (λ taken. absurd (cc)) o)
-            opens;
+        opens;
     again = again;
   }
   meets_unopened new (ScanReadFailed pv) again cause opens = record {
@@ -104,7 +104,7 @@ module _ (names : List Word) (command : Command) (id : Option (List ℕ)) (time 
     cause = (λ judged. absurd (cc), cause);
     told = between_weaker (λ a b. OpensDisks old.sizes a false b) (Does no_inputs (Ended (ScanReadFailed pv))) old.told new.told
         (λ a b o. looks (changing command) context no_inputs (Ended (ScanReadFailed pv)) refl refl refl None a b (λ taken. absurd (cc)) o)
-            opens;
+        opens;
     again = again;
   }
   meets_unopened new (ScanRefused refusal whole) again cause opens = record {
@@ -112,7 +112,7 @@ module _ (names : List Word) (command : Command) (id : Option (List ℕ)) (time 
     cause = cause;
     told = between_weaker (λ a b. OpensDisks old.sizes a false b) (Does no_inputs (Ended (ScanRefused refusal whole))) old.told new.told
         (λ a b o. looks (changing command) context no_inputs (Ended (ScanRefused refusal whole)) refl refl refl None a b
-            (λ taken. absurd (cc)) o) opens;
+        (λ taken. absurd (cc)) o) opens;
     again = again;
   }
   meets_unopened new (RepairFailed pv) again cause opens = absurd cause
@@ -149,7 +149,7 @@ module _ (names : List Word) (command : Command) (id : Option (List ℕ)) (time 
         told =
             between_both (λ a b. OpensDisks old.sizes a true b) (λ a b. b ≡ a) (Does no_inputs (Ended NoMemory)) old.told mid.told new.told
             (λ a m b o e. looks (changing command) context no_inputs (Ended NoMemory) refl refl refl None a b (λ t. absurd (cc))
-                (subst (λ (t : Record). OpensDisks old.sizes a false t) (sym e) (unpassed old.sizes a m o)))
+            (subst (λ (t : Record). OpensDisks old.sizes a false t) (sym e) (unpassed old.sizes a m o)))
             opens told;
         again = again_both old mid new idle again;
       }
@@ -186,7 +186,7 @@ module _ (names : List Word) (command : Command) (id : Option (List ℕ)) (time 
         (named : All (λ name. is_disk_name name ≡ true) names) (done new : State) (again : IsIdleAgain mid done)
         (repaired : IsRepaired found mid done (repaired_of found))
         (repairs : BetweenRecords (λ a b. WritesInTurn a (repair_batches found) true b) mid.told done.told)
-            (images_kept : StraysAreOthers found → RepairKeepsImages found) (given : Inputs) where
+        (images_kept : StraysAreOthers found → RepairKeepsImages found) (given : Inputs) where
       abbrev state : GroupState
       state = state_in (repaired_of found) names given.backup
 
@@ -233,7 +233,7 @@ module _ (names : List Word) (command : Command) (id : Option (List ℕ)) (time 
         now_start : now_after start.opened start.steps ≡ with_batches (repair_batches found) (now_after before.opened before.steps)
         now_start =
             same_image (now_after start.opened start.steps) (with_batches (repair_batches found) (now_after look.opened look.steps))
-                (written.now refl)
+            (written.now refl)
             ∙ ap (λ (image : Image). with_batches (repair_batches found) image)
             (same_image (now_after look.opened look.steps) (now_after before.opened before.steps) (opens before is).2.same)
 
@@ -241,8 +241,8 @@ module _ (names : List Word) (command : Command) (id : Option (List ℕ)) (time 
         entries_start =
             subst (λ (image : Image). ShowsEntries (repaired_of found).areas image) (sym now_start)
             (repaired_entries found opened.shape (images_kept
-                (strays_are_others (now_after before.opened before.steps) old.sizes found (held_now before is).0))
-                (now_after before.opened before.steps) (entries_now before is))
+            (strays_are_others (now_after before.opened before.steps) old.sizes found (held_now before is).0))
+            (now_after before.opened before.steps) (entries_now before is))
 
       module _ (again_line : IsIdleAgain done new) (record_new : (told : Record) → new.told ≡ Some told → IsRecord told.steps) where
         again_all : IsIdleAgain old new
@@ -257,16 +257,16 @@ module _ (names : List Word) (command : Command) (id : Option (List ℕ)) (time 
                 l.1,
                 subst (λ (t : Record). Does given (Answered 1 said) before t) (sym l.2)
                     (unwritten (changing command) context given (Answered 1 said) undone (Some found) before (look before is)
-                        (start before is) (start before is) (λ t. held_now before is) (opens before is).2 (written before is)
+                    (start before is) (start before is) (λ t. held_now before is) (opens before is).2 (written before is)
                     (λ begun. absurd (untrue (line_begun (Answered 1 said)) unlined begun))
-                        (none_begun (line_begun (Answered 1 said)) false zeros (start before is) unlined)),
+                    (none_begun (line_begun (Answered 1 said)) false zeros (start before is) unlined)),
               )
 
         -- its zeros were written, its other batches as far as they came, and disks cleared behind these
         module _ (shape : HasShape (repaired_of found)) (whole : IsWhole (repaired_of found)) (takes : IsTakenBy)
             (passes : refusal_of state here time given.given ≡ None)
             (images : KeepsImages state here time given.given) (before : Record) (is : old.told ≡ Some before) (made : Record)
-                (record_made : IsRecord made.steps) (well : Bool) (w : WritesBehind zeros batches well (start before is) made) where
+            (record_made : IsRecord made.steps) (well : Bool) (w : WritesBehind zeros batches well (start before is) made) where
           -- the entries of the areas stand in every base then
           entries_zeroed : ShowsEntries (repaired_of found).areas (now_after w.zeroed.opened w.zeroed.steps)
           entries_zeroed =
@@ -283,30 +283,34 @@ module _ (names : List Word) (command : Command) (id : Option (List ℕ)) (time 
               in
               let base : Image = now_after (start before is).opened (start before is).steps in
               subst (λ (image : Image). ShowsEntries (repaired_of found).areas image)
-                  (sym (same_image (now_after w.zeroed.opened w.zeroed.steps) (with_batches zeros base) (w.first.now refl)))
+              (sym (same_image (now_after w.zeroed.opened w.zeroed.steps) (with_batches zeros base) (w.first.now refl)))
               (zeroes_show (repaired_of found) names given.backup here time given.given on base (with_batches zeros base)
-                  (all_written zeros base) (entries_start before is))
+              (all_written zeros base) (entries_start before is))
 
           entries_base : (base : Image) → IsBase w.zeroed base → ShowsEntries (repaired_of found).areas base
           entries_base base base_is =
               let record_is : IsRecord w.zeroed.steps = record_before w.zeroed made w.behind.since w.behind.steps record_made in
               subst (λ (image : Image). ShowsEntries (repaired_of found).areas image)
-                  (same_image (now_after w.zeroed.opened w.zeroed.steps) base (now_base w.zeroed base record_is base_is)) entries_zeroed
+              (same_image (now_after w.zeroed.opened w.zeroed.steps) base (now_base w.zeroed base record_is base_is)) entries_zeroed
 
           kept : (base : Image) → IsBase w.zeroed base
               → EveryImageSince (length w.zeroed.steps) made ((changing command).keeps context (Some found) given base)
           kept base base_is =
               since_weaken made (length w.zeroed.steps) (length w.zeroed.steps) (HasFirstBatches (take w.behind.submitted batches) base)
-                  ((changing command).keeps context (Some found) given base) (omega arith)
-              (λ image has. (found, refl, images.kept base image (entries_base base base_is)
-                  (of_submitted w.behind.submitted batches base image has)))
+              ((changing command).keeps context (Some found) given base) (omega arith)
+              (λ image has. (
+                found,
+                refl,
+                images.kept base image (entries_base base base_is)
+                    (of_submitted w.behind.submitted batches base image has),
+              ))
               (w.behind.every_image base base_is)
 
           found_there : well ≡ true → (changing command).finds context (Some found) given (now_after made.opened made.steps)
           found_there went =
               subst (λ (image : Image). (changing command).finds context (Some found) given image)
               (sym (same_image (now_after made.opened made.steps) (with_batches batches (now_after w.zeroed.opened w.zeroed.steps))
-                  (w.behind.now went)))
+              (w.behind.now went)))
               (found, refl, images.found (now_after w.zeroed.opened w.zeroed.steps) entries_zeroed)
 
           module _ (after : Record) (cleared : Bool) (c : WritesInTurn made clears cleared after) where
@@ -314,7 +318,7 @@ module _ (names : List Word) (command : Command) (id : Option (List ℕ)) (time 
                 → EveryImageSince (length made.steps) after ((changing command).clearing context (Some found) given base)
             kept_clearing base base_is =
                 since_weaken after (length made.steps) (length made.steps) (HasFirstBatches (take c.submitted clears) base)
-                    ((changing command).clearing context (Some found) given base) (omega arith)
+                ((changing command).clearing context (Some found) given base) (omega arith)
                 (λ image has. (found, refl, images.clears.kept base image (of_submitted c.submitted clears base image has)))
                 (c.every_image base base_is)
 
@@ -322,7 +326,7 @@ module _ (names : List Word) (command : Command) (id : Option (List ℕ)) (time 
             cleared_there went =
                 subst (λ (image : Image). (changing command).cleared context (Some found) given image)
                 (sym (same_image (now_after after.opened after.steps) (with_batches clears (now_after made.opened made.steps))
-                    (c.now went)))
+                (c.now went)))
                 (found, refl, images.clears.done (now_after made.opened made.steps))
 
           -- so the disks were changed, by what it was answered
@@ -407,11 +411,11 @@ module _ (names : List Word) (command : Command) (id : Option (List ℕ)) (time 
                   ⊎_elim
                       (λ first.
                       unwritten (changing command) context given (Answered 1 (PvFailed pv)) refl (Some found) before (look before is)
-                          (start before is) l.0 (λ t. held_now before is) (opens before is).2 (written before is)
+                      (start before is) l.0 (λ t. held_now before is) (opens before is).2 (written before is)
                       (λ begun. takes tt) first)
                       (λ behind.
                       written_behind shape whole (takes tt) cause.0 (images tt) before is l.0 (record_new l.0 l.1) false behind
-                          (PvFailed pv) refl l.0 (none_in_turn l.0 false) (λ done'. absurd (cc)))
+                      (PvFailed pv) refl l.0 (none_in_turn l.0 false) (λ done'. absurd (cc)))
                       l.2,
                 ))
                 (λ uncleared. cleared_behind (PvFailed pv) refl (takes tt) cause.0 (images tt) uncleared.1 before is)
@@ -437,16 +441,16 @@ module _ (names : List Word) (command : Command) (id : Option (List ℕ)) (time 
     meets_on planned early count named (Err why) done new whole again record_is cause told images outcome took goes =
         subst (λ (o : Outcome). Meets (changing command) context old o new) (sym goes.0)
         (subst (λ (s : State). Meets (changing command) context old (Ended (ending_of why)) s) (sym goes.2)
-            (meets_fault done again why cause told))
+        (meets_fault done again why cause told))
     meets_on planned early count named (Ok r) done new whole again record_is cause told images outcome took goes =
         let same : r ≡ repaired_of found = cause.now in
         let carried : IsCarriedOut (repaired_of found) names here time done outcome took new =
-            subst (λ (f : Found). IsCarriedOut f names here time done outcome took new) same goes in
+        subst (λ (f : Found). IsCarriedOut f names here time done outcome took new) same goes in
         let w = carried.carried in
         let given : Inputs = record { given = w.given; backup = carried.backup } in
         subst (λ (o : Outcome). Meets (changing command) context old o new) (sym carried.is)
         (meets_by planned early count named done new again (subst (IsRepaired found mid done) same cause) told (images tt) given
-            carried.again record_is (subst HasShape same whole.0) (subst IsWhole same whole.1) carried.result
+        carried.again record_is (subst HasShape same whole.0) (subst IsWhole same whole.1) carried.result
         (λ judged. (w.takes judged, carried.given_back judged)) w.cause w.images w.told)
 
     pub meets_changed : IsPlanned id command → time < 2 ^ 48 → length names ≡ length found.disks
@@ -455,4 +459,4 @@ module _ (names : List Word) (command : Command) (id : Option (List ℕ)) (time 
         → IsChanged found names here time mid outcome begun took new → Meets (changing command) context old outcome new
     meets_changed planned early count named outcome begun took new record_is changed =
         meets_on planned early count named changed.result changed.mid new changed.whole changed.again record_is changed.cause changed.told
-            changed.images outcome took changed.goes
+        changed.images outcome took changed.goes

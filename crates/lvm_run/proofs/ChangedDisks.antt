@@ -104,9 +104,9 @@ pub looks : (spec : CommandSpec) (context : Context) (given : Inputs) (outcome :
     → OpensDisks context.sizes old (is_taken outcome) new → ChangesDisks spec context given outcome old new
 looks spec context given outcome unrepaired unlined undone found old new scanned opens =
     unwritten spec context given outcome undone found old new new new scanned opens
-        (none_begun (repair_begun outcome) (is_repaired outcome) (spec.repairs found) new unrepaired)
+    (none_begun (repair_begun outcome) (is_repaired outcome) (spec.repairs found) new unrepaired)
     (λ begun. absurd (untrue (line_begun outcome) unlined begun))
-        (none_begun (line_begun outcome) false (spec.zeros context found given) new unlined)
+    (none_begun (line_begun outcome) false (spec.zeros context found given) new unlined)
 
 -- ---- reads alone
 

@@ -1,6 +1,6 @@
 -- pvck: judged, and then a report or none.
-use Rattle.std.proofs.Common.{◌≡◌, ℕ, Bool, true, List, [], ◌∷◌, ◌++◌, slice_index_or, Option, Some, None, IfSome, refl, sym, ap, subst,
-    inl, inr, append-nil}
+use Rattle.std.proofs.Common.{◌≡◌, ℕ, Bool, true, List, [], ◌∷◌, ◌++◌, slice_index_or, Option, Some, None, IfSome, refl, sym, ap, subst}
+use Rattle.std.proofs.Common.{inl, inr, append-nil}
 use Rattle.std.specs.FinSet as set
 use Rattle.std.specs.Prelude.{unwrap_or}
 use Rattle.sector_base.specs.declared.spans.Span.{Span}
@@ -96,17 +96,19 @@ module _ (names : List Word) (id : Option (List ℕ)) (pv : List ℕ) (time : �
     told_all outcome r =
         let spans = label_span disk ∷ area_spans disk (areas_found r.found) in
         between_reading (DoesToDisks (pvck pv) context no_inputs outcome) old.told new.told spans disk
-            (λ sector_at. IsFound sector_at (slice_index_or old.sizes disk 0) r.found) r.reads r.is
+        (λ sector_at. IsFound sector_at (slice_index_or old.sizes disk 0) r.found) r.reads r.is
         (λ before after reads is. reads_disks (pvck pv) context no_inputs refl outcome before after spans [] reads
-        (reads_named (now_after before.opened before.steps) (spans ++ [])
-        (areas_found r.found, areas_of_found (now_after before.opened before.steps disk) (slice_index_or old.sizes disk 0) r.found is,
-            append-nil spans)))
+        (reads_named (now_after before.opened before.steps) (spans ++ []) (
+          areas_found r.found,
+          areas_of_found (now_after before.opened before.steps disk) (slice_index_or old.sizes disk 0) r.found is,
+          append-nil spans,
+        )))
 
     told_first : (outcome : Outcome) → ReadsFirstOf disk (slice_index_or old.sizes disk 0) old new
         → BetweenRecords (DoesToDisks (pvck pv) context no_inputs outcome) old.told new.told
     told_first outcome r =
         between_reading (DoesToDisks (pvck pv) context no_inputs outcome) old.told new.told r.read disk
-            (λ sector_at. AreAreasOf sector_at (slice_index_or old.sizes disk 0) r.areas) r.reads r.are
+        (λ sector_at. AreAreasOf sector_at (slice_index_or old.sizes disk 0) r.areas) r.reads r.are
         (λ before after reads are. reads_disks (pvck pv) context no_inputs refl outcome before after r.read r.rest reads
         (reads_named (now_after before.opened before.steps) (r.read ++ r.rest) (r.areas, are, r.front)))
 

@@ -1,6 +1,6 @@
 -- Each disk that the words of a run name has a name that disks can have.
-use Rattle.std.proofs.Common.{◌≡◌, ◌⊎◌, All, Bool, true, false, if◌then◌else◌, List, [], ◌∷◌, Option, Some, None, IfSome, option_map,
-    option_and_then, subst, inl, inr}
+use Rattle.std.proofs.Common.{◌≡◌, ◌⊎◌, All, Bool, true, false, if◌then◌else◌, List, [], ◌∷◌, Option, Some, None, IfSome, option_map}
+use Rattle.std.proofs.Common.{option_and_then, subst, inl, inr}
 use Rattle.std.proofs.lemmas.Bool.{cases_Bool}
 use Rattle.std.proofs.lemmas.List.Elements.{All-cons, All-nil}
 use Rattle.command_table.specs.Options.{Word}
@@ -58,5 +58,5 @@ are_named words line is =
       few = few.1;
       each =
           subst (λ (o : Option (List Word)). IfSome o AllNamed) (names_of_line words line is)
-              (where_named (front_of words) (front_named words));
+          (where_named (front_of words) (front_named words));
     }

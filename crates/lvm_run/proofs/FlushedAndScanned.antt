@@ -1,6 +1,6 @@
 -- The disks are flushed and scanned, and nothing is written.
-use Rattle.std.proofs.Common.{◌≡◌, ◌<◌, ℕ, Bool, true, false, List, [], ◌∷◌, ◌++◌, length, Option, Some, None, refl, inl, sym, ap, subst,
-    ◌∙◌, arith}
+use Rattle.std.proofs.Common.{◌≡◌, ◌<◌, ℕ, Bool, true, false, List, [], ◌∷◌, ◌++◌, length, Option, Some, None, refl, inl, sym, ap, subst}
+use Rattle.std.proofs.Common.{◌∙◌, arith}
 use Rattle.std.specs.FinSet as set
 use Rattle.std.specs.Ordering.{nat_cmp}
 use Rattle.std.specs.Prelude.{Result, Ok, Err, MatchResult}
@@ -75,7 +75,7 @@ holds_unflushed disks well s0 s1 P flushes h = go s0 refl
     go (Some t) e =
         let f = flushes t e in
         subst P (same_image (now_after f.0.opened f.0.steps) (now_after t.opened t.steps) f.2.same)
-            (subst (λ (o : Option Record). HoldsNow o P) f.1 h)
+        (subst (λ (o : Option Record). HoldsNow o P) f.1 h)
 
 -- ---- flushes, and a scan
 
@@ -102,7 +102,7 @@ module _ (sizes : List ℕ) (old new : Record) (f : FlushesAll (length sizes) fa
     ordered = unread_ordered (length sizes) f.since f.unread;
     few =
         subst (λ (l : List Span). AreFewReads (now_after old.opened old.steps) sizes l) (sym f.unread)
-            (few_none (now_after old.opened old.steps) sizes);
+        (few_none (now_after old.opened old.steps) sizes);
   }
 
 -- a flush failed
@@ -112,27 +112,27 @@ opens_flushed sizes s0 s1 flushes =
     between_weaker (FlushesAll (length sizes) false) (λ old new. OpensDisks sizes old false new) s0 s1 (flushes_open sizes) flushes
 
 module _ (sizes : List ℕ) (passes : Bool) (old mid new : Record) (f : FlushesAll (length sizes) true old mid) (r : ReadsFew sizes mid new)
-    where
-  read_same : IsSame (now_after new.opened new.steps) (now_after mid.opened mid.steps)
-  read_same pv sector =
-      subst (λ (t : Record). now_after t.opened t.steps pv sector ≡ now_after mid.opened mid.steps pv sector) (sym r.steps)
-      (ap (λ (i : Image). i pv sector) (now_after-reads mid.opened r.since mid.steps r.reads))
+  where
+    read_same : IsSame (now_after new.opened new.steps) (now_after mid.opened mid.steps)
+    read_same pv sector =
+        subst (λ (t : Record). now_after t.opened t.steps pv sector ≡ now_after mid.opened mid.steps pv sector) (sym r.steps)
+        (ap (λ (i : Image). i pv sector) (now_after-reads mid.opened r.since mid.steps r.reads))
 
-  reads_are : spans_read (r.since ++ f.since) ≡ spans_read r.since
-  reads_are = spans_read-append r.since f.since ∙ ap (λ (l : List Span). l ++ spans_read r.since) f.unread
+    reads_are : spans_read (r.since ++ f.since) ≡ spans_read r.since
+    reads_are = spans_read-append r.since f.since ∙ ap (λ (l : List Span). l ++ spans_read r.since) f.unread
 
-  reads_open : OpensDisks sizes old passes new
-  reads_open = record {
-    since = r.since ++ f.since;
-    steps = steps_joined old mid new f.since r.since f.steps r.steps;
-    nothing = writes_nothing_append r.since f.since (reads_write_nothing r.since r.reads) f.nothing;
-    same = λ pv sector. read_same pv sector ∙ f.same pv sector;
-    flushed = λ _ pv within. flushed_later pv r.since f.since (f.flushed refl pv within);
-    ordered = reads_later (length sizes) r.since f.since (f.flushed refl) (unread_ordered (length sizes) f.since f.unread);
-    few = subst (λ (l : List Span). AreFewReads (now_after old.opened old.steps) sizes l) (sym reads_are)
-        (subst (λ (image : Image). AreFewReads image sizes (spans_read r.since))
-            (same_image (now_after mid.opened mid.steps) (now_after old.opened old.steps) f.same) r.few);
-  }
+    reads_open : OpensDisks sizes old passes new
+    reads_open = record {
+      since = r.since ++ f.since;
+      steps = steps_joined old mid new f.since r.since f.steps r.steps;
+      nothing = writes_nothing_append r.since f.since (reads_write_nothing r.since r.reads) f.nothing;
+      same = λ pv sector. read_same pv sector ∙ f.same pv sector;
+      flushed = λ _ pv within. flushed_later pv r.since f.since (f.flushed refl pv within);
+      ordered = reads_later (length sizes) r.since f.since (f.flushed refl) (unread_ordered (length sizes) f.since f.unread);
+      few = subst (λ (l : List Span). AreFewReads (now_after old.opened old.steps) sizes l) (sym reads_are)
+          (subst (λ (image : Image). AreFewReads image sizes (spans_read r.since))
+          (same_image (now_after mid.opened mid.steps) (now_after old.opened old.steps) f.same) r.few);
+    }
 
 -- all were flushed, and then scanned
 pub opens_scanned : (sizes : List ℕ) (passes : Bool) (s0 s1 s2 : Option Record) → BetweenRecords (FlushesAll (length sizes) true) s0 s1
@@ -140,7 +140,7 @@ pub opens_scanned : (sizes : List ℕ) (passes : Bool) (s0 s1 s2 : Option Record
     → BetweenRecords (λ old new. OpensDisks sizes old passes new) s0 s2
 opens_scanned sizes passes s0 s1 s2 flushes reads =
     between_both (FlushesAll (length sizes) true) (ReadsFew sizes) (λ old new. OpensDisks sizes old passes new) s0 s1 s2
-        (reads_open sizes passes) flushes reads
+    (reads_open sizes passes) flushes reads
 
 -- ---- what it comes to
 
@@ -155,7 +155,7 @@ module _ (old mid new : State) (same_sizes : mid.sizes ≡ old.sizes)
   held : (P : Image → List ℕ → Type 0) → HoldsNow mid.told (λ image. P image mid.sizes) → HoldsNow old.told (λ image. P image old.sizes)
   held P h =
       holds_unflushed (length old.sizes) true old.told mid.told (λ image. P image old.sizes) flushes
-          (subst (λ (sizes : List ℕ). HoldsNow mid.told (λ image. P image sizes)) same_sizes h)
+      (subst (λ (sizes : List ℕ). HoldsNow mid.told (λ image. P image sizes)) same_sizes h)
 
   -- the scan was refused
   pub refused_cause : (why : RefusalOfScan) (unread : set.FinSet nat_cmp) (ending : Ending) → IsScanRefused mid why unread new
@@ -234,18 +234,18 @@ module _ (s0 made s1 : State) (ops sectors : ℕ) (room : Reserves s0 ops sector
   opens_failed flushes = opens_flushed s0.sizes s0.told s1.told (flushes_since false flushes)
 
   module _ (again : IsIdleAgain made s1) (flushes : BetweenRecords (FlushesAll (length made.sizes) true) made.told s1.told) (s2 : State)
-      where
-    pub opens_all : (passes : Bool) → BetweenRecords (ReadsFew s1.sizes) s1.told s2.told
-        → BetweenRecords (λ old new. OpensDisks s0.sizes old passes new) s0.told s2.told
-    opens_all passes reads =
-        opens_scanned s0.sizes passes s0.told s1.told s2.told (flushes_since true flushes)
-        (subst (λ (l : List ℕ). BetweenRecords (ReadsFew l) s1.told s2.told) (again.sizes ∙ sizes_same) reads)
+    where
+      pub opens_all : (passes : Bool) → BetweenRecords (ReadsFew s1.sizes) s1.told s2.told
+          → BetweenRecords (λ old new. OpensDisks s0.sizes old passes new) s0.told s2.told
+      opens_all passes reads =
+          opens_scanned s0.sizes passes s0.told s1.told s2.told (flushes_since true flushes)
+          (subst (λ (l : List ℕ). BetweenRecords (ReadsFew l) s1.told s2.told) (again.sizes ∙ sizes_same) reads)
 
-    module _ (same : HasSameFaults made s1) where
-      pub refused_after : (why : RefusalOfScan) (unread : set.FinSet nat_cmp) (ending : Ending) → IsScanRefused s1 why unread s2
-          → IsEndingOf why unread ending → IsOpenCause s0 s2 ending
-      refused_after = refused_cause s0 s1 s2 (again.sizes ∙ sizes_same) (flushes_since true flushes) (faults_since same)
+      module _ (same : HasSameFaults made s1) where
+        pub refused_after : (why : RefusalOfScan) (unread : set.FinSet nat_cmp) (ending : Ending) → IsScanRefused s1 why unread s2
+            → IsEndingOf why unread ending → IsOpenCause s0 s2 ending
+        refused_after = refused_cause s0 s1 s2 (again.sizes ∙ sizes_same) (flushes_since true flushes) (faults_since same)
 
-      pub taken_after : (found : Found) → IsScan s1 found s2 → (result : Result Found Ending) → IsTakenAsFound found result
-          → MatchResult result (λ taken. IsOpened s0 taken s2) (IsOpenCause s0 s2)
-      taken_after found is = taken_cause s0 s1 s2 (again.sizes ∙ sizes_same) (flushes_since true flushes) (faults_since same) found is
+        pub taken_after : (found : Found) → IsScan s1 found s2 → (result : Result Found Ending) → IsTakenAsFound found result
+            → MatchResult result (λ taken. IsOpened s0 taken s2) (IsOpenCause s0 s2)
+        taken_after found is = taken_cause s0 s1 s2 (again.sizes ∙ sizes_same) (flushes_since true flushes) (faults_since same) found is

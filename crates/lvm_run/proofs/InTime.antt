@@ -50,10 +50,10 @@ pub goes_between : (names : List Word) (line : Line) (now : ℕ) (result : Resul
     (took : Option ℕ) (new : State) → GoesOn names line now result old outcome took new → LiesBetween old.steps took new.steps
 goes_between names line now (Ok repaired) old outcome took new goes =
     subst (λ (t : Option ℕ). LiesBetween old.steps t new.steps) (sym goes.took_is)
-        (carried_between _ _ _ _ goes.result old new goes.again.later goes.carried.told)
+    (carried_between _ _ _ _ goes.result old new goes.again.later goes.carried.told)
 goes_between names line now (Err why) old outcome took new goes =
     subst (λ (t : Option ℕ). LiesBetween old.steps t new.steps) (sym goes.1)
-        (subst (λ (s : State). old.steps ≤ s.steps) (sym goes.2) (omega arith))
+    (subst (λ (s : State). old.steps ≤ s.steps) (sym goes.2) (omega arith))
 
 -- one that can be planned is none that reports on a scan alone
 pub planned_writes : (id : Option (List ℕ)) (command : Command) → IsPlanned id command → reports_scan command ≡ false

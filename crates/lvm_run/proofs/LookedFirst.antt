@@ -1,6 +1,6 @@
 -- A run whose disks are looked at first.
-use Rattle.std.proofs.Common.{◌≡◌, ◌≢◌, ⊎_elim, ℕ, ◌≤◌, ◌^◌, List, [], ◌∷◌, length, slice_index_or, All, Contains, Option, Some, None, IfOk,
-    IfSome}
+use Rattle.std.proofs.Common.{◌≡◌, ◌≢◌, ⊎_elim, ℕ, ◌≤◌, ◌^◌, List, [], ◌∷◌, length, slice_index_or, All, Contains, Option, Some, None, IfOk}
+use Rattle.std.proofs.Common.{IfSome}
 use Rattle.std.proofs.Common.{Result, Ok, Err, refl, sym, ap, subst, ◌∙◌}
 use Rattle.std.specs.Prelude.{MatchOption, MatchResult}
 use Rattle.std.proofs.lemmas.List.Elements.{All-nil}
@@ -58,7 +58,7 @@ module _ (words : List Word) (line : CommandLine) (is : command_line_of words �
   pub asked_cause : (old new : State) (own : Command) → line.request ≡ One own → (result : Result (Option UsedDisk) UseRefusal)
       → MatchResult result
       (λ found. HasSameFaults old new × HoldsNow old.told
-          (λ image. MatchOption found (All (IsFree (is_new own) image old.sizes) (taken_by line.names own))
+      (λ image. MatchOption found (All (IsFree (is_new own) image old.sizes) (taken_by line.names own))
       (λ used. Contains (taken_by line.names own) used.pv × IsUsedBy (is_new own) image old.sizes used.pv used.by)))
       (IsUseFault old new)
       → IfOk result (λ found. IfSome found (λ used. Contains (taken_by line.names own) used.pv))
@@ -115,8 +115,11 @@ Write = Span × List (List ℕ)
 -- where nothing but reads was done, no disk was written
 pub left_looked_at : (words : List Word) (old new : State) → LooksAtMost old new → LeavesUsed words old new
 left_looked_at words old new looks = λ pv before told takes. ⊎_elim
-    (λ (same : new ≡ old). (before, ap (λ (s : State). s.told) same ∙ told,
-        record { since = []; steps = refl; none = All-nil (λ (w : Write). w.0.pv ≢ pv) }))
+    (λ (same : new ≡ old). (
+      before,
+      ap (λ (s : State). s.told) same ∙ told,
+      record { since = []; steps = refl; none = All-nil (λ (w : Write). w.0.pv ≢ pv) },
+    ))
     (λ (looked : Looks old new).
     let after = looked.told before told in
     let reads = after.2.1 in (
@@ -127,7 +130,7 @@ left_looked_at words old new looks = λ pv before told takes. ⊎_elim
         steps = reads.steps;
         none =
             subst (All (λ (w : Write). w.0.pv ≢ pv)) (sym (reads_write_nothing reads.since reads.reads))
-                (All-nil (λ (w : Write). w.0.pv ≢ pv));
+            (All-nil (λ (w : Write). w.0.pv ≢ pv));
       },
     ))
     looks
@@ -139,6 +142,6 @@ left_free words old new free = λ pv before told takes.
     free takes.names takes.command takes.asks in
     let now : All (IsFree (is_new takes.command) (now_after before.opened before.steps) old.sizes) (taken_by takes.names takes.command) =
     subst (λ (t : Option Record). HoldsNow t
-        (λ image. All (IsFree (is_new takes.command) image old.sizes) (taken_by takes.names takes.command))) told all in
+    (λ image. All (IsFree (is_new takes.command) image old.sizes) (taken_by takes.names takes.command))) told all in
     absurd (takes.used (subst (IsFree (is_new takes.command) (now_after before.opened before.steps) old.sizes) takes.taken.2
-        (now takes.taken.0 pv takes.taken.1)))
+    (now takes.taken.0 pv takes.taken.1)))

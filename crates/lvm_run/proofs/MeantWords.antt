@@ -1,7 +1,7 @@
 -- What words ask for has the values that the tests of single words let through.
-use Rattle.std.proofs.Common.{◌≡◌, ◌≤◌, ◌<◌, ◌∙◌, ◌^◌, ◌%◌, ◌+◌, ◌-◌, ◌&&◌, ◌⊎◌, ℕ, zero, suc, Bool, true, false, if◌then◌else◌, nat_le,
-    List, [], ◌∷◌, length, not, Option, Some, None, Result, Ok, Err, IfSome, is_none, is_some, find, option_map, option_and_then, unwrap_or,
-    refl, ap, sym, subst, inl, inr, arith}
+use Rattle.std.proofs.Common.{◌≡◌, ◌≤◌, ◌<◌, ◌∙◌, ◌^◌, ◌%◌, ◌+◌, ◌-◌, ◌&&◌, ◌⊎◌, ℕ, zero, suc, Bool, true, false, if◌then◌else◌, nat_le}
+use Rattle.std.proofs.Common.{List, [], ◌∷◌, length, not, Option, Some, None, Result, Ok, Err, IfSome, is_none, is_some, find, option_map}
+use Rattle.std.proofs.Common.{option_and_then, unwrap_or, refl, ap, sym, subst, inl, inr, arith}
 use Rattle.std.proofs.lemmas.Bool.{and_parts, cases_Bool, eqb-true, leb-true, true≢false}
 use Rattle.std.proofs.Math.Nat.{two-pow-succ}
 use Rattle.std.specs.Int.{is_power_of_two}
@@ -13,8 +13,8 @@ use Rattle.command_table.specs.declared.amount.Amount.TheVariants.{Extents, Sect
 use Rattle.command_table.specs.declared.amount.Growth.{Growth}
 use Rattle.command_table.specs.declared.amount.Growth.TheVariants.{By, To}
 use Rattle.command_table.specs.declared.command.Command.{Command}
-use Rattle.command_table.specs.declared.command.Command.TheVariants.{Pvck, Pvs, Vgcreate, Vgremove, Vgrename, Vgcfgbackup, Vgcfgrestore,
-    Vgck, Vgs, Lvcreate, Lvextend, Lvreduce, Lvremove, Lvrename, Lvs}
+use Rattle.command_table.specs.declared.command.Command.TheVariants.{Pvck, Pvs, Vgcreate, Vgremove, Vgrename, Vgcfgbackup, Vgcfgrestore}
+use Rattle.command_table.specs.declared.command.Command.TheVariants.{Vgck, Vgs, Lvcreate, Lvextend, Lvreduce, Lvremove, Lvrename, Lvs}
 use Rattle.command_table.specs.declared.command.Path.{Path}
 use Rattle.command_table.specs.declared.command_name.CommandName.{CommandName}
 use Rattle.command_table.specs.declared.command_name.CommandName.TheVariants as name
@@ -28,10 +28,11 @@ use Rattle.command_table.specs.declared.refusal.CommandRefusal.TheVariants.{Faul
 use Rattle.command_table.specs.declared.request.Request.{Request}
 use Rattle.command_table.specs.declared.request.Request.TheVariants.{One, Session}
 use Rattle.command_table.specs.declared.table.OptionRow.{OptionRow}
-use Rattle.command_table.specs.Meaning.{OptionValues, alone, amount_of, amount_with, at_place, demo, demo_of, goes_together, growth_by,
-    growth_of, growth_with, longer, lvcreate, lvextend, lvreduce, lvrename, meaning_of_words, meaning_with, narrow, new_volume, one_path,
-    one_word, path_in, pvcreate, pvmove, request_by_name, request_named, request_read, session, session_on, shorter, size, value_in,
-    vgcreate, vgextend, vgreduce, vgrename, workers_in}
+use Rattle.command_table.specs.Meaning.{OptionValues, alone, amount_of, amount_with, at_place, demo, demo_of, goes_together, growth_by}
+use Rattle.command_table.specs.Meaning.{growth_of, growth_with, longer, lvcreate, lvextend, lvreduce, lvrename, meaning_of_words}
+use Rattle.command_table.specs.Meaning.{meaning_with, narrow, new_volume, one_path, one_word, path_in, pvcreate, pvmove, request_by_name}
+use Rattle.command_table.specs.Meaning.{request_named, request_read, session, session_on, shorter, size, value_in, vgcreate, vgextend}
+use Rattle.command_table.specs.Meaning.{vgreduce, vgrename, workers_in}
 use Rattle.command_table.specs.Options.{Word, is_key}
 use Rattle.command_table.specs.Table.{command_named, is_for_words, options_of}
 use Rattle.command_table.specs.Values.{has_plus, is_between, is_group_name, number_fault, number_of, size_of, unless, without_plus}
@@ -169,14 +170,14 @@ growths_fit : (extents sectors : Option Word) → IfSome extents (λ w. value_pa
 growths_fit None None extents_fit sectors_fit = tt
 growths_fit (Some word) None extents_fit sectors_fit =
     by (number_of (without_plus word)) (count_fits (number_of (without_plus word)) extents_fit) where
-  by : (o : Option ℕ) → IfSome o (λ n. (1 ≤ n) × (n < 2 ^ 64)) → IfSome (option_map (λ n. growth_by word (Extents n)) o) IsGrowth
-  by None fits = tt
-  by (Some n) fits = growth_fits word (Extents n) fits
+      by : (o : Option ℕ) → IfSome o (λ n. (1 ≤ n) × (n < 2 ^ 64)) → IfSome (option_map (λ n. growth_by word (Extents n)) o) IsGrowth
+      by None fits = tt
+      by (Some n) fits = growth_fits word (Extents n) fits
 growths_fit None (Some word) extents_fit sectors_fit =
     by (size_of 2048 (without_plus word)) (length_fits (size_of 2048 (without_plus word)) sectors_fit) where
-  by : (o : Option ℕ) → IfSome o (λ n. (1 ≤ n) × (n < 2 ^ 48)) → IfSome (option_map (λ n. growth_by word (Sectors n)) o) IsGrowth
-  by None fits = tt
-  by (Some n) fits = growth_fits word (Sectors n) fits
+      by : (o : Option ℕ) → IfSome o (λ n. (1 ≤ n) × (n < 2 ^ 48)) → IfSome (option_map (λ n. growth_by word (Sectors n)) o) IsGrowth
+      by None fits = tt
+      by (Some n) fits = growth_fits word (Sectors n) fits
 growths_fit (Some word) (Some other) extents_fit sectors_fit = tt
 
 -- ---- a new volume
@@ -315,9 +316,10 @@ lvcreate_meant given (vg ∷ pvs) fits = go (goes_together given) refl
       named = name_fits (volume_name_refusal lv) named;
       amount = sized;
       stripes = stripes_fit _ (number_fits 1 8 (given key.Stripes) fits.stripes);
-      mirrors =
-          (mirrors_fit _ (number_fits 1 7 (given key.Mirrors) fits.mirrors),
-              mirrors_alone (given key.Mirrors) (given key.Stripes) _ together);
+      mirrors = (
+        mirrors_fit _ (number_fits 1 7 (given key.Mirrors) fits.mirrors),
+        mirrors_alone (given key.Mirrors) (given key.Stripes) _ together,
+      );
       stripe_size = piece_fits (given key.StripeSize) fits.piece;
     }
 
@@ -389,18 +391,18 @@ request_meant name.Pvck split here pass = one_meant _ (mapped IsMeant Pvck (λ p
 request_meant name.Pvs split here pass = one_meant _ (alone_meant Pvs tt split.arguments)
 request_meant name.Vgcreate split here pass =
     let both =
-        and_parts (list_all (given_passes (options_of name.Vgcreate)) split.given) (arguments_pass name.Vgcreate 0 split.arguments) pass in
+    and_parts (list_all (given_passes (options_of name.Vgcreate)) split.given) (arguments_pass name.Vgcreate 0 split.arguments) pass in
     let fits =
-        size_or_usual (value_in split.given key.PhysicalExtentSize)
-            (value_fits (options_of name.Vgcreate) split.given key.PhysicalExtentSize both.0) in
+    size_or_usual (value_in split.given key.PhysicalExtentSize)
+    (value_fits (options_of name.Vgcreate) split.given key.PhysicalExtentSize both.0) in
     one_meant _ (vgcreate_meant (value_in split.given) split.arguments fits both.1)
 request_meant name.Vgextend split here pass = one_meant _ (vgextend_meant split.arguments)
 request_meant name.Vgreduce split here pass = one_meant _ (vgreduce_meant split.arguments)
 request_meant name.Vgremove split here pass = one_meant _ (mapped IsMeant Vgremove (λ vg. tt) (one_word split.arguments))
 request_meant name.Vgrename split here pass =
     one_meant _ (vgrename_meant split.arguments
-        (and_parts (list_all (given_passes (options_of name.Vgrename)) split.given) (arguments_pass name.Vgrename 0 split.arguments)
-        pass).1)
+    (and_parts (list_all (given_passes (options_of name.Vgrename)) split.given) (arguments_pass name.Vgrename 0 split.arguments)
+    pass).1)
 request_meant name.Vgcfgbackup split here pass = one_meant _ (mapped IsMeant Vgcfgbackup (λ vg. tt) (one_word split.arguments))
 request_meant name.Vgcfgrestore split here pass =
     one_meant _ (mapped IsMeant (λ vg. Vgcfgrestore vg []) (λ vg. tt) (one_word split.arguments))
@@ -408,8 +410,8 @@ request_meant name.Vgck split here pass = one_meant _ (alone_meant Vgck tt split
 request_meant name.Vgs split here pass = one_meant _ (alone_meant Vgs tt split.arguments)
 request_meant name.Lvcreate split here pass =
     let all =
-        (and_parts (list_all (given_passes (options_of name.Lvcreate)) split.given) (arguments_pass name.Lvcreate 0 split.arguments)
-            pass).0 in
+    (and_parts (list_all (given_passes (options_of name.Lvcreate)) split.given) (arguments_pass name.Lvcreate 0 split.arguments)
+    pass).0 in
     let extents = extents_fit (value_in split.given key.Extents) (value_fits (options_of name.Lvcreate) split.given key.Extents all) in
     let sectors = sectors_fit (value_in split.given key.Size) (value_fits (options_of name.Lvcreate) split.given key.Size all) in
     one_meant _
@@ -423,24 +425,24 @@ request_meant name.Lvcreate split here pass =
     }))
 request_meant name.Lvextend split here pass =
     let all =
-        (and_parts (list_all (given_passes (options_of name.Lvextend)) split.given) (arguments_pass name.Lvextend 0 split.arguments)
-            pass).0 in
+    (and_parts (list_all (given_passes (options_of name.Lvextend)) split.given) (arguments_pass name.Lvextend 0 split.arguments)
+    pass).0 in
     let extents = value_fits (options_of name.Lvextend) split.given key.Extents all in
     let sectors = value_fits (options_of name.Lvextend) split.given key.Size all in
     one_meant _ (lvextend_meant (value_in split.given) split.arguments
-        (growths_fit (value_in split.given key.Extents) (value_in split.given key.Size) extents sectors))
+    (growths_fit (value_in split.given key.Extents) (value_in split.given key.Size) extents sectors))
 request_meant name.Lvreduce split here pass =
     let all =
-        (and_parts (list_all (given_passes (options_of name.Lvreduce)) split.given) (arguments_pass name.Lvreduce 0 split.arguments)
-            pass).0 in
+    (and_parts (list_all (given_passes (options_of name.Lvreduce)) split.given) (arguments_pass name.Lvreduce 0 split.arguments)
+    pass).0 in
     let extents = extents_fit (value_in split.given key.Extents) (value_fits (options_of name.Lvreduce) split.given key.Extents all) in
     let sectors = sectors_fit (value_in split.given key.Size) (value_fits (options_of name.Lvreduce) split.given key.Size all) in
     one_meant _ (lvreduce_meant (value_in split.given) split.arguments (amount_fits _ _ extents sectors))
 request_meant name.Lvremove split here pass = one_meant _ (mapped IsMeant Lvremove (λ path. tt) (one_path split.arguments))
 request_meant name.Lvrename split here pass =
     one_meant _ (lvrename_meant split.arguments
-        (and_parts (list_all (given_passes (options_of name.Lvrename)) split.given) (arguments_pass name.Lvrename 0 split.arguments)
-        pass).1)
+    (and_parts (list_all (given_passes (options_of name.Lvrename)) split.given) (arguments_pass name.Lvrename 0 split.arguments)
+    pass).1)
 request_meant name.Lvs split here pass = one_meant _ (alone_meant Lvs tt split.arguments)
 request_meant name.Session split here pass = session_meant (value_in split.given) split.arguments
 request_meant name.Demo split here pass = demo_meant split.arguments
@@ -488,7 +490,7 @@ named_meant (Some name) words = go (cases_Bool (is_for_words name))
     go : (is_for_words name ≡ true) ⊎ (is_for_words name ≡ false) → IfSome (result_ok (request_named (Some name) words)) IsMeantRequest
     go (inl e) =
         rw e (at_place_meant (length words + 1) (request_read name (read name (numbered_from 1 words)))
-            (read_meant name (numbered_from 1 words) e))
+        (read_meant name (numbered_from 1 words) e))
     go (inr e) = rw e tt
 
 words_meant : (words : List Word) → IfSome (result_ok (meaning_of_words words)) IsMeantRequest

@@ -1,6 +1,6 @@
 -- The words of a run name 1 to 64 disks, or none.
-use Rattle.std.proofs.Common.{◌≡◌, ◌≤◌, Bool, true, false, if◌then◌else◌, ◌==◌, nat_le, not, List, [], ◌∷◌, length, Option, Some, None,
-    refl, subst, arith}
+use Rattle.std.proofs.Common.{◌≡◌, ◌≤◌, Bool, true, false, if◌then◌else◌, ◌==◌, nat_le, not, List, [], ◌∷◌, length, Option, Some, None}
+use Rattle.std.proofs.Common.{refl, subst, arith}
 use Rattle.std.proofs.lemmas.Bool.{and_parts, leb-true}
 use Rattle.std.specs.Prelude.{option_and_then, option_map}
 use Rattle.command_table.specs.Options.{Word}

@@ -1,6 +1,6 @@
 -- A run keeps the promise, by what it did to the disks.
-use Rattle.std.proofs.Common.{◌≡◌, ◌≤◌, ◌<◌, ℕ, ◌^◌, Bool, true, false, if◌then◌else◌, List, [], ◌∷◌, ◌++◌, length, Option, Some, None,
-    ⊎_elim, refl, sym, ap, subst, ◌∙◌, arith, true≢false}
+use Rattle.std.proofs.Common.{◌≡◌, ◌≤◌, ◌<◌, ℕ, ◌^◌, Bool, true, false, if◌then◌else◌, List, [], ◌∷◌, ◌++◌, length, Option, Some, None}
+use Rattle.std.proofs.Common.{⊎_elim, refl, sym, ap, subst, ◌∙◌, arith, true≢false}
 use Rattle.std.proofs.lemmas.List.{append-nil}
 use Rattle.std.proofs.lemmas.Option.{same_Some}
 use Rattle.std.specs.Prelude.{All, IsTrue, MatchResult, Result, Ok, Err, is_some}
@@ -43,10 +43,10 @@ use Rattle.image_scans.specs.Versions.{FindsVersion, Version}
 use Rattle.repair_scans.proofs.StraysApart.{strays_apart}
 use Rattle.line_history.proofs.Looks.{looks}
 use Rattle.line_history.specs.EachSet.{DoneSetsAgree, MadeMembersAgree}
-use Rattle.line_history.specs.Histories.{ClearsHaveHistories, EndsHaveHistories, HasRunHistory, LinesHaveHistories, LooksAlone, MayAnswer,
-    MayEnd, journal_of_line, took_of as line_took}
-use Rattle.line_history.specs.LineRun.{ClearsLine, Given, IsGiven, RunsLine, Stage, Opened, Repairing, Repaired, Zeroing, Writing, Done,
-    batches_if, is_done, is_repaired, is_zeroed, repair_begun, zeros_begun}
+use Rattle.line_history.specs.Histories.{ClearsHaveHistories, EndsHaveHistories, HasRunHistory, LinesHaveHistories, LooksAlone, MayAnswer}
+use Rattle.line_history.specs.Histories.{MayEnd, journal_of_line, took_of as line_took}
+use Rattle.line_history.specs.LineRun.{ClearsLine, Given, IsGiven, RunsLine, Stage, Opened, Repairing, Repaired, Zeroing, Writing, Done}
+use Rattle.line_history.specs.LineRun.{batches_if, is_done, is_repaired, is_zeroed, repair_begun, zeros_begun}
 use Rattle.lvm_run.specs.Changing.{GoesOn, IsCarriedOut, IsChanged, IsWholeAgain, ending_of, outcome_of, took_of}
 use Rattle.lvm_run.specs.CommandSpec.{Inputs, no_inputs}
 use Rattle.lvm_run.specs.History.{AreInTime, IsEntered, KeepsPromise, Said, begun_from, journal_by, lines_by}
@@ -161,9 +161,11 @@ pub kept_unbegun : (names : List Word) (now : ℕ) (old new : State) → old.ste
 kept_unbegun names now old new later told between = record {
   unbegun = λ none. refl;
   in_time = later;
-  promise = λ handed there base base_is version finds ended at_end.
-      (looks handed old.sizes names now ended ended
-          (looked_alone true old new told between handed there base base_is version finds ended at_end), tt);
+  promise = λ handed there base base_is version finds ended at_end. (
+    looks handed old.sizes names now ended ended
+        (looked_alone true old new told between handed there base base_is version finds ended at_end),
+    tt,
+  );
 }
 
 pub kept_undone : (names : List Word) (now : ℕ) (old : State) → IsTold old → IsEntered names now old [] [] old
@@ -178,14 +180,14 @@ pub kept_unopened : (names : List Word) (now : ℕ) (line : Line) (old new : Sta
     → IsEntered names now old (journal_by begun None new.steps (Ended ending)) (lines_by line (Ended ending)) new
 kept_unopened names now line old new begun ending later told opens =
     kept_unbegun names now old new later told
-        (λ handed there. let o = opens handed there in (o.0, o.1, opening_wrote old.sizes false handed o.0 o.2))
+    (λ handed there. let o = opens handed there in (o.0, o.1, opening_wrote old.sizes false handed o.0 o.2))
 
 -- ---- the disks were taken as this was found
 module _ (lines : LinesHaveHistories) (cleared : ClearsHaveHistories) (ends : EndsHaveHistories) (agree : DoneSetsAgree)
     (members : MadeMembersAgree) (names : List Word) (now : ℕ) (line : Line) (old : State) (found : Found) (mid : State)
     (opened : IsOpened old found mid) (opens : BetweenRecords (λ a b. OpensDisks old.sizes a true b) old.told mid.told)
     (count : length names ≡ length found.disks) (named : All (λ name. is_disk_name name ≡ true) names)
-        (planned : IsPlanned line.id line.command) (time : now < 2 ^ 48) (old_told : IsTold old) where
+    (planned : IsPlanned line.id line.command) (time : now < 2 ^ 48) (old_told : IsTold old) where
   -- what the line is judged against, by what it takes, and what it writes
   abbrev state : Inputs → GroupState
   state inputs = state_in (repaired_of found) names inputs.backup
@@ -225,8 +227,17 @@ module _ (lines : LinesHaveHistories) (cleared : ClearsHaveHistories) (ends : En
     module _ (inputs : Inputs) where
       abbrev given : Given
       given =
-          record { handed = handed; base = base; sizes = old.sizes; found = found; names = names; backup = inputs.backup; line = line;
-              clock = now; given = inputs.given }
+          record {
+            handed = handed;
+            base = base;
+            sizes = old.sizes;
+            found = found;
+            names = names;
+            backup = inputs.backup;
+            line = line;
+            clock = now;
+            given = inputs.given;
+          }
 
       is_given : IsGiven given
       is_given = record {
@@ -278,14 +289,14 @@ module _ (lines : LinesHaveHistories) (cleared : ClearsHaveHistories) (ends : En
       opened_alone : (ended : Record) → ended ≡ look → IsRecord ended.steps → RunsLine given Opened look ended
       opened_alone ended same record_is =
           run_at Opened look ended (none_in_turn look false) (λ begun. cc) (λ repaired. cc) look (λ repaired. cc) (λ e. refl) (λ e. cc)
-              (λ e. same) (λ begun. cc) record_is
+          (λ e. same) (λ begun. cc) record_is
 
       -- the repair failed
       repair_failed : (start ended : Record) → WritesInTurn look (repair_batches found) false start → too_large found ≡ None
           → RepairKeepsImages found → ended ≡ start → IsRecord ended.steps → RunsLine given Repairing start ended
       repair_failed start ended repaired fits keeps same record_is =
           run_at Repairing start ended repaired (λ begun. (fits, keeps)) (λ repaired. cc) start (λ repaired. cc) (λ e. refl) (λ e. cc)
-              (λ e. same) (λ begun. cc) record_is
+          (λ e. same) (λ begun. cc) record_is
 
       -- all was repaired
       module _ (start : Record) (repaired : WritesInTurn look (repair_batches found) true start) (fits : too_large found ≡ None)
@@ -294,23 +305,23 @@ module _ (lines : LinesHaveHistories) (cleared : ClearsHaveHistories) (ends : En
         unwritten : (ended : Record) → IsRecord ended.steps → ended ≡ start → RunsLine given Repaired start ended
         unwritten ended record_is same =
             run_at Repaired start ended repaired (λ begun. (fits, keeps)) (λ e. (shape, whole)) start (λ e. none_in_turn start false)
-                (λ e. cc) (λ e. cc) (λ e. same) (λ begun. cc) record_is
+            (λ e. cc) (λ e. cc) (λ e. same) (λ begun. cc) record_is
 
         module _ (passed : Passed inputs) (ended : Record) (record_is : IsRecord ended.steps) where
           zeros_failed : WritesInTurn start (zeros inputs) false ended → RunsLine given Zeroing start ended
           zeros_failed zeros =
               run_at Zeroing start ended repaired (λ begun. (fits, keeps)) (λ e. (shape, whole)) ended (λ e. zeros) (λ e. cc) (λ e. cc)
-                  (λ e. refl) (λ begun. passed) record_is
+              (λ e. refl) (λ begun. passed) record_is
 
           failed : WritesBehind (zeros inputs) (batches inputs) false start ended → RunsLine given Writing start ended
           failed w =
               run_at Writing start ended repaired (λ begun. (fits, keeps)) (λ e. (shape, whole)) w.zeroed (λ e. w.first) (λ e. cc)
-                  (λ e. w.behind) (λ e. cc) (λ begun. passed) record_is
+              (λ e. w.behind) (λ e. cc) (λ begun. passed) record_is
 
           done : WritesBehind (zeros inputs) (batches inputs) true start ended → RunsLine given Done start ended
           done w =
               run_at Done start ended repaired (λ begun. (fits, keeps)) (λ e. (shape, whole)) w.zeroed (λ e. w.first) (λ e. cc)
-                  (λ e. w.behind) (λ e. cc) (λ begun. passed) record_is
+              (λ e. w.behind) (λ e. cc) (λ begun. passed) record_is
 
   -- ---- by what it came to
   module _ (done_at new : State) (told_done : IsTold done_at) (told_new : IsTold new) where
@@ -323,27 +334,31 @@ module _ (lines : LinesHaveHistories) (cleared : ClearsHaveHistories) (ends : En
         → (HasRepairBegun (Err why) → StraysAreOthers found → RepairKeepsImages found) → new ≡ done_at → Keeps (Ended (ending_of why)) None
     ended_by repair.NoMemory cause told keeps same handed there base base_is version finds ended at_end =
         let t = told (look handed there base base_is) (look_told handed there base base_is) in
-        let is : ended ≡ t.0 = same_told done_at.told ended t.0 (ap (λ (s : State). s.told) (sym same) ∙ at_end) t.1 in
-        (ends (given handed there base base_is no_inputs) Opened (look handed there base base_is) ended
-            (opened_alone handed there base base_is no_inputs ended (is ∙ t.2) (told_new.record_is ended at_end)) tt, tt)
+        let is : ended ≡ t.0 = same_told done_at.told ended t.0 (ap (λ (s : State). s.told) (sym same) ∙ at_end) t.1 in (
+          ends (given handed there base base_is no_inputs) Opened (look handed there base base_is) ended
+              (opened_alone handed there base base_is no_inputs ended (is ∙ t.2) (told_new.record_is ended at_end)) tt,
+          tt,
+        )
     ended_by (repair.TooLarge pv need room) cause told keeps same handed there base base_is version finds ended at_end =
         let t = told (look handed there base base_is) (look_told handed there base base_is) in
-        let is : ended ≡ t.0 = same_told done_at.told ended t.0 (ap (λ (s : State). s.told) (sym same) ∙ at_end) t.1 in
-        (ends (given handed there base base_is no_inputs) Opened (look handed there base base_is) ended
-            (opened_alone handed there base base_is no_inputs ended (is ∙ t.2) (told_new.record_is ended at_end)) tt, tt)
+        let is : ended ≡ t.0 = same_told done_at.told ended t.0 (ap (λ (s : State). s.told) (sym same) ∙ at_end) t.1 in (
+          ends (given handed there base base_is no_inputs) Opened (look handed there base base_is) ended
+              (opened_alone handed there base base_is no_inputs ended (is ∙ t.2) (told_new.record_is ended at_end)) tt,
+          tt,
+        )
     ended_by (repair.Pv pv) cause told keeps same handed there base base_is version finds ended at_end =
         let t = told (look handed there base base_is) (look_told handed there base base_is) in
         let is : ended ≡ t.0 = same_told done_at.told ended t.0 (ap (λ (s : State). s.told) (sym same) ∙ at_end) t.1 in (
           ends (given handed there base base_is no_inputs) Repairing t.0 ended
               (repair_failed handed there base base_is no_inputs t.0 ended t.2 cause.0 (keeps tt (others handed there base base_is)) is
-                  (told_new.record_is ended at_end)) tt,
+              (told_new.record_is ended at_end)) tt,
           tt,
         )
 
     module _ (repaired : IsRepaired found mid done_at (repaired_of found))
         (told : BetweenRecords (λ a b. WritesInTurn a (repair_batches found) true b) mid.told done_at.told)
         (keeps : StraysAreOthers found → RepairKeepsImages found) (shape : HasShape (repaired_of found))
-            (whole : IsWhole (repaired_of found)) (inputs : Inputs) where
+        (whole : IsWhole (repaired_of found)) (inputs : Inputs) where
       module _ (handed : Record) (there : old.told ≡ Some handed) (base : Image) (base_is : IsBase handed base) (ended : Record)
           (at_end : new.told ≡ Some ended) where
         abbrev run : Given
@@ -373,7 +388,7 @@ module _ (lines : LinesHaveHistories) (cleared : ClearsHaveHistories) (ends : En
         answered : (stage : Stage) (said : Answer) → RunsLine run stage start ended → MayAnswer stage said → HasHistory None said
         answered stage said runs may =
             counted handed base old.sizes names now ended ((line, Some said) ∷ []) (length start.steps) (length ended.steps) done_at.steps
-                new.steps None None (told_done.steps start start_told) refl (told_new.steps ended at_end)
+            new.steps None None (told_done.steps start start_told) refl (told_new.steps ended at_end)
             (lines run stage start ended said runs may)
 
         -- nothing of it was written
@@ -381,7 +396,7 @@ module _ (lines : LinesHaveHistories) (cleared : ClearsHaveHistories) (ends : En
         run_unwritten carried =
             let e = carried start start_told in
             unwritten handed there base base_is inputs start written repaired.fits repair_keeps shape whole ended record_is
-                (same_told new.told ended e.0 at_end e.1 ∙ e.2)
+            (same_told new.told ended e.0 at_end e.1 ∙ e.2)
 
         module _ (passed : Passed inputs) where
           -- its zeros or its other batches failed
@@ -392,11 +407,11 @@ module _ (lines : LinesHaveHistories) (cleared : ClearsHaveHistories) (ends : En
               let is : e.0 ≡ ended = same_told new.told e.0 ended e.1 at_end in
               ⊎_elim
               (λ first. answered Zeroing (answer.PvFailed pv)
-                  (zeros_failed handed there base base_is inputs start written repaired.fits repair_keeps shape whole passed ended record_is
-                  first) tt)
+              (zeros_failed handed there base base_is inputs start written repaired.fits repair_keeps shape whole passed ended record_is
+              first) tt)
               (λ behind. answered Writing (answer.PvFailed pv)
-                  (failed handed there base base_is inputs start written repaired.fits repair_keeps shape whole passed ended record_is
-                  behind) tt)
+              (failed handed there base base_is inputs start written repaired.fits repair_keeps shape whole passed ended record_is
+              behind) tt)
               (subst (λ (u : Record). WritesBoth (zeros inputs) (batches inputs) false start u) is e.2)
 
           -- these were written until the shelf was in a state, and disks cleared behind them
@@ -420,7 +435,7 @@ module _ (lines : LinesHaveHistories) (cleared : ClearsHaveHistories) (ends : En
               made = made;
               line =
                   done handed there base base_is inputs start written repaired.fits repair_keeps shape whole passed made
-                      (made_told.record_is made made_is) (c.first start start_told).2;
+                  (made_told.record_is made made_is) (c.first start start_told).2;
               clears = cleared_behind;
               record_is = record_is;
             }
@@ -435,9 +450,9 @@ module _ (lines : LinesHaveHistories) (cleared : ClearsHaveHistories) (ends : En
                 → took ≡ line_took (commits inputs) well c.made.steps new.steps → HasHistory took said
             answered_cleared said took may is =
                 counted handed base old.sizes names now ended ((line, Some said) ∷ []) (length start.steps) (length ended.steps)
-                    done_at.steps new.steps
+                done_at.steps new.steps
                 (line_took (commits inputs) well (length made.steps) (length ended.steps)) took (told_done.steps start start_told)
-                    (is ∙ took_there) (told_new.steps ended at_end)
+                (is ∙ took_there) (told_new.steps ended at_end)
                 (cleared run well start ended said run_cleared may)
 
       line_by : (result : Result ℕ ChangeFault)
@@ -454,19 +469,23 @@ module _ (lines : LinesHaveHistories) (cleared : ClearsHaveHistories) (ends : En
             agree (run handed there base base_is ended at_end) (start handed there base base_is ended at_end) ended
                 (run_cleared handed there base base_is ended at_end passed true carried.0),
           )
-      line_by (Err fault.NoMemory) takes cause images carried handed there base base_is version finds ended at_end =
-          (ends (run handed there base base_is ended at_end) Repaired (start handed there base base_is ended at_end) ended
-              (run_unwritten handed there base base_is ended at_end carried) tt, tt)
-      line_by (Err (fault.Refused refusal)) takes cause images carried handed there base base_is version finds ended at_end =
-          (answered handed there base base_is ended at_end Repaired (answer.Refused refusal)
-              (run_unwritten handed there base base_is ended at_end carried) tt, tt)
+      line_by (Err fault.NoMemory) takes cause images carried handed there base base_is version finds ended at_end = (
+        ends (run handed there base base_is ended at_end) Repaired (start handed there base base_is ended at_end) ended
+            (run_unwritten handed there base base_is ended at_end carried) tt,
+        tt,
+      )
+      line_by (Err (fault.Refused refusal)) takes cause images carried handed there base base_is version finds ended at_end = (
+        answered handed there base base_is ended at_end Repaired (answer.Refused refusal)
+            (run_unwritten handed there base base_is ended at_end carried) tt,
+        tt,
+      )
       line_by (Err (fault.Failed pv)) takes cause images carried handed there base base_is version finds ended at_end =
           let passed : Passed inputs = record { takes = (takes tt).0; back = (takes tt).1; passes = cause.0; keeps = images tt } in (
             ⊎_elim
                 (λ both. run_failed handed there base base_is ended at_end passed pv both)
                 (λ uncleared.
                 answered_cleared handed there base base_is ended at_end passed false uncleared.1 (answer.PvFailed pv) None tt
-                    (took_never (commits inputs) uncleared.1.made.steps new.steps uncleared.0))
+                (took_never (commits inputs) uncleared.1.made.steps new.steps uncleared.0))
                 carried,
             λ took. absurd (true≢false (sym took)),
           )
@@ -485,17 +504,17 @@ module _ (lines : LinesHaveHistories) (cleared : ClearsHaveHistories) (ends : En
         → GoesOn names line now result done_at outcome took new → Keeps outcome took
     by_result (Err why) whole cause told keeps outcome took goes =
         subst (λ (o : Outcome). Keeps o took) (sym goes.0)
-            (subst (λ (t : Option ℕ). Keeps (Ended (ending_of why)) t) (sym goes.1) (ended_by why cause told keeps goes.2))
+        (subst (λ (t : Option ℕ). Keeps (Ended (ending_of why)) t) (sym goes.1) (ended_by why cause told keeps goes.2))
     by_result (Ok r) whole cause told keeps outcome took goes =
         let same : r ≡ repaired_of found = cause.now in
         let carried : IsCarriedOut (repaired_of found) names line now done_at outcome took new =
-            subst (λ (f : Found). IsCarriedOut f names line now done_at outcome took new) same goes in
+        subst (λ (f : Found). IsCarriedOut f names line now done_at outcome took new) same goes in
         let w = carried.carried in
         let inputs : Inputs = record { given = w.given; backup = carried.backup } in
         subst (λ (o : Outcome). Keeps o took) (sym carried.is)
         (subst (λ (t : Option ℕ). Keeps (outcome_of carried.result) t) (sym carried.took_is)
         (line_by (subst (IsRepaired found mid done_at) same cause) told (keeps tt) (subst HasShape same whole.0)
-            (subst IsWhole same whole.1) inputs carried.result
+        (subst IsWhole same whole.1) inputs carried.result
         (λ judged. (w.takes judged, carried.given_back judged)) w.cause w.images w.told))
 
   pub kept_changed : old.steps ≤ mid.steps → (new : State) (outcome : Outcome) (begun : ℕ) (took : Option ℕ) → IsTold new
@@ -508,13 +527,13 @@ module _ (lines : LinesHaveHistories) (cleared : ClearsHaveHistories) (ends : En
         unbegun = run_unbegun line outcome old.steps begun took new.steps;
         in_time =
             subst (λ (n : ℕ). AreInTime (begun_from (lines_by line outcome) old.steps new.steps) (journal_by n took new.steps outcome)
-                new.steps) (sym c.begun_is)
+            new.steps) (sym c.begun_is)
             (run_in_time line outcome old.steps c.mid.steps took new.steps
-                (omega (arith, later, lies_whole c.mid.steps took new.steps between))
+            (omega (arith, later, lies_whole c.mid.steps took new.steps between))
             (subst (λ (alone : Bool). (if alone then new.steps else old.steps) ≤ c.mid.steps)
-                (sym (planned_writes line.id line.command planned)) later) between);
+            (sym (planned_writes line.id line.command planned)) later) between);
         promise =
             subst (λ (n : ℕ). KeepsPromise names now old (journal_by n took new.steps outcome) (lines_by line outcome) new) (sym c.begun_is)
             (by_result c.mid new (record { record_is = c.follows; steps = c.steps }) told_new c.result c.whole c.cause c.told c.images
-                outcome took c.goes);
+            outcome took c.goes);
       }

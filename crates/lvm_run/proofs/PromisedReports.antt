@@ -1,13 +1,14 @@
 -- A command that changes nothing keeps the promise.
-use Rattle.std.proofs.Common.{◌≡◌, ◌≤◌, ℕ, Bool, true, false, if◌then◌else◌, List, [], ◌∷◌, length, Option, Some, None, refl, sym, ap,
-    subst, ◌∙◌, arith}
+use Rattle.std.proofs.Common.{◌≡◌, ◌≤◌, ℕ, Bool, true, false, if◌then◌else◌, List, [], ◌∷◌, length, Option, Some, None, refl, sym, ap}
+use Rattle.std.proofs.Common.{subst, ◌∙◌, arith}
 use Rattle.std.proofs.lemmas.Bool.{true≢false}
 use Rattle.std.specs.Bool.{MatchBool}
 use Rattle.command_table.specs.Commands.{changes}
 use Rattle.command_table.specs.Options.{Word}
 use Rattle.command_table.specs.declared.command.Command.{Command}
-use Rattle.command_table.specs.declared.command.Command.TheVariants.{Lvcreate, Lvextend, Lvreduce, Lvremove, Lvrename, Lvs, Pvcreate, Pvck,
-    Pvs, Vgcfgbackup, Vgcfgrestore, Vgck, Vgcreate, Vgextend, Vgreduce, Vgremove, Vgrename, Vgs}
+use Rattle.command_table.specs.declared.command.Command.TheVariants.{Lvcreate, Lvextend, Lvreduce, Lvremove, Lvrename, Lvs, Pvcreate, Pvck}
+use Rattle.command_table.specs.declared.command.Command.TheVariants.{Pvs, Vgcfgbackup, Vgcfgrestore, Vgck, Vgcreate, Vgextend, Vgreduce}
+use Rattle.command_table.specs.declared.command.Command.TheVariants.{Vgremove, Vgrename, Vgs}
 use Rattle.line_answers.specs.declared.answer.Answer.{Answer}
 use Rattle.line_answers.specs.declared.answer.Answer.TheVariants as answer
 use Rattle.line_answers.specs.declared.op_refusal.OpRefusal.{OpRefusal}
@@ -81,7 +82,7 @@ module _ (names : List Word) (now : ℕ) (line : Line) (old new : State) (later 
       → ReadsDisks (spec_of line.command) context a b
   reads_of outcome a b does =
       subst (λ (f : Bool). MatchBool f (ChangesDisks (spec_of line.command) context given outcome a b)
-          (ReadsDisks (spec_of line.command) context a b)) report.unflushed does
+      (ReadsDisks (spec_of line.command) context a b)) report.unflushed does
 
   wrote : (outcome : Outcome) → BetweenRecords (DoesToDisks (spec_of line.command) context given outcome) old.told new.told
       → BetweenRecords WroteNothing old.told new.told
@@ -101,7 +102,7 @@ module _ (names : List Word) (now : ℕ) (line : Line) (old new : State) (later 
   abbrev Keeps : Outcome → Type 0
   Keeps outcome =
       KeepsPromise names now old (journal_by begun (if is_report outcome then Some new.steps else None) new.steps outcome)
-          (lines_by line outcome) new
+      (lines_by line outcome) new
 
   said_so : (said : Answer) → IsFineOrBad said → may_say line.command said ≡ true
       → ((ended : Record) → NoneOlder (journal_of_line begun (took_if said new.steps) new.steps) ((line, Some said) ∷ []) old.sizes ended)
@@ -112,10 +113,10 @@ module _ (names : List Word) (now : ℕ) (line : Line) (old new : State) (later 
         counted handed base old.sizes names now ended ((line, Some said) ∷ []) (length (begun_at behind handed ended).steps)
             (length ended.steps) begun new.steps (took_if said (length ended.steps)) (took_if said new.steps)
             (begun_told behind handed ended there at_end) (ap (λ (n : ℕ). took_if said n) (told_new.steps ended at_end))
-                (told_new.steps ended at_end)
+            (told_new.steps ended at_end)
             (reports handed old.sizes names now (begun_at behind handed ended) ended
-                (looked_alone behind old new told_new told handed there base base_is version finds ended at_end) line report.quiet
-                report.uncommitted said may says),
+            (looked_alone behind old new told_new told handed there base base_is version finds ended at_end) line report.quiet
+            report.uncommitted said may says),
         older ended,
       )
 
@@ -135,7 +136,7 @@ module _ (names : List Word) (now : ℕ) (line : Line) (old new : State) (later 
   promised (Answered n _) cause told = absurd cause
   promised (Reported text whole) cause told =
       said_so answer.Fine tt report.says_fine (λ ended commit. absurd (true≢false (sym commit ∙ report.uncommitted)))
-          (wrote (Reported text whole) told)
+      (wrote (Reported text whole) told)
 
   pub kept_report : (outcome : Outcome) → IsCause (spec_of line.command) context given old new outcome
       → BetweenRecords (DoesToDisks (spec_of line.command) context given outcome) old.told new.told

@@ -44,7 +44,7 @@ scan_reads spec context old new alone may told outcome before e =
           (record { since = r.2.since; steps = r.2.steps; reads = r.2.reads; spans_are = refl })
           (may (now_after before.opened before.steps) (spans_read r.2.since ++ [])
           (subst (λ (l : List Span). AreFewReads (now_after before.opened before.steps) old.sizes l)
-              (sym (append-nil (spans_read r.2.since))) r.2.few)),
+          (sym (append-nil (spans_read r.2.since))) r.2.few)),
     )
 
 reads_alone : (report : ScanReport) → changes (command_of report) ≡ false
@@ -113,7 +113,7 @@ module _ (report : ScanReport) (names : List Word) (id : Option (List ℕ)) (tim
   ending_meets why unread (ScanRefused (Disks refusal) whole) is ends =
       let r = refused_is old new why unread ends.1 is in
       subst (λ (w : ScanRefusal). Meets (scan_report report) context old (Ended (ScanRefused (Disks w) whole)) new) (sym ends.0)
-          (refused_meets why unread whole r.0 r.1 ends.2)
+      (refused_meets why unread whole r.0 r.1 ends.2)
   ending_meets why unread _ is ends = absurd ends
 
 -- nothing was read yet

@@ -63,7 +63,7 @@ all_named image unread pv (disk ∷ disks) [] are = absurd are
 all_named image unread pv (disk ∷ disks) (reading ∷ readings) are =
     All-append (IsNamed image) (filter_map (held_area pv) (areas_on disk.contents)) (held_areas (pv + 1) disks)
     (all_kept (IsNamed image) (IsAreaFound (image pv)) (held_area pv) (found_named image pv) (areas_on disk.contents)
-        (areas_found (image pv) disk.sectors disk.contents are.1.contents))
+    (areas_found (image pv) disk.sectors disk.contents are.1.contents))
     (all_named image unread (pv + 1) disks readings are.2)
 
 -- in the image that was scanned the header of each area names what was found

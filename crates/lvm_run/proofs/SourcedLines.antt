@@ -52,5 +52,8 @@ pub runs_sourced : (names : List Word) (line sourced : Line) (now : ℕ) (from t
     → Meets (spec_of sourced.command) (context_with names sourced.id now old) old outcome new
     → RunsLine names line now s.0 from to old outcome new
 runs_sourced names line sourced now from to old outcome new built s meets =
-    rw built (inl (record { source = s.1; meets = subst
-        (λ (l : Line). Meets (spec_of l.command) (context_with names l.id now old) old outcome new) s.2 meets }))
+    rw built (inl (record {
+      source = s.1;
+      meets = subst
+          (λ (l : Line). Meets (spec_of l.command) (context_with names l.id now old) old outcome new) s.2 meets;
+    }))

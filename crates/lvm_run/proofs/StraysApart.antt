@@ -1,6 +1,6 @@
 -- No stale area of a scan is on a stray: the one is of a physical volume that the group lists, the other isn't.
-use Rattle.std.proofs.Common.{◌≡◌, ◌<◌, ◌⊎◌, ℕ, zero, suc, Bool, true, false, ◌||◌, eqb, List, [], ◌∷◌, length, get_or, inl, inr, refl, sym,
-    ap, subst, ◌∙◌, arith}
+use Rattle.std.proofs.Common.{◌≡◌, ◌<◌, ◌⊎◌, ℕ, zero, suc, Bool, true, false, ◌||◌, eqb, List, [], ◌∷◌, length, get_or, inl, inr, refl, sym}
+use Rattle.std.proofs.Common.{ap, subst, ◌∙◌, arith}
 use Rattle.std.specs.FinSet as set
 use Rattle.std.specs.Ordering.{nat_cmp}
 use Rattle.std.specs.Cmp.{nat_cmp_total, unsigned_tied}
@@ -10,8 +10,8 @@ use Rattle.std.proofs.lemmas.List.Elements.{All-head, All-nil, All-tail}
 use Rattle.std.proofs.lemmas.Option.{same_Some}
 use Rattle.disk_model.specs.Steps.{Image}
 use Rattle.meta_model.specs.declared.group.Group.{Group}
-use Rattle.scan_rules.specs.Decision.{DuplicatePv, NoCopy, Unsupported, TwoGroups, Conflict, PvShape, Found as PvOf, FoundGroup, NoGroup,
-    Reading, ScanAnswer, decide_scan, lists}
+use Rattle.scan_rules.specs.Decision.{DuplicatePv, NoCopy, Unsupported, TwoGroups, Conflict, PvShape, Found as PvOf, FoundGroup, NoGroup}
+use Rattle.scan_rules.specs.Decision.{Reading, ScanAnswer, decide_scan, lists}
 use Rattle.scan_rules.specs.Laws.{IsStale, IsStray}
 use Rattle.scan_rules.proofs.Repairs.{stale_exact, strays_exact}
 use Rattle.vg_found.specs.declared.found.Found.{Found}
@@ -30,7 +30,7 @@ in_list P [] all q there = absurd (false≢true (sym (set.contains-empty nat_cmp
 in_list P (x ∷ l) all q there =
     let cases : (eqb q x || set.contains (set.from_list {R = nat_cmp} l) q) ≡ true =
     ap (λ (t : Bool). t || set.contains (set.from_list {R = nat_cmp} l) q) (sym (unsigned_tied q x))
-        ∙ sym (set.contains-insert nat_cmp_total (set.from_list l) x q) ∙ there
+    ∙ sym (set.contains-insert nat_cmp_total (set.from_list l) x q) ∙ there
     in
     here_or_later (or_cases (eqb q x) (set.contains (set.from_list {R = nat_cmp} l) q) cases) (in_list P l (All-tail P x l all) q)
   where
@@ -51,7 +51,7 @@ module _ (disks : List Reading) (found : Found) where
   by_answer (FoundGroup held stale strays missing) is by =
       let all_strays : All (IsStray held.group disks) strays =
       λ k d within. (strays_exact disks held stale strays missing is (get_or strays k d)).0
-          (k, within, at_any strays k (get_or strays k d) d within)
+      (k, within, at_any strays k (get_or strays k d) d within)
       in
       subst (λ (l : List (ℕ × ℕ)). All (λ (area : ℕ × ℕ). set.contains found.strays area.0 ≡ false) l) (sym by.3)
       (λ k d within.
@@ -59,9 +59,9 @@ module _ (disks : List Reading) (found : Found) where
       false_from_ne_true (set.contains found.strays area.0)
       (λ there.
       never_both disks held.group held.text area.0 area.1
-          ((stale_exact disks held stale strays missing is area.0 area.1).0 (k, within, at_any stale k area d within))
+      ((stale_exact disks held stale strays missing is area.0 area.1).0 (k, within, at_any stale k area d within))
       (in_list (IsStray held.group disks) strays all_strays area.0
-          (subst (λ (s : set.FinSet nat_cmp). set.contains s area.0 ≡ true) by.4 there))))
+      (subst (λ (s : set.FinSet nat_cmp). set.contains s area.0 ≡ true) by.4 there))))
   by_answer NoGroup is by =
       subst (λ (l : List (ℕ × ℕ)). All (λ (area : ℕ × ℕ). set.contains found.strays area.0 ≡ false) l) (sym by.3) (All-nil _)
   by_answer (DuplicatePv a b) is by = absurd by

@@ -2,8 +2,9 @@
 use Rattle.std.proofs.Common.{◌≡◌, ℕ, List, [], Option, refl, inl, inr}
 use Rattle.command_table.specs.Options.{Word}
 use Rattle.command_table.specs.declared.command.Command.{Command}
-use Rattle.command_table.specs.declared.command.Command.TheVariants.{Lvcreate, Lvextend, Lvreduce, Lvremove, Lvrename, Lvs, Pvcreate, Pvck,
-    Pvs, Vgcfgbackup, Vgcfgrestore, Vgck, Vgcreate, Vgextend, Vgreduce, Vgremove, Vgrename, Vgs}
+use Rattle.command_table.specs.declared.command.Command.TheVariants.{Lvcreate, Lvextend, Lvreduce, Lvremove, Lvrename, Lvs, Pvcreate, Pvck}
+use Rattle.command_table.specs.declared.command.Command.TheVariants.{Pvs, Vgcfgbackup, Vgcfgrestore, Vgck, Vgcreate, Vgextend, Vgreduce}
+use Rattle.command_table.specs.declared.command.Command.TheVariants.{Vgremove, Vgrename, Vgs}
 use Rattle.command_table.specs.declared.request.Request.{Request}
 use Rattle.command_table.specs.declared.request.Request.TheVariants.{One}
 use Rattle.lvm_words.proofs.LineNames.{names_of_line}
@@ -28,7 +29,7 @@ change_undone : (names : List Word) (command : Command) (id : Option (List ℕ))
     → Meets (changing command) (record { names = names; sizes = state.sizes; id = id; now = now }) state (Ended NoMemory) state
 change_undone names command id now state idle =
     meets_unopened names command id now state state NoMemory (again_nothing state idle) tt
-        (λ told is. (told, is, unopened state.sizes told))
+    (λ told is. (told, is, unopened state.sizes told))
 
 -- where the source is to be read, that is why it gave no text
 pub undone : (names : List Word) (request : Request) (ids : ℕ → List ℕ) (now : ℕ) (text : List ℕ) (from : SourceState) (state : State)

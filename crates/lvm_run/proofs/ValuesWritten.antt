@@ -1,6 +1,6 @@
 -- The values of a list's items, behind a kind, are written one item after another.
-use Rattle.std.proofs.Common.{◌≡◌, ◌<◌, ℕ, ◌+◌, true, false, List, [], ◌∷◌, ◌++◌, take, drop, length, get_or, Option, ap, sym, subst, ◌∙◌,
-    append_assoc, append-nil}
+use Rattle.std.proofs.Common.{◌≡◌, ◌<◌, ℕ, ◌+◌, true, false, List, [], ◌∷◌, ◌++◌, take, drop, length, get_or, Option, ap, sym, subst, ◌∙◌}
+use Rattle.std.proofs.Common.{append_assoc, append-nil}
 use Rattle.std.proofs.lemmas.Grind.{flat_map-append}
 use Rattle.std.proofs.lemmas.List.{take-append-drop, take_more}
 use Rattle.std.specs.Prelude.{codes}
@@ -41,7 +41,7 @@ module _ {A : Type 0} (kind : List ℕ) (values_of : A → List Value) where
   written_to b0 b1 b2 f0 f1 f2 items i item within is before part =
       let here = subst (λ (r : A). WritesText b1 f1 (shown_text ([], values_of r)) true b2 f2) is part in
       subst (λ (t : List ℕ). WritesText b0 f0 t true b2 f2) (sym (one_more items i item within))
-          (written_both b0 b1 b2 f0 f1 f2 _ _ true before here)
+      (written_both b0 b1 b2 f0 f1 f2 _ _ true before here)
 
   -- so many were written, and then one in part
   pub stopped_at : (b0 b1 b2 : Option (List ℕ)) (f0 f1 f2 : ℕ) (items : List A) (i : ℕ) (item : A) → i < length items

@@ -109,11 +109,11 @@ changing command = record {
   clears = λ context found given. clears_by context command found given;
   keeps =
       λ context found given base image. (f : Found) × (found ≡ Some f)
-          × AreasAreKept (state_by context f given.backup) (line_in context command) context.now given.given base image;
+      × AreasAreKept (state_by context f given.backup) (line_in context command) context.now given.given base image;
   reads = λ context image spans. AreFewReads image context.sizes spans;
   finds =
       λ context found given image. (f : Found) × (found ≡ Some f)
-          × IsFoundAfter (state_by context f given.backup) (line_in context command) context.now given.given image;
+      × IsFoundAfter (state_by context f given.backup) (line_in context command) context.now given.given image;
   clearing = λ context found given base image. (f : Found) × (found ≡ Some f)
       × ClearsKeep (change_by context command f given).cleared (state_by context f given.backup).disks
       (state_by context f given.backup).areas base image;

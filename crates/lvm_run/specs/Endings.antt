@@ -8,8 +8,8 @@ use Rattle.scan_rules.specs.declared.copy_refusal.CopyRefusal.{CopyRefusal}
 use Rattle.scan_rules.specs.declared.decision.ScanRefusal.{ScanRefusal as RefusalOfScan}
 use Rattle.scan_rules.specs.declared.decision.ScanRefusal.TheVariants as scan
 use Rattle.lvm_run.specs.declared.ending.Ending.{Ending}
-use Rattle.lvm_run.specs.declared.ending.Ending.TheVariants.{WordsRefused, NoMemory, SourceFailed, ScriptTooLong, OpenFailed,
-    ScanReadFailed, ScanRefused, RepairFailed, RepairRefused}
+use Rattle.lvm_run.specs.declared.ending.Ending.TheVariants.{WordsRefused, NoMemory, SourceFailed, ScriptTooLong, OpenFailed}
+use Rattle.lvm_run.specs.declared.ending.Ending.TheVariants.{ScanReadFailed, ScanRefused, RepairFailed, RepairRefused}
 use Rattle.lvm_run.specs.declared.disks_refusal.DisksRefusal.{DisksRefusal}
 use Rattle.lvm_run.specs.declared.disks_refusal.DisksRefusal.TheVariants.{Disks, Partial}
 

@@ -1,6 +1,6 @@
 -- The journal and the answers of a run, and the promise to the administrator.
-use Rattle.std.specs.Prelude.{◌≡◌, ◌≤◌, ℕ, ◌+◌, Bool, true, false, if◌then◌else◌, List, [], ◌∷◌, map, Option, Some, None, vec_capacity,
-    vec_len}
+use Rattle.std.specs.Prelude.{◌≡◌, ◌≤◌, ℕ, ◌+◌, Bool, true, false, if◌then◌else◌, List, [], ◌∷◌, map, Option, Some, None, vec_capacity}
+use Rattle.std.specs.Prelude.{vec_len}
 use Rattle.std.specs.List.{list_any}
 use Rattle.std.specs.Option.{option_map_or}
 use Rattle.command_table.specs.Options.{Word}
@@ -94,7 +94,7 @@ NoneOlder journal _ sizes ended = Unit {0}
 abbrev pub KeepsPromise : List Word → ℕ → State → List JournalEntry → List Said → State → Type 0
 KeepsPromise names now old journal lines new =
     (handed : Record) → old.told ≡ Some handed → (base : Image) → IsBase handed base → (version : Option Version)
-        → FindsVersion old.sizes base none_out version
+    → FindsVersion old.sizes base none_out version
     → (ended : Record) → new.told ≡ Some ended
     → HasRunHistory handed base old.sizes names now ended journal lines × NoneOlder journal lines old.sizes ended
 
@@ -119,10 +119,10 @@ begun_from [] from to = from
 
 -- what a run has entered of its lines, nothing, where none was begun, is in time, told or not, and it keeps the promise
 pub record IsEntered (names : List Word) (now : ℕ) (old : State) (journal : List JournalEntry) (lines : List Said) (new : State) : Type 0
-    where
-  pub unbegun : lines ≡ [] → journal ≡ []
-  pub in_time : AreInTime (begun_from lines old.steps new.steps) journal new.steps
-  pub promise : KeepsPromise names now old journal lines new
+  where
+    pub unbegun : lines ≡ [] → journal ≡ []
+    pub in_time : AreInTime (begun_from lines old.steps new.steps) journal new.steps
+    pub promise : KeepsPromise names now old journal lines new
 
 -- of each of these lines, its number and its answer
 abbrev pub answers_of : List Said → List (ℕ × Option Answer)

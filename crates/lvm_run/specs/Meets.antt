@@ -17,8 +17,8 @@ use Rattle.disk_model.specs.Steps.{Image, Reading, Flushing, Record, now_after}
 use Rattle.disk_batch.specs.InTurn.{Put, WritesInTurn}
 use Rattle.vg_found.specs.declared.found.Found.{Found}
 use Rattle.vg_scan.specs.Scans.{FailedOn, HoldsNow}
-use Rattle.lvm_run.specs.declared.ending.Ending.TheVariants.{WordsRefused, NoMemory, SourceFailed, ScriptTooLong, OpenFailed,
-    ScanReadFailed, ScanRefused, RepairFailed, RepairRefused}
+use Rattle.lvm_run.specs.declared.ending.Ending.TheVariants.{WordsRefused, NoMemory, SourceFailed, ScriptTooLong, OpenFailed}
+use Rattle.lvm_run.specs.declared.ending.Ending.TheVariants.{ScanReadFailed, ScanRefused, RepairFailed, RepairRefused}
 use Rattle.lvm_run.specs.declared.outcome.Outcome.{Outcome}
 use Rattle.lvm_run.specs.declared.outcome.Outcome.TheVariants.{Ended, Answered, Reported}
 use Rattle.lvm_run.specs.CommandSpec.{CommandSpec, Context, Inputs, Looks, AtNothing, AtDisks, Scanned, Finds, Refuses, Lacks, no_inputs}
@@ -39,7 +39,7 @@ pub record IsTaken (spec : CommandSpec) (context : Context) (old : State) (found
 abbrev pub IsJudged : CommandSpec → Context → Inputs → State → Option OpRefusal → Type 0
 IsJudged spec context given old refusal =
     (found : Option Found) × IsTaken spec context old found None × spec.takes context found given
-        × (spec.refusal context found given ≡ refusal)
+    × (spec.refusal context found given ≡ refusal)
 
 -- no refusal comes before a read, where the command reads for itself
 abbrev pub IsJudgedFirst : CommandSpec → Context → Type 0

@@ -73,4 +73,4 @@ IsOfLineOne _ = Unit {0}
 abbrev pub Ends : List Word → Outcome → ℕ → Option (List ℕ) → ℕ → Option (List ℕ) → ℕ → Type 0
 Ends names outcome status before faults_before after faults_after =
     (printed : Bool) × (status ≡ status_printed outcome printed)
-        × WritesText before faults_before (output_of names outcome) printed after faults_after
+    × WritesText before faults_before (output_of names outcome) printed after faults_after

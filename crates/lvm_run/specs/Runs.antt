@@ -56,7 +56,7 @@ pub record MeetsSourced (names : List Word) (line : Line) (now : ℕ) (text : Li
 abbrev pub RunsLine : List Word → Line → ℕ → List ℕ → SourceState → SourceState → State → Outcome → State → Type 0
 RunsLine names line now text from to old outcome new =
     MatchBool (is_built line.command) (MeetsSourced names line now text from to old outcome new
-        ⊎ EndsUnread line.command from to old outcome new) (IsRefusedUnread from to old outcome new)
+    ⊎ EndsUnread line.command from to old outcome new) (IsRefusedUnread from to old outcome new)
 
 -- what is asked for was done or refused; sessions and the demo are refused until they are built
 abbrev pub RunsRequest : List Word → Request → (ℕ → List ℕ) → ℕ → List ℕ → SourceState → SourceState → State → Outcome → State → Type 0

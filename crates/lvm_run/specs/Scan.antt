@@ -80,7 +80,7 @@ IsOpenCause old new (ScanReadFailed pv) =
     (unread : set.FinSet nat_cmp) × FailedOn unread old new × HoldsNow old.told (λ image. FindsWhole image old.sizes unread (Lacks pv))
 IsOpenCause old new (ScanRefused refusal whole) =
     (unread : set.FinSet nat_cmp) × IsUnreadBy whole unread old new
-        × HoldsNow old.told (λ image. FindsWhole image old.sizes unread (Refuses refusal))
+    × HoldsNow old.told (λ image. FindsWhole image old.sizes unread (Refuses refusal))
 IsOpenCause old new _ = ⊥
 
 -- what becomes of what a scan found: it is taken where it is whole, and else refused

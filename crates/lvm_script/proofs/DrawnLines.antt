@@ -1,6 +1,6 @@
 -- One line more of some commands.
-use Rattle.std.proofs.Common.{◌≡◌, ◌<◌, ◌≤◌, ◌∙◌, ◌+◌, ℕ, List, [], ◌∷◌, ◌++◌, get_or, length, map, take, drop, set, refl, ap, sym, subst,
-    arith, add-one}
+use Rattle.std.proofs.Common.{◌≡◌, ◌<◌, ◌≤◌, ◌∙◌, ◌+◌, ℕ, List, [], ◌∷◌, ◌++◌, get_or, length, map, take, drop, set, refl, ap, sym, subst}
+use Rattle.std.proofs.Common.{arith, add-one}
 use Rattle.std.proofs.Math.Seq.{take-suc}
 use Rattle.std.proofs.lemmas.List.{drop_more, drop-set-lt, length-drop, map-append, take_all, take_more_set}
 use Rattle.command_table.specs.declared.command.Command.{Command}
@@ -13,9 +13,10 @@ pub and_one : (before : ℕ → List ℕ) (commands : List (ℕ × Command)) (li
     (command : Command) (line : Line)
     → AreLines before commands lines between → line ≡ line_of number command between → TakesId (draws command) between after
     → AreLines before (commands ++ (number, command) ∷ []) (lines ++ line ∷ []) after
-and_one before [] [] between after number command line are is takes =
-    (subst (λ words. line ≡ line_of number command words) are is,
-        (after, subst (λ words. TakesId (draws command) words after) are takes, refl))
+and_one before [] [] between after number command line are is takes = (
+  subst (λ words. line ≡ line_of number command words) are is,
+  (after, subst (λ words. TakesId (draws command) words after) are takes, refl),
+)
 and_one before [] (next ∷ lines) between after number command line are is takes = elim are [ ]
 and_one before (first ∷ commands) [] between after number command line are is takes = elim are [ ]
 and_one before (first ∷ commands) (next ∷ lines) between after number command line are is takes =
@@ -46,14 +47,14 @@ pub next_drawn : (before : ℕ → List ℕ) (lines old : List Line) (i : ℕ) (
 next_drawn before lines old i first line between after drawn rest within is takes =
     let here = from_here lines old i first rest within in
     let all =
-        and_one before (map numbered (take i old)) (take i lines) between after (get_or lines i first).number (get_or lines i first).command
-            line drawn is takes in
+    and_one before (map numbered (take i old)) (take i lines) between after (get_or lines i first).number (get_or lines i first).command
+    line drawn is takes in
     let front : map numbered (take (i + 1) old) ≡ map numbered (take i old) ++ numbered (get_or lines i first) ∷ [] =
     ap (λ n. map numbered (take n old)) (add-one i) ∙ ap (map numbered) (take-suc old i first here.2)
     ∙ map-append numbered (take i old) (get_or old i first ∷ []) ∙ ap (λ l. map numbered (take i old) ++ numbered l ∷ []) (sym here.0) in (
       subst (λ commands. AreLines before commands (take (i + 1) (set lines i line)) after) (sym front)
           (subst (λ ls. AreLines before (map numbered (take i old) ++ numbered (get_or lines i first) ∷ []) ls after)
-              (sym (take_more_set lines i line within)) all),
+          (sym (take_more_set lines i line within)) all),
       drop-set-lt (i + 1) lines i line (omega arith) ∙ here.1,
     )
 

@@ -1,6 +1,6 @@
 -- The words of a line, up to a place in it.
-use Rattle.std.proofs.Common.{◌≡◌, ◌∙◌, ◌<◌, ◌≤◌, ◌+◌, ◌-◌, ◌==◌, ℕ, true, false, Bool, nat_lt, List, [], ◌∷◌, ◌++◌, length, take, drop,
-    refl, ap, sym, subst, inl, inr, ◌⊎◌, arith, ltb-true, ltb-false}
+use Rattle.std.proofs.Common.{◌≡◌, ◌∙◌, ◌<◌, ◌≤◌, ◌+◌, ◌-◌, ◌==◌, ℕ, true, false, Bool, nat_lt, List, [], ◌∷◌, ◌++◌, length, take, drop}
+use Rattle.std.proofs.Common.{refl, ap, sym, subst, inl, inr, ◌⊎◌, arith, ltb-true, ltb-false}
 use Rattle.std.proofs.Math.ListN.{get_or}
 use Rattle.std.proofs.lemmas.Bool.{cases_Bool}
 use Rattle.std.proofs.lemmas.List.{append_assoc, append-nil, drop-drop, get_or-drop, length-drop, length-take-le, take_all}
@@ -50,14 +50,14 @@ cut line from at within below bare space =
     let left = length-drop from line in
     let is : position_or_len is_space (drop from line) ≡ at - from = position_or_len_is is_space (drop from line) (at - from) 0
     (omega (arith, within, below, left)) (λ k less. rw (get_or-drop from line k 0)
-        (bare (from + k) (omega arith) (omega (arith, less, within))))
+    (bare (from + k) (omega arith) (omega (arith, less, within))))
     (λ _. rw (get_or-drop from line (at - from) 0) (subst (λ n. (get_or line n 0 == 32) ≡ true) (omega (arith, within)) space)) in
     let split = slice_split_first is_space (drop from line) 0 (rw is (omega (arith, within, below, left))) in
     let rest : drop (at - from + 1) (drop from line) ≡ drop (at + 1) line =
-        drop-drop (at - from + 1) from line ∙ ap (λ n. drop n line) (omega (arith, within)) in
+    drop-drop (at - from + 1) from line ∙ ap (λ n. drop n line) (omega (arith, within)) in
     subst (λ more. slice_split is_space (drop from line) ≡ take (at - from) (drop from line) ∷ slice_split is_space more) rest
     (subst (λ n. slice_split is_space (drop from line) ≡ take n (drop from line) ∷ slice_split is_space (drop (n + 1) (drop from line))) is
-        split)
+    split)
 
 -- the last part
 uncut : (line : List ℕ) (from : ℕ) → from ≤ length line → ((k : ℕ) → from ≤ k → k < length line → (get_or line k 0 == 32) ≡ false)
@@ -88,7 +88,7 @@ ends {line} {from} {at} {words} named some below space =
     let next : from + length (take (at - from) (drop from line)) + 1 ≡ at + 1 = omega (arith, long, some) in
     let split = cut line from at named.within below named.bare space in
     let first =
-        some_first (take (at - from) (drop from line)) (slice_split is_space (drop (at + 1) line)) from (omega (arith, long, some)) in
+    some_first (take (at - from) (drop from line)) (slice_split is_space (drop (at + 1) line)) from (omega (arith, long, some)) in
     record {
       within = omega arith;
       most = omega (arith, below);
@@ -109,14 +109,14 @@ skips {line} {from} {at} {words} named none below space =
     let within = named.within in
     let split = cut line from at named.within below named.bare space in
     let first =
-        none_first (take (at - from) (drop from line)) (slice_split is_space (drop (at + 1) line)) from (omega (arith, long, none)) in
+    none_first (take (at - from) (drop from line)) (slice_split is_space (drop (at + 1) line)) from (omega (arith, long, none)) in
     record {
       within = omega arith;
       most = omega (arith, below);
       bare = λ k least less. absurd (omega (arith, least, less));
       all =
           ap (λ more. words ++ more) (sym (ap (some_from from) split ∙ first
-              ∙ ap (λ n. some_from n (slice_split is_space (drop (at + 1) line))) (omega (arith, within, none)))) ∙ named.all;
+          ∙ ap (λ n. some_from n (slice_split is_space (drop (at + 1) line))) (omega (arith, within, none)))) ∙ named.all;
     }
 
 -- the line ends in a word
@@ -126,8 +126,8 @@ ends_last {line} {from} {words} named some =
     let left = length-drop from line in
     let whole = take_all (length line - from) (drop from line) (omega (arith, left)) in
     rw whole (ap (λ more. words ++ more) (sym
-        (ap (some_from from) (uncut line from named.within named.bare) ∙ some_first (drop from line) [] from (omega (arith, left, some))))
-        ∙ named.all)
+    (ap (some_from from) (uncut line from named.within named.bare) ∙ some_first (drop from line) [] from (omega (arith, left, some))))
+    ∙ named.all)
 
 -- the line ends after a space, or is empty
 ends_bare : {line : List ℕ} {from : ℕ} {words : List (Word × ℕ)} → Named line from (length line) words → ¬ (from < length line)
@@ -136,8 +136,8 @@ ends_bare {line} {from} {words} named none =
     let left = length-drop from line in
     let within = named.within in
     sym (append-nil words) ∙ ap (λ more. words ++ more)
-        (sym (ap (some_from from) (uncut line from named.within named.bare)
-        ∙ none_first (drop from line) [] from (omega (arith, left, within, none)))) ∙ named.all
+    (sym (ap (some_from from) (uncut line from named.within named.bare)
+    ∙ none_first (drop from line) [] from (omega (arith, left, within, none)))) ∙ named.all
 
 -- a space ends what stands before it
 pub space : {line : List ℕ} {from at : ℕ} {words : List (Word × ℕ)} → Named line from at words → at < length line

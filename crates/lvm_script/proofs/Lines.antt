@@ -1,6 +1,6 @@
 -- The first line of a text, and the lines after it.
-use Rattle.std.proofs.Common.{◌≡◌, ◌≢◌, ◌∙◌, ◌<◌, ◌≤◌, ◌+◌, ◌-◌, ◌==◌, ℕ, true, false, nat_lt, if◌then◌else◌, List, [], ◌∷◌, length, take,
-    drop, Some, None, refl, ap, sym, subst, inl, inr, ◌⊎◌, arith, ltb-false}
+use Rattle.std.proofs.Common.{◌≡◌, ◌≢◌, ◌∙◌, ◌<◌, ◌≤◌, ◌+◌, ◌-◌, ◌==◌, ℕ, true, false, nat_lt, if◌then◌else◌, List, [], ◌∷◌, length, take}
+use Rattle.std.proofs.Common.{drop, Some, None, refl, ap, sym, subst, inl, inr, ◌⊎◌, arith, ltb-false}
 use Rattle.std.proofs.lemmas.Bool.{cases_Bool}
 use Rattle.std.proofs.lemmas.Option.{none-some}
 use Rattle.std.proofs.lemmas.List.{take_all, length-drop}
@@ -34,7 +34,7 @@ none_found text none = go (cases_Bool (nat_lt (position_or_len (λ byte. byte ==
         → length text ≤ position_or_len (λ byte. byte == 10) text
     go (inl e) =
         absurd (none-some (position_or_len (λ byte. byte == 10) text)
-            (sym (subst (λ b. (if b then Some (position_or_len (λ byte. byte == 10) text) else None) ≡ None) e none)))
+        (sym (subst (λ b. (if b then Some (position_or_len (λ byte. byte == 10) text) else None) ≡ None) e none)))
     go (inr e) = ltb-false (position_or_len (λ byte. byte == 10) text) (length text) e
 
 -- a line that ends with a line feed
@@ -46,9 +46,9 @@ ended_line text at found within =
     let more = length-slice_split (λ (byte : ℕ). byte == 10) (drop (at + 1) text) in
     let left = length-drop (at + 1) text in
     let rest : take (length text - (at + 1)) (drop (at + 1) text) ≡ drop (at + 1) text =
-        take_all (length text - (at + 1)) (drop (at + 1) text) (omega (arith, left)) in
+    take_all (length text - (at + 1)) (drop (at + 1) text) (omega (arith, left)) in
     rw rest (ap without_last_empty (subst (λ n. slice_split (λ byte. byte == 10) text
-        ≡ take n text ∷ slice_split (λ byte. byte == 10) (drop (n + 1) text)) is split)
+    ≡ take n text ∷ slice_split (λ byte. byte == 10) (drop (n + 1) text)) is split)
     ∙ not_last (take at text) (slice_split (λ byte. byte == 10) (drop (at + 1) text)) (omega (arith, more)))
 
 -- a line without one
@@ -56,6 +56,6 @@ pub last_line : (text : List ℕ) → text ≢ [] → position (λ byte. byte ==
 last_line text some none =
     let past = none_found text none in
     ap without_last_empty (slice_split_none (λ (byte : ℕ). byte == 10) text
-        (All-from_get_or (λ byte. (byte == 10) ≡ false) text 0
-        (λ k within. fails_before_first (λ (byte : ℕ). byte == 10) text k 0 (omega (arith, within, past)))))
+    (All-from_get_or (λ byte. (byte == 10) ≡ false) text 0
+    (λ k within. fails_before_first (λ (byte : ℕ). byte == 10) text k 0 (omega (arith, within, past)))))
     ∙ alone text some

@@ -5,9 +5,10 @@ use Rattle.command_table.specs.declared.amount.Amount.{Amount}
 use Rattle.command_table.specs.declared.amount.Amount.TheVariants.{Extents, Sectors}
 use Rattle.command_table.specs.declared.amount.Growth.TheVariants.{To, By}
 use Rattle.command_table.specs.declared.command.Command.{Command}
-use Rattle.command_table.specs.declared.command.Command.TheVariants.{Pvcreate, Pvmove, Pvck, Pvs, Vgcreate, Vgextend, Vgreduce, Vgremove,
-    Vgrename, Vgcfgbackup, Vgcfgrestore, Vgck, Vgs, Lvcreate, Lvextend, Lvreduce, Lvremove, Lvrename, Lvs, Read, Fill, Write,
-    List as ListVolumes, Wait, Resync}
+use Rattle.command_table.specs.declared.command.Command.TheVariants.{Pvcreate, Pvmove, Pvck, Pvs, Vgcreate, Vgextend, Vgreduce, Vgremove}
+use Rattle.command_table.specs.declared.command.Command.TheVariants.{Vgrename, Vgcfgbackup, Vgcfgrestore, Vgck, Vgs, Lvcreate, Lvextend}
+use Rattle.command_table.specs.declared.command.Command.TheVariants.{Lvreduce, Lvremove, Lvrename, Lvs, Read, Fill, Write}
+use Rattle.command_table.specs.declared.command.Command.TheVariants.{List as ListVolumes, Wait, Resync}
 use Rattle.command_table.specs.declared.command.Moving.TheVariants.{From, GoOn, Abort}
 use Rattle.command_table.specs.declared.command.NewVolume.{NewVolume}
 use Rattle.command_table.specs.declared.command.Path.{Path}

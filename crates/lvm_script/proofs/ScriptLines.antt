@@ -5,8 +5,8 @@ use Rattle.command_table.specs.declared.command.Command.{Command}
 use Rattle.command_table.specs.Commands.{sectors_of}
 use Rattle.lvm_script.specs.declared.script_refusal.LineRefusal.{LineRefusal}
 use Rattle.lvm_script.specs.declared.script_refusal.LineRefusal.TheVariants.{NoMemory, Refused}
-use Rattle.lvm_script.specs.Script.{Commands, IsRefusal, IsScriptRefusal, behind_all, commands_from, commands_in, commands_with, in_line,
-    limited, line_meant, lines_in}
+use Rattle.lvm_script.specs.Script.{Commands, IsRefusal, IsScriptRefusal, behind_all, commands_from, commands_in, commands_with, in_line}
+use Rattle.lvm_script.specs.Script.{limited, line_meant, lines_in}
 
 -- these commands stand before the rest of a script, in so many lines
 pub record ReadSoFar (text rest : List ℕ) (number sectors : ℕ) (commands : List (ℕ × Command)) : Type 0 where
@@ -43,7 +43,7 @@ passed {text} {rest} {line} after {number} {sectors} {commands} so_far lines mos
   most = so_far.most;
   all =
       so_far.all ∙ ap (behind_all commands) (next_line rest line after (number + 1) sectors lines
-          ∙ ap (λ m. commands_with (number + 1) sectors m (commands_from (lines_in after) (number + 1 + 1))) meant);
+      ∙ ap (λ m. commands_with (number + 1) sectors m (commands_from (lines_in after) (number + 1 + 1))) meant);
 }
 
 -- a line with a command
@@ -57,7 +57,7 @@ taken {text} {rest} {line} after {number} {sectors} {commands} {command} so_far 
   most = within;
   all =
       so_far.all ∙ ap (behind_all commands) (next_line rest line after (number + 1) sectors lines
-          ∙ ap (λ m. commands_with (number + 1) sectors m (commands_from (lines_in after) (number + 1 + 1))) meant)
+      ∙ ap (λ m. commands_with (number + 1) sectors m (commands_from (lines_in after) (number + 1 + 1))) meant)
       ∙ behind_both commands (number + 1, command) (commands_from (lines_in after) (number + 1 + 1) (sectors + sectors_of command));
 }
 
@@ -69,7 +69,7 @@ pub refused : {text rest line : List ℕ} (after : List ℕ) {number sectors : �
 refused after so_far lines NoMemory is = tt
 refused {text} {rest} {line} after {number} {sectors} {commands} so_far lines (Refused fault place) is =
     so_far.all ∙ ap (behind_all commands) (next_line rest line after (number + 1) sectors lines
-        ∙ ap (λ m. commands_with (number + 1) sectors m (commands_from (lines_in after) (number + 1 + 1))) is)
+    ∙ ap (λ m. commands_with (number + 1) sectors m (commands_from (lines_in after) (number + 1 + 1))) is)
 
 -- no line more
 pub at_end : {text : List ℕ} {number sectors : ℕ} {commands : List (ℕ × Command)} → ReadSoFar text [] number sectors commands

@@ -2,8 +2,8 @@
 use Rattle.std.specs.Prelude.{◌≡◌, ℕ, List, [], ◌∷◌, ◌++◌, Some, None, Ok, Err, codes, map, replicate}
 use Rattle.std.proofs.Common.{refl}
 use Rattle.command_table.specs.declared.command.Command.{Command}
-use Rattle.command_table.specs.declared.command.Command.TheVariants.{Pvcreate, Vgcfgbackup, Vgcfgrestore, Read, Fill, Write,
-    List as ListVolumes, Wait}
+use Rattle.command_table.specs.declared.command.Command.TheVariants.{Pvcreate, Vgcfgbackup, Vgcfgrestore, Read, Fill, Write}
+use Rattle.command_table.specs.declared.command.Command.TheVariants.{List as ListVolumes, Wait}
 use Rattle.command_table.specs.declared.command.Path.{Path}
 use Rattle.command_table.specs.declared.fault.Fault.TheVariants.{BadCount}
 use Rattle.command_table.specs.declared.line_fault.LineFault.{LineFault}

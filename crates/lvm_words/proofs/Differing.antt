@@ -1,6 +1,6 @@
 -- Names of which none stands twice, and the set of those behind a place.
-use Rattle.std.proofs.Common.{◌≡◌, ◌≤◌, ◌<◌, ℕ, zero, suc, ◌+◌, ◌-◌, Bool, true, false, not, ◌&&◌, ◌||◌, cond, List, [], ◌∷◌, drop, get_or,
-    length, refl, sym, ap, ◌∙◌, Bor, arith}
+use Rattle.std.proofs.Common.{◌≡◌, ◌≤◌, ◌<◌, ℕ, zero, suc, ◌+◌, ◌-◌, Bool, true, false, not, ◌&&◌, ◌||◌, cond, List, [], ◌∷◌, drop, get_or}
+use Rattle.std.proofs.Common.{length, refl, sym, ap, ◌∙◌, Bor, arith}
 use Rattle.std.proofs.Math.ListN.{drop_of_length-le}
 use Rattle.std.specs.List.{list_any}
 use Rattle.std.specs.Str.{bytes_eq}
@@ -46,9 +46,9 @@ module _ (set : BTreeSet (Bor Word)) (key : Bor Word) (words : List Word) (those
     has = λ word.
         let other : Bor Word = record { ref_ptr = (0, 0); now = word } in
         let same : is_eq (slice_cmp nat_cmp key.now word) ≡ bytes_eq word key.now =
-            is_eq-slice_cmp key.now word ∙ nat_list_eq_equiv.symm key.now word in
+        is_eq-slice_cmp key.now word ∙ nat_list_eq_equiv.symm key.now word in
         updates.0 other ∙ ap (λ (b : Bool). cond b true (has_word set word)) same ∙ true_or (bytes_eq word key.now) (has_word set word)
-            ∙ ap (λ (b : Bool). bytes_eq word key.now || b) (those.has word);
+        ∙ ap (λ (b : Bool). bytes_eq word key.now || b) (those.has word);
   }
 
   -- one more word, where it was in the set

@@ -1,6 +1,6 @@
 -- No word is faulty exactly where none strays and each value and each argument is what it has to be.
-use Rattle.std.proofs.Common.{◌≡◌, ◌↔◌, ◌∙◌, ◌+◌, ℕ, suc, ◌&&◌, Bool, not, if◌then◌else◌, true, false, List, [], ◌∷◌, ◌++◌, length, map,
-    Option, Some, None, refl, ap, ap₂, sym, subst, inl, inr, ◌⊎◌, arith}
+use Rattle.std.proofs.Common.{◌≡◌, ◌↔◌, ◌∙◌, ◌+◌, ℕ, suc, ◌&&◌, Bool, not, if◌then◌else◌, true, false, List, [], ◌∷◌, ◌++◌, length, map}
+use Rattle.std.proofs.Common.{Option, Some, None, refl, ap, ap₂, sym, subst, inl, inr, ◌⊎◌, arith}
 use Rattle.std.proofs.lemmas.Bool.{and_parts, cases_Bool, not-true, or_left, or_right, true≢false}
 use Rattle.std.proofs.Math.Bool.{and-true}
 use Rattle.std.proofs.Math.Nat.{add-zero, zero-add}
@@ -19,10 +19,10 @@ use Rattle.command_table.specs.declared.table.OptionRow.{OptionRow}
 use Rattle.command_table.specs.Options.{Word, is_dashed, is_key, spells}
 use Rattle.command_table.specs.Table.{options_of}
 use Rattle.command_table.specs.Values.{fault_in}
-use Rattle.command_table.specs.Words.{Read, Split, after_role, after_word, fault_of, first_fault, has_key, nothing_split, option_named,
-    read, role_of, role_of_option, role_of_other, role_of_row}
-use Rattle.lvm_words.specs.Parser.{after_split, argument_passes, arguments_pass, is_stray, no_stray, row_of_key, split_from, split_of,
-    value_passes}
+use Rattle.command_table.specs.Words.{Read, Split, after_role, after_word, fault_of, first_fault, has_key, nothing_split, option_named}
+use Rattle.command_table.specs.Words.{read, role_of, role_of_option, role_of_other, role_of_row}
+use Rattle.lvm_words.specs.Parser.{after_split, argument_passes, arguments_pass, is_stray, no_stray, row_of_key, split_from, split_of}
+use Rattle.lvm_words.specs.Parser.{value_passes}
 use Rattle.lvm_words.proofs.Forms.{Form, flag, form, takes}
 use Rattle.lvm_words.proofs.Spellings.{same_name}
 
@@ -98,14 +98,14 @@ named_in (x ∷ xs) row word apart found = go (named_in xs row word) (cases_Bool
     other : IsNamed xs row → (is_key x.key row.key ≡ true) ⊎ (is_key x.key row.key ≡ false) → IsNamed (x ∷ xs) row
     other n (inl e) =
         absurd (true≢false (sym (n.member (λ r. is_key x.key r.key) e)
-            ∙ not-true (list_any (λ (r : OptionRow). is_key x.key r.key) xs) both.0))
+        ∙ not-true (list_any (λ (r : OptionRow). is_key x.key r.key) xs) both.0))
     other n (inr e) = record { kind = rw e n.kind; member = λ p at. or_right (p x) (list_any p xs) (n.member p at) }
 
     go : (distinct xs ≡ true → option_named xs word ≡ Some row → IsNamed xs row) → (spells x.key word ≡ true) ⊎ (spells x.key word ≡ false)
         → IsNamed (x ∷ xs) row
     go rest (inl e) =
         subst (IsNamed (x ∷ xs)) (some_row x row (rw e at found))
-            (record { kind = rw (same_name x.key) refl; member = λ p at. or_left (p x) (list_any p xs) at })
+        (record { kind = rw (same_name x.key) refl; member = λ p at. or_left (p x) (list_any p xs) at })
     go rest (inr e) = other (rest both.1 (rw e at found)) (cases_Bool (is_key x.key row.key))
 
 named_kind : (name : CommandName) (row : OptionRow) (word : Word) → option_named (options_of name) word ≡ Some row → HasKind name row
@@ -169,7 +169,7 @@ arguments_push : (name : CommandName) (n : ℕ) (xs : List Word) (y : Word)
 arguments_push name n [] y = and-true (argument_passes name n y) ∙ ap (λ k. argument_passes name k y) (sym (add-zero n))
 arguments_push name n (x ∷ xs) y =
     go (argument_passes name n x) (arguments_push name (n + 1) xs y
-        ∙ ap (λ k. arguments_pass name (n + 1) xs && argument_passes name k y) (omega arith))
+    ∙ ap (λ k. arguments_pass name (n + 1) xs && argument_passes name k y) (omega arith))
   where
     go : (b : Bool) → arguments_pass name (n + 1) (xs ++ y ∷ [])
         ≡ (arguments_pass name (n + 1) xs && argument_passes name (n + suc (length xs)) y)
@@ -196,9 +196,9 @@ step_passes name split word (role.Option row) f well fine = sym (and-true (all_p
 step_passes name split word (role.Flag key) f well fine =
     let none : given_passes (options_of name) (key, []) ≡ true = ap (λ k. is_none (fault_in k [])) f in
     let pushed : list_all (given_passes (options_of name)) (split.given ++ (key, []) ∷ [])
-        ≡ list_all (given_passes (options_of name)) split.given =
+    ≡ list_all (given_passes (options_of name)) split.given =
     all_push (given_passes (options_of name)) split.given (key, [])
-        ∙ ap (λ b. list_all (given_passes (options_of name)) split.given && b) none ∙ and-true _ in
+    ∙ ap (λ b. list_all (given_passes (options_of name)) split.given && b) none ∙ and-true _ in
     ap (λ b. b && arguments_pass name 0 split.arguments) pushed ∙ sym (and-true (all_pass name split))
 step_passes name split word (role.Value row) f well fine =
     let kind_is : kind_in (options_of name) row.key ≡ row.kind = well row f in
@@ -210,7 +210,7 @@ step_passes name split word (role.Value row) f well fine =
 step_passes name split word (role.Argument number) f well fine =
     ap (λ b. list_all (given_passes (options_of name)) split.given && b)
     (arguments_push name 0 split.arguments word
-        ∙ ap (λ k. arguments_pass name 0 split.arguments && argument_passes name k word) (zero-add (length split.arguments) ∙ sym f))
+    ∙ ap (λ k. arguments_pass name 0 split.arguments && argument_passes name k word) (zero-add (length split.arguments) ∙ sym f))
     ∙ and_again (list_all (given_passes (options_of name)) split.given) (arguments_pass name 0 split.arguments)
     (argument_passes name number word)
 
@@ -247,7 +247,7 @@ pass_before name (word ∷ words) split well fine all =
     let both = and_parts (not (is_stray r)) (no_stray (options_of name) (after_split (options_of name) split word) words) fine in
     let later : all_pass name (after_split (options_of name) split word) ≡ true =
     pass_before name words (after_split (options_of name) split word) (waits_on name split word r (facts name split word) well) both.1
-        all in
+    all in
     (and_parts (all_pass name split) (is_none (fault_of name word r))
     (sym (step_passes name split word r (facts name split word) well (not-true (is_stray r) both.0)) ∙ later)).0
 
@@ -274,7 +274,7 @@ unfolding no_stray
 all_well name [] split well all none = (refl, all)
 all_well name (word ∷ words) split well all none = go (fault_of name word.0 (role_of (options_of name) split word.0)) refl
     (λ a n. all_well name words (after_split (options_of name) split word.0)
-        (waits_on name split word.0 (role_of (options_of name) split word.0) (facts name split word.0) well) a n)
+    (waits_on name split word.0 (role_of (options_of name) split word.0) (facts name split word.0) well) a n)
   where
     go : (o : Option Fault) → fault_of name word.0 (role_of (options_of name) split word.0) ≡ o
         → (all_pass name (after_split (options_of name) split word.0) ≡ true
@@ -290,7 +290,7 @@ all_well name (word ∷ words) split well all none = go (fault_of name word.0 (r
         absurd (true≢false (ap is_some (sym (stays name words (after_split (options_of name) split word.0) (fault, word.1)) ∙ ends)))
     go None is rest =
         let fine : is_stray (role_of (options_of name) split word.0) ≡ false =
-            fine_role name word.0 (role_of (options_of name) split word.0) is in
+        fine_role name word.0 (role_of (options_of name) split word.0) is in
         let on : (read_on name (after_split (options_of name) split word.0) None words).fault ≡ None =
         ap (λ o. (read_on name (after_split (options_of name) split word.0) (first_fault None o word.1) words).fault) (sym is) ∙ none in
         let passes : all_pass name (after_split (options_of name) split word.0) ≡ true =

@@ -1,6 +1,6 @@
 -- The arguments of the command, as building makes them and as the walk finds them.
-use Rattle.std.proofs.Common.{◌≡◌, ◌∙◌, ◌<◌, length, take, get_or, ℕ, ◌+◌, true, false, List, [], ◌∷◌, ◌++◌, Option, Some, refl, ap, ap₂,
-    sym}
+use Rattle.std.proofs.Common.{◌≡◌, ◌∙◌, ◌<◌, length, take, get_or, ℕ, ◌+◌, true, false, List, [], ◌∷◌, ◌++◌, Option, Some, refl, ap, ap₂}
+use Rattle.std.proofs.Common.{sym}
 use Rattle.std.proofs.lemmas.Bool.{and_from}
 use Rattle.std.proofs.lemmas.List.{map-append, take_more}
 use Rattle.std.specs.Prelude.{count_by, is_some}
@@ -50,8 +50,13 @@ none_early (row ∷ rows) = none_early rows
 
 ready : (rules : List Rule) → list_all (λ (a : Rule). a.is_simple) rules ≡ true → count_by (λ (a : Rule). is_some a.index) rules ≡ 1
     → list_any (is_early_multiple 1) rules ≡ false
-    → is_ready (record (new_shape []) { rules = rules; no_binary_name = true; disable_help_flag = true; disable_help_subcommand = true;
-    is_built = true }) ≡ true
+    → is_ready (record (new_shape []) {
+      rules = rules;
+      no_binary_name = true;
+      disable_help_flag = true;
+      disable_help_subcommand = true;
+      is_built = true;
+    }) ≡ true
 ready rules simple one none = rw (simple, one, none) refl
 
 pub simple_app : (rows : List OptionRow) → is_simple (app_for rows) ≡ true

@@ -1,8 +1,8 @@
 -- An option is a flag or has a value.
 use Rattle.std.proofs.Common.{◌≡◌, refl}
 use Rattle.command_table.specs.declared.kind.Kind.{Kind}
-use Rattle.command_table.specs.declared.kind.Kind.TheVariants.{Flag, Number, Growth, Size, SizeGrowth, PowerSize, Policy, Disk, Group,
-    Volume, Path, Hex}
+use Rattle.command_table.specs.declared.kind.Kind.TheVariants.{Flag, Number, Growth, Size, SizeGrowth, PowerSize, Policy, Disk, Group}
+use Rattle.command_table.specs.declared.kind.Kind.TheVariants.{Volume, Path, Hex}
 use Rattle.command_table.specs.declared.role.Role.TheVariants as role
 use Rattle.command_table.specs.declared.table.OptionRow.{OptionRow}
 use Rattle.command_table.specs.Words.{role_of_row}

@@ -57,7 +57,7 @@ pub found_by_short : (rows : List OptionRow) (row : OptionRow) (letter : ℕ) �
 found_by_short [] row letter is stands = absurd (none_some row stands)
 found_by_short (x ∷ xs) row letter is stands =
     go (found_by_short xs row letter is) (cases_Bool (option_map_or (λ l. l == letter) (letter_of x.key) false))
-        (cases_Bool (bytes_eq (name_of x.key) (name_of row.key)))
+    (cases_Bool (bytes_eq (name_of x.key) (name_of row.key)))
   where
     go : (Stands xs row → arg_by_short (rules_built xs) letter ≡ Some (option_built row))
         → (option_map_or (λ l. l == letter) (letter_of x.key) false ≡ true)
@@ -71,7 +71,7 @@ found_by_short (x ∷ xs) row letter is stands =
     go rest (inr e) (inl f) =
         let here : option_map_or (λ l. l == letter) (letter_of x.key) false ≡ true =
         ap (λ k. option_map_or (λ l. l == letter) (letter_of k) false) (same_key x.key row.key f)
-            ∙ ap (λ o. option_map_or (λ l. l == letter) o false) is ∙ eq-eqb letter letter refl in
+        ∙ ap (λ o. option_map_or (λ l. l == letter) o false) is ∙ eq-eqb letter letter refl in
         absurd (true≢false (sym here ∙ e))
     go rest (inr e) (inr f) = rw e (rest (rw f at stands))
 

@@ -1,6 +1,6 @@
 -- The front of a command line, one pair after another.
-use Rattle.std.proofs.Common.{◌≡◌, ◌≤◌, ◌<◌, ℕ, ◌+◌, ◌-◌, true, false, List, [], ◌∷◌, ◌++◌, length, drop, get_or, Option, Some, None, refl,
-    ap, sym, ◌∙◌, arith, append_assoc}
+use Rattle.std.proofs.Common.{◌≡◌, ◌≤◌, ◌<◌, ℕ, ◌+◌, ◌-◌, true, false, List, [], ◌∷◌, ◌++◌, length, drop, get_or, Option, Some, None, refl}
+use Rattle.std.proofs.Common.{ap, sym, ◌∙◌, arith, append_assoc}
 use Rattle.std.proofs.Math.ListN.{drop_of_length-le}
 use Rattle.std.proofs.lemmas.List.{append-nil}
 use Rattle.std.specs.Prelude.{option_map}
@@ -45,30 +45,31 @@ names_more names name (Some front) =
 
 -- the words of a command line from a place on
 module _ {A : Type 0} (words : List (String A)) (at : ℕ) (word : String A) (within : at < length words) (is : word ≡ get_or words at word)
-    where
-  pub ends_at : is_disk_option (string_bytes word) ≡ false
-      → front_of (words_of (drop at words)) ≡ Some (record { names = []; rest = words_of (drop at words) })
-  ends_at other = rw (from_place words at word within is) (ends_before (string_bytes word) (words_of (drop (at + 1) words)) other)
+  where
+    pub ends_at : is_disk_option (string_bytes word) ≡ false
+        → front_of (words_of (drop at words)) ≡ Some (record { names = []; rest = words_of (drop at words) })
+    ends_at other = rw (from_place words at word within is) (ends_before (string_bytes word) (words_of (drop (at + 1) words)) other)
 
-  pub lacks_name_at : is_disk_option (string_bytes word) ≡ true → length words - at < 2 → front_of (words_of (drop at words)) ≡ None
-  lacks_name_at option short =
-      let none : drop (at + 1) words ≡ [] = drop_of_length-le words {i = at + 1} (omega arith) in
-      rw (from_place words at word within is, none) (lacks_name (string_bytes word) option)
+    pub lacks_name_at : is_disk_option (string_bytes word) ≡ true → length words - at < 2 → front_of (words_of (drop at words)) ≡ None
+    lacks_name_at option short =
+        let none : drop (at + 1) words ≡ [] = drop_of_length-le words {i = at + 1} (omega arith) in
+        rw (from_place words at word within is, none) (lacks_name (string_bytes word) option)
 
-  module _ (name : String A) (more : at + 1 < length words) (name_is : name ≡ get_or words (at + 1) name) where
-    both : drop at words ≡ word ∷ name ∷ drop (at + 2) words
-    both =
-        from_place words at word within is
-        ∙ ap (λ (l : List (String A)). word ∷ l) (from_place words (at + 1) name more name_is)
-        ∙ ap (λ (n : ℕ). word ∷ name ∷ drop n words) (omega arith)
+    module _ (name : String A) (more : at + 1 < length words) (name_is : name ≡ get_or words (at + 1) name) where
+      both : drop at words ≡ word ∷ name ∷ drop (at + 2) words
+      both =
+          from_place words at word within is
+          ∙ ap (λ (l : List (String A)). word ∷ l) (from_place words (at + 1) name more name_is)
+          ∙ ap (λ (n : ℕ). word ∷ name ∷ drop n words) (omega arith)
 
-    pub misnamed_at : is_disk_option (string_bytes word) ≡ true → is_disk_name (string_bytes name) ≡ false
-        → front_of (words_of (drop at words)) ≡ None
-    misnamed_at option no_name = rw both (misnamed (string_bytes word) (string_bytes name) (words_of (drop (at + 2) words)) option no_name)
+      pub misnamed_at : is_disk_option (string_bytes word) ≡ true → is_disk_name (string_bytes name) ≡ false
+          → front_of (words_of (drop at words)) ≡ None
+      misnamed_at option no_name =
+          rw both (misnamed (string_bytes word) (string_bytes name) (words_of (drop (at + 2) words)) option no_name)
 
-    pub pair_at : is_disk_option (string_bytes word) ≡ true → is_disk_name (string_bytes name) ≡ true
-        → front_of (words_of (drop at words)) ≡ option_map (with_name (string_bytes name)) (front_of (words_of (drop (at + 2) words)))
-    pair_at option is_name = rw both (one_pair (string_bytes word) (string_bytes name) (words_of (drop (at + 2) words)) option is_name)
+      pub pair_at : is_disk_option (string_bytes word) ≡ true → is_disk_name (string_bytes name) ≡ true
+          → front_of (words_of (drop at words)) ≡ option_map (with_name (string_bytes name)) (front_of (words_of (drop (at + 2) words)))
+      pair_at option is_name = rw both (one_pair (string_bytes word) (string_bytes name) (words_of (drop (at + 2) words)) option is_name)
 
 pub ends_past : {A : Type 0} (words : List (String A)) (at : ℕ) → length words ≤ at
     → front_of (words_of (drop at words)) ≡ Some (record { names = []; rest = words_of (drop at words) })

@@ -1,6 +1,6 @@
 -- The walk of clap and our reading of the words go side by side.
-use Rattle.std.proofs.Common.{◌≡◌, ◌≢◌, ◌∙◌, ◌<◌, ◌+◌, ℕ, ◌==◌, ◌&&◌, ◌||◌, Bool, not, if◌then◌else◌, true, false, List, [], ◌∷◌, ◌++◌,
-    length, Option, Some, None, refl, ap, ap₂, sym, subst, inl, inr, ◌⊎◌, arith}
+use Rattle.std.proofs.Common.{◌≡◌, ◌≢◌, ◌∙◌, ◌<◌, ◌+◌, ℕ, ◌==◌, ◌&&◌, ◌||◌, Bool, not, if◌then◌else◌, true, false, List, [], ◌∷◌, ◌++◌}
+use Rattle.std.proofs.Common.{length, Option, Some, None, refl, ap, ap₂, sym, subst, inl, inr, ◌⊎◌, arith}
 use Rattle.std.proofs.lemmas.Bool.{and_parts, cases_Bool, ne_eqb, eq-eqb, true≢false}
 use Rattle.std.proofs.lemmas.List.{length_push}
 use Rattle.std.proofs.Math.Nat.{add-zero}
@@ -12,8 +12,8 @@ use Rattle.clap.specs.Faults.{built_fault, check_fault, defaults_fault, entered_
 use Rattle.clap.specs.Kinds.{Kinds, check_kinds, or_else}
 use Rattle.clap.specs.Simple.{App, built, entered, matches_of, names_of}
 use Rattle.clap.specs.Takes.{is_given}
-use Rattle.clap.specs.Walk.{Row, Rule, Text, Walk, all_of, finished, has_row, nothing_held, rows_after, settled, walked, with_default,
-    with_values}
+use Rattle.clap.specs.Walk.{Row, Rule, Text, Walk, all_of, finished, has_row, nothing_held, rows_after, settled, walked, with_default}
+use Rattle.clap.specs.Walk.{with_values}
 use Rattle.clap.specs.declared.builder.value_parser.Reading.TheVariants as reading
 use Rattle.clap.specs.declared.error.kind.ErrorKind.TheVariants as kind
 use Rattle.clap.specs.declared.parser.matches.ValueSource.TheVariants.{CommandLine}
@@ -21,18 +21,18 @@ use Rattle.command_table.specs.declared.option_key.OptionKey.{OptionKey}
 use Rattle.command_table.specs.declared.table.OptionRow.{OptionRow}
 use Rattle.command_table.specs.declared.role.Role.TheVariants as role
 use Rattle.command_table.specs.Options.{Word, is_dashed, is_key, name_of, spells}
-use Rattle.command_table.specs.Words.{Split, is_complete, nothing_split, after_role, has_key, role_of, role_of_option, role_of_other,
-    role_of_row, option_named}
-use Rattle.lvm_words.specs.Parser.{Lists, after_split, app_for, is_stray, listed, no_stray, rest_id, row_of_key, split_from, split_of,
-    values_of}
+use Rattle.command_table.specs.Words.{Split, is_complete, nothing_split, after_role, has_key, role_of, role_of_option, role_of_other}
+use Rattle.command_table.specs.Words.{role_of_row, option_named}
+use Rattle.lvm_words.specs.Parser.{Lists, after_split, app_for, is_stray, listed, no_stray, rest_id, row_of_key, split_from, split_of}
+use Rattle.lvm_words.specs.Parser.{values_of}
 use Rattle.lvm_words.proofs.Find.{rules_are_built, rules_built}
 use Rattle.lvm_words.proofs.Forms.{Form, flag, form, takes}
 use Rattle.lvm_words.proofs.Found.{Stands}
 use Rattle.lvm_words.proofs.Rows.{all_of_other, all_of_same}
 use Rattle.lvm_words.proofs.Spellings.{Spelled, not_the_rest, same_key, same_name, spelled}
-use Rattle.lvm_words.proofs.Steps.{IsFlag, IsListed, Last, Settles, TakesValue, argument, argument_fault, argument_step, at_argument,
-    at_none, at_valued, flag_fault, flag_step, lacks_value, none, option_fault, option_step, rows_with, settles_rows, settles_well,
-    shape_at, value_fault, value_step, valued, waits, walk_at, with_value}
+use Rattle.lvm_words.proofs.Steps.{IsFlag, IsListed, Last, Settles, TakesValue, argument, argument_fault, argument_step, at_argument}
+use Rattle.lvm_words.proofs.Steps.{at_none, at_valued, flag_fault, flag_step, lacks_value, none, option_fault, option_step, rows_with}
+use Rattle.lvm_words.proofs.Steps.{settles_rows, settles_well, shape_at, value_fault, value_step, valued, waits, walk_at, with_value}
 
 -- ---- an option that the word names
 
@@ -105,7 +105,7 @@ lists_option options split rows row word stands lists = record {
     go other (inl e) =
         let same : name_of row.key ≡ name_of other = (bytes_eq-Decides (name_of row.key) (name_of other)).0 e in
         subst (λ name. all_of (name_of other) (with_values name reading.AsWritten CommandLine (word ∷ []) rows)
-            ≡ listed (values_of other (split.given ++ (row.key, word) ∷ []))) (sym same)
+        ≡ listed (values_of other (split.given ++ (row.key, word) ∷ []))) (sym same)
         (all_of_same (name_of other) reading.AsWritten CommandLine (word ∷ []) rows
         ∙ ap (λ o. Some (unwrap_or o [] ++ word ∷ [])) (lists.options other)
         ∙ listed_push (values_of other split.given) word
@@ -173,7 +173,7 @@ pub data Linked (options : List OptionRow) (split : Split) (walk : Walk) (fault 
 abbrev After : List OptionRow → Split → List Row → Last → Word → Type 0
 After options split rows last word =
     Linked options split (walked (rules_built options) [] (walk_at rows last) word)
-        (turn_fault (shape_at options) [] (walk_at rows last) word)
+    (turn_fault (shape_at options) [] (walk_at rows last) word)
 
 settles : (last : Last) → Settles last ⊎ ((row : OptionRow) × (last ≡ waits row))
 settles none = inl at_none
@@ -214,7 +214,7 @@ option_here options split rows last word row here spelling m = go (settles last)
         let now = idle_now options split rows last s m in
         goes_on (rows_with rows last) (waits row)
         (option_step options row word rows last spelling here
-            ∙ ap (λ r. walk_at r (waits row)) (settles_rows options rows last s m.is_listed))
+        ∙ ap (λ r. walk_at r (waits row)) (settles_rows options rows last s m.is_listed))
         (option_fault options row word rows last spelling here ∙ settles_well options rows last s m.is_listed)
         (record {
           waiting = refl;
@@ -249,7 +249,7 @@ flag_here options split rows last word row here spelling m = go (settles last)
         let lists = lists_option options split (rows_with rows last) row [] here.stands m.lists in
         goes_on (with_value row [] (rows_with rows last)) none
         (flag_step options row word rows last spelling here
-            ∙ ap (λ r. walk_at (with_value row [] r) none) (settles_rows options rows last s m.is_listed))
+        ∙ ap (λ r. walk_at (with_value row [] r) none) (settles_rows options rows last s m.is_listed))
         (flag_fault options row word rows last spelling here ∙ settles_well options rows last s m.is_listed)
         (record {
           waiting = refl;
@@ -298,10 +298,10 @@ dashed_word options split rows last word m = go (option_named options word) refl
         → After options (after_role split word (role_of_row row)) rows last word
     by_form row facts (flag is zero role_is) = subst (λ r. After options (after_role split word r) rows last word) (sym role_is)
         (flag_here options split rows last word row (record { stands = facts.stands; zero = zero }) (spelled row.key word facts.spells_it)
-            m)
+        m)
     by_form row facts (takes one role_is) = subst (λ r. After options (after_role split word r) rows last word) (sym role_is)
         (option_here options split rows last word row (record { stands = facts.stands; one = one }) (spelled row.key word facts.spells_it)
-            m)
+        m)
 
     use_row : (row : OptionRow) → IsNamed options word row → (b : Bool) → not (is_stray (if b then role.Stray else role_of_row row)) ≡ true
         → After options (after_role split word (if b then role.Stray else role_of_row row)) rows last word
@@ -327,7 +327,7 @@ other_word options split rows last word plain m = go (settles last)
     go (inl s) =
         let is : split.waiting ≡ None = (idle_now options split rows last s m).0 in
         subst (λ o. After options (after_role split word (role_of_other split o)) rows last word) (sym is)
-            (argument_here options split rows last word s plain m)
+        (argument_here options split rows last word s plain m)
     go (inr waiting) =
         subst (λ l. Matches options split rows l → After options (after_role split word (role_of_other split split.waiting)) rows l word)
         (sym waiting.1) (as_value waiting.0) m
@@ -414,7 +414,7 @@ linked options (word ∷ words) split rows last m fine =
         (fold (walked (rules_built options) []) (walked (rules_built options) [] (walk_at rows last) word) words)
         (or_else k (walk_fault (shape_at options) [] (walked (rules_built options) [] (walk_at rows last) word) words))) (sym fine_now)
         (subst (λ w. Linked options (split_from options (after_split options split word) words)
-            (fold (walked (rules_built options) []) w words)
+        (fold (walked (rules_built options) []) w words)
         (walk_fault (shape_at options) [] w words)) (sym is) (rest r l n))
 
 -- ---- the end of the words
@@ -436,7 +436,7 @@ unfolding defaults_fault
 no_default_fault [] rows = rw (or_true (has_row rest_id rows)) refl
 no_default_fault (row ∷ options) rows =
     rw (or_true (has_row (name_of row.key) rows))
-        (ap (λ r. defaults_fault r (rules_built options)) (default_none rows (name_of row.key)) ∙ no_default_fault options rows)
+    (ap (λ r. defaults_fault r (rules_built options)) (default_none rows (name_of row.key)) ∙ no_default_fault options rows)
 
 none_required : (options : List OptionRow) (rows : List Row)
     → list_any (λ (a : Rule). a.required && not (is_given a.id rows)) (rules_built options) ≡ false
@@ -482,7 +482,7 @@ ends_well : (options : List OptionRow) (rows : List Row) (last : Last) → Settl
 ends_well options rows last s has =
     ap (λ k. or_else k (or_else (defaults_fault (settled (rules_built options) (walk_at rows last).held).rows (rules_built options))
     (check_fault (shape_at options) (finished (rules_built options) (walk_at rows last).held) false)))
-        (settles_well options rows last s has)
+    (settles_well options rows last s has)
     ∙ ap (λ k. or_else k (check_fault (shape_at options) (finished (rules_built options) (walk_at rows last).held) false))
     (no_default_fault options _)
     ∙ ap (λ b. check_kinds false false b) (none_required options _)
@@ -492,7 +492,7 @@ ends_badly : (options : List OptionRow) (rows : List Row) (row : OptionRow) → 
 ends_badly options rows row here =
     ap (λ k. or_else k (or_else (defaults_fault (settled (rules_built options) (walk_at rows (waits row)).held).rows (rules_built options))
     (check_fault (shape_at options) (finished (rules_built options) (walk_at rows (waits row)).held) false)))
-        (lacks_value options rows row here)
+    (lacks_value options rows row here)
 
 finished_is : (options : List OptionRow) (rows : List Row) (last : Last) → Settles last → IsListed options last
     → finished (rules_built options) (walk_at rows last).held ≡ rows_with rows last
@@ -500,8 +500,12 @@ finished_is options rows last s has = no_default options _ ∙ settles_rows opti
 
 at_start : (options : List OptionRow) → Matches options nothing_split [] none
 at_start options =
-    record { waiting = refl; is_listed = tt; lists = record { options = λ key. refl; others = λ key none_is. refl; arguments = refl };
-        count = refl }
+    record {
+      waiting = refl;
+      is_listed = tt;
+      lists = record { options = λ key. refl; others = λ key none_is. refl; arguments = refl };
+      count = refl;
+    }
 
 not_complete : (split : Split) → length split.given < length split.seen → is_complete split ≡ false
 not_complete split less = ne_eqb (length split.seen) (length split.given) (λ e. omega (arith, less, e))
@@ -514,13 +518,13 @@ ends_whole options words rows last s is fine m =
     fault_is options words ∙ ap₂ (from_walk options) is fine ∙ ends_well options rows last s m.is_listed in
     let complete : is_complete (split_of options words) ≡ true =
     eq-eqb (length (split_of options words).seen) (length (split_of options words).given)
-        (sym (idle_now options (split_of options words) rows last s m).1) in
+    (sym (idle_now options (split_of options words) rows last s m).1) in
     record {
       fails = λ e. absurd (true≢false (sym complete ∙ e));
       passes = λ e. fault;
       lists = λ e. subst (Lists options (split_of options words))
           (sym (matches_are options words ∙ ap (λ (w : Walk). finished (rules_built options) w.held) is
-              ∙ finished_is options rows last s m.is_listed)) m.lists;
+          ∙ finished_is options rows last s m.is_listed)) m.lists;
     }
 
 ends_open : (options : List OptionRow) (words : List Word) (rows : List Row) (row : OptionRow)

@@ -78,7 +78,7 @@ pair_alike pair (row ∷ rows) apart = go (pair_alike pair rows both.1) (cases_B
         let back : is_key row.key pair.0 ≡ true = key_either_way row.key pair.0 ∙ e in
         let none : list_any (λ (r : OptionRow). is_key pair.0 r.key) rows ≡ false =
         ap (λ k. list_any (λ (r : OptionRow). is_key k r.key) rows) (same_key pair.0 row.key e)
-            ∙ not-true (list_any (λ (r : OptionRow). is_key row.key r.key) rows) both.0 in
+        ∙ not-true (list_any (λ (r : OptionRow). is_key row.key r.key) rows) both.0 in
         rw (e, back) (ap (λ b. value_passes row.kind pair.1 && b) (others_pass pair rows none) ∙ and-true (value_passes row.kind pair.1))
     go rest (inr e) =
         let back : is_key row.key pair.0 ≡ false = key_either_way row.key pair.0 ∙ e in

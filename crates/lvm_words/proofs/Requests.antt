@@ -1,6 +1,6 @@
 -- What clap's matches ask for is what the words mean.
-use Rattle.std.proofs.Common.{◌≡◌, ◌∙◌, ◌+◌, ℕ, ◌&&◌, Bool, if◌then◌else◌, true, false, List, [], ◌∷◌, length, Option, Some, None, Result,
-    Ok, Err, refl, ap, ap₂, sym, inl, inr, ◌⊎◌}
+use Rattle.std.proofs.Common.{◌≡◌, ◌∙◌, ◌+◌, ℕ, ◌&&◌, Bool, if◌then◌else◌, true, false, List, [], ◌∷◌, length, Option, Some, None, Result}
+use Rattle.std.proofs.Common.{Ok, Err, refl, ap, ap₂, sym, inl, inr, ◌⊎◌}
 use Rattle.std.proofs.lemmas.Bool.{cases_Bool, true≢false}
 use Rattle.std.proofs.Math.Path.{fun_ext}
 use Rattle.std.specs.Prelude.{is_some, unwrap_or}
@@ -20,8 +20,8 @@ use Rattle.command_table.specs.Meaning.{at_place, meaning_with, request_by_name,
 use Rattle.command_table.specs.Options.{Word}
 use Rattle.command_table.specs.Table.{is_for_words, options_of}
 use Rattle.command_table.specs.Words.{Split, is_complete, nothing_split, numbered_from, read}
-use Rattle.lvm_words.specs.Parser.{Lists, arguments_in, arguments_pass, listed, no_stray, pairs_of, request_found, split_of, value_passes,
-    values_of, values_pass}
+use Rattle.lvm_words.specs.Parser.{Lists, arguments_in, arguments_pass, listed, no_stray, pairs_of, request_found, split_of, value_passes}
+use Rattle.lvm_words.specs.Parser.{values_of, values_pass}
 use Rattle.lvm_words.proofs.FaultFree.{all_pass, bare, distinct_options, fault_free, given_passes, split_read}
 use Rattle.lvm_words.proofs.MatchedValues.{given_alike}
 use Rattle.lvm_words.proofs.Passing.{row_passes, rows_pass}
@@ -94,14 +94,15 @@ fine_words name words fine complete =
         → result_ok (meaning_with fault (request_of name (read name (numbered_from 1 words)).split))
         ≡ (if all_pass name (split_of (options_of name) words)
         then request_by_name name (value_in (split_of (options_of name) words).given) (split_of (options_of name) words).arguments
-            else None)
+        else None)
     go (inl e) None is = rw e (result_of _ ∙ whole)
     go (inr e) (Some fault) is = rw e refl
     go (inl e) (Some fault) is =
         let none : (read name (numbered_from 1 words)).fault ≡ None =
-        (fault_free name (numbered_from 1 words)).1
-            (ap (no_stray (options_of name) nothing_split) same ∙ fine,
-            ap (λ ws. all_pass name (split_of (options_of name) ws)) same ∙ e) in
+        (fault_free name (numbered_from 1 words)).1 (
+          ap (no_stray (options_of name) nothing_split) same ∙ fine,
+          ap (λ ws. all_pass name (split_of (options_of name) ws)) same ∙ e,
+        ) in
         absurd (true≢false (ap is_some (sym is ∙ none)))
     go (inr e) None is =
         let passes : all_pass name (split_of (options_of name) words) ≡ true =
@@ -118,7 +119,7 @@ row_alike : (options : List OptionRow) (split : Split) (rows : List Row) → Lis
     → values_pass rows row ≡ row_passes split.given row
 row_alike options split rows lists row =
     ap (λ o. option_map_or (list_all (value_passes row.kind)) o true) (lists.options row.key)
-        ∙ all_listed (value_passes row.kind) (values_of row.key split.given)
+    ∙ all_listed (value_passes row.kind) (values_of row.key split.given)
 
 arguments_are : (words : List Word) → unwrap_or (listed words) [] ≡ words
 arguments_are [] = refl
@@ -129,7 +130,7 @@ pub matches_ask : (name : CommandName) (words : List Word) (rows : List Row) →
     → request_found name rows ≡ asked name words
 matches_ask name words rows fine complete lists =
     ap₂ (λ a ws. if a && arguments_pass name 0 ws then request_by_name name (value_in (pairs_of (options_of name) rows)) ws else None)
-        passes arguments
+    passes arguments
     ∙ ap (λ given. if all_pass name split then request_by_name name given split.arguments else None)
     (given_alike (options_of name) split rows lists)
     ∙ sym (fine_words name words fine complete)

@@ -8,8 +8,8 @@ use Rattle.std.specs.Str.{bytes_eq, chars}
 use Rattle.clap.specs.Lexer.{long_of, short_of}
 use Rattle.clap.proofs.OnLiterals.{clap_on_literals}
 use Rattle.command_table.specs.declared.option_key.OptionKey.{OptionKey}
-use Rattle.command_table.specs.declared.option_key.OptionKey.TheVariants.{Abort, Alloc, Extents, MetadataCopies, Mirrors, Name,
-    PhysicalExtentSize, Size, Stripes, StripeSize, Workers}
+use Rattle.command_table.specs.declared.option_key.OptionKey.TheVariants.{Abort, Alloc, Extents, MetadataCopies, Mirrors, Name}
+use Rattle.command_table.specs.declared.option_key.OptionKey.TheVariants.{PhysicalExtentSize, Size, Stripes, StripeSize, Workers}
 use Rattle.command_table.specs.Options.{Word, is_key, letter_of, name_of, spells}
 use Rattle.lvm_words.specs.Parser.{rest_id}
 
@@ -129,7 +129,7 @@ some_is a b e = ap (λ o. unwrap_or o 0) e
 abbrev At : ℕ → Type 0
 At letter =
     (long_of (45 ∷ letter ∷ []) ≡ None) × (short_of (45 ∷ letter ∷ []) ≡ Some (letter ∷ []))
-        × (bytes_eq (45 ∷ letter ∷ []) (45 ∷ 45 ∷ []) ≡ false)
+    × (bytes_eq (45 ∷ letter ∷ []) (45 ∷ 45 ∷ []) ≡ false)
     × (slice_get (chars (letter ∷ [])) 0 ≡ Some letter) × (drop (length (encode_utf8 letter)) (letter ∷ []) ≡ [])
 
 pub short_word_of : (key : OptionKey) (letter : ℕ) → letter_of key ≡ Some letter

@@ -7,8 +7,8 @@ use Rattle.clap.specs.Lexer.{long_of, short_of}
 use Rattle.clap.specs.Faults.{flags_fault, settle_fault, turn_fault}
 use Rattle.clap.specs.Kinds.{Kinds, or_else}
 use Rattle.clap.specs.Simple.{Shape, new_shape}
-use Rattle.clap.specs.Walk.{Row, Text, Waiting, Walk, bundle_met, idle, option, positional, settled_rows, subcommand_met, walked,
-    with_values}
+use Rattle.clap.specs.Walk.{Row, Text, Waiting, Walk, bundle_met, idle, option, positional, settled_rows, subcommand_met, walked}
+use Rattle.clap.specs.Walk.{with_values}
 use Rattle.clap.specs.declared.builder.value_parser.Reading.TheVariants as reading
 use Rattle.clap.specs.declared.error.kind.ErrorKind.TheVariants as kind
 use Rattle.clap.specs.declared.parser.matches.ValueSource.TheVariants.{CommandLine}
@@ -106,8 +106,13 @@ long_step : (options : List OptionRow) (row : OptionRow) (rows : List Row) (last
     ≡ walk_at (settled_rows (rules_built options) (pending_for last) rows) (waits row)
 unfolding walked
 long_step options row rows last takes =
-    rw (no_subcommand (waiting_for last) (45 ∷ 45 ∷ name_of row.key), not_only_hyphens row.key, long_word_of row.key,
-        found_by_long options row takes.stands, takes.one) refl
+    rw (
+      no_subcommand (waiting_for last) (45 ∷ 45 ∷ name_of row.key),
+      not_only_hyphens row.key,
+      long_word_of row.key,
+      found_by_long options row takes.stands,
+      takes.one,
+    ) refl
 
 short_step : (options : List OptionRow) (row : OptionRow) (letter : ℕ) (rows : List Row) (last : Last) → letter_of row.key ≡ Some letter
     → TakesValue options row
@@ -116,8 +121,16 @@ short_step : (options : List OptionRow) (row : OptionRow) (letter : ℕ) (rows :
 unfolding walked bundle_met
 short_step options row letter rows last is takes =
     let facts = short_word_of row.key letter is in
-    rw (no_subcommand (waiting_for last) (45 ∷ letter ∷ []), facts.2, facts.0, facts.1, facts.3, facts.4,
-        found_by_short options row letter is takes.stands, takes.one) refl
+    rw (
+      no_subcommand (waiting_for last) (45 ∷ letter ∷ []),
+      facts.2,
+      facts.0,
+      facts.1,
+      facts.3,
+      facts.4,
+      found_by_short options row letter is takes.stands,
+      takes.one,
+    ) refl
 
 pub option_step : (options : List OptionRow) (row : OptionRow) (word : Word) (rows : List Row) (last : Last) → Spelled row.key word
     → TakesValue options row
@@ -130,8 +143,13 @@ option_step options row _ rows last (short letter is) takes = short_step options
 long_fault : (options : List OptionRow) (row : OptionRow) (rows : List Row) (last : Last) → TakesValue options row
     → turn_fault (shape_at options) [] (walk_at rows last) (45 ∷ 45 ∷ name_of row.key) ≡ last_fault options rows last
 long_fault options row rows last takes =
-    rw (no_subcommand (waiting_for last) (45 ∷ 45 ∷ name_of row.key), not_only_hyphens row.key, long_word_of row.key,
-        found_by_long options row takes.stands, takes.one)
+    rw (
+      no_subcommand (waiting_for last) (45 ∷ 45 ∷ name_of row.key),
+      not_only_hyphens row.key,
+      long_word_of row.key,
+      found_by_long options row takes.stands,
+      takes.one,
+    )
     (or_none (last_fault options rows last))
 
 short_fault : (options : List OptionRow) (row : OptionRow) (letter : ℕ) (rows : List Row) (last : Last) → letter_of row.key ≡ Some letter
@@ -140,8 +158,16 @@ short_fault : (options : List OptionRow) (row : OptionRow) (letter : ℕ) (rows 
 unfolding bundle_met flags_fault
 short_fault options row letter rows last is takes =
     let facts = short_word_of row.key letter is in
-    rw (no_subcommand (waiting_for last) (45 ∷ letter ∷ []), facts.2, facts.0, facts.1, facts.3, facts.4,
-        found_by_short options row letter is takes.stands, takes.one)
+    rw (
+      no_subcommand (waiting_for last) (45 ∷ letter ∷ []),
+      facts.2,
+      facts.0,
+      facts.1,
+      facts.3,
+      facts.4,
+      found_by_short options row letter is takes.stands,
+      takes.one,
+    )
     (or_none (last_fault options rows last))
 
 pub option_fault : (options : List OptionRow) (row : OptionRow) (word : Word) (rows : List Row) (last : Last) → Spelled row.key word
@@ -157,8 +183,13 @@ long_flag : (options : List OptionRow) (row : OptionRow) (rows : List Row) (last
     ≡ walk_at (with_value row [] (settled_rows (rules_built options) (pending_for last) rows)) none
 unfolding walked
 long_flag options row rows last flag =
-    rw (no_subcommand (waiting_for last) (45 ∷ 45 ∷ name_of row.key), not_only_hyphens row.key, long_word_of row.key,
-        found_by_long options row flag.stands, flag.zero) refl
+    rw (
+      no_subcommand (waiting_for last) (45 ∷ 45 ∷ name_of row.key),
+      not_only_hyphens row.key,
+      long_word_of row.key,
+      found_by_long options row flag.stands,
+      flag.zero,
+    ) refl
 
 short_flag : (options : List OptionRow) (row : OptionRow) (letter : ℕ) (rows : List Row) (last : Last) → letter_of row.key ≡ Some letter
     → IsFlag options row
@@ -167,8 +198,16 @@ short_flag : (options : List OptionRow) (row : OptionRow) (letter : ℕ) (rows :
 unfolding walked bundle_met
 short_flag options row letter rows last is flag =
     let facts = short_word_of row.key letter is in
-    rw (no_subcommand (waiting_for last) (45 ∷ letter ∷ []), facts.2, facts.0, facts.1, facts.3, facts.4,
-        found_by_short options row letter is flag.stands, flag.zero) refl
+    rw (
+      no_subcommand (waiting_for last) (45 ∷ letter ∷ []),
+      facts.2,
+      facts.0,
+      facts.1,
+      facts.3,
+      facts.4,
+      found_by_short options row letter is flag.stands,
+      flag.zero,
+    ) refl
 
 pub flag_step : (options : List OptionRow) (row : OptionRow) (word : Word) (rows : List Row) (last : Last) → Spelled row.key word
     → IsFlag options row
@@ -181,8 +220,13 @@ flag_step options row _ rows last (short letter is) flag = short_flag options ro
 long_flag_fault : (options : List OptionRow) (row : OptionRow) (rows : List Row) (last : Last) → IsFlag options row
     → turn_fault (shape_at options) [] (walk_at rows last) (45 ∷ 45 ∷ name_of row.key) ≡ last_fault options rows last
 long_flag_fault options row rows last flag =
-    rw (no_subcommand (waiting_for last) (45 ∷ 45 ∷ name_of row.key), not_only_hyphens row.key, long_word_of row.key,
-        found_by_long options row flag.stands, flag.zero)
+    rw (
+      no_subcommand (waiting_for last) (45 ∷ 45 ∷ name_of row.key),
+      not_only_hyphens row.key,
+      long_word_of row.key,
+      found_by_long options row flag.stands,
+      flag.zero,
+    )
     (or_none (or_else (last_fault options rows last) []) ∙ or_none (last_fault options rows last))
 
 short_flag_fault : (options : List OptionRow) (row : OptionRow) (letter : ℕ) (rows : List Row) (last : Last)
@@ -191,10 +235,18 @@ short_flag_fault : (options : List OptionRow) (row : OptionRow) (letter : ℕ) (
 unfolding bundle_met flags_fault
 short_flag_fault options row letter rows last is flag =
     let facts = short_word_of row.key letter is in
-    rw (no_subcommand (waiting_for last) (45 ∷ letter ∷ []), facts.2, facts.0, facts.1, facts.3, facts.4,
-        found_by_short options row letter is flag.stands, flag.zero)
+    rw (
+      no_subcommand (waiting_for last) (45 ∷ letter ∷ []),
+      facts.2,
+      facts.0,
+      facts.1,
+      facts.3,
+      facts.4,
+      found_by_short options row letter is flag.stands,
+      flag.zero,
+    )
     (or_none (or_else (or_else (last_fault options rows last) []) []) ∙ or_none (or_else (last_fault options rows last) [])
-        ∙ or_none (last_fault options rows last))
+    ∙ or_none (last_fault options rows last))
 
 pub flag_fault : (options : List OptionRow) (row : OptionRow) (word : Word) (rows : List Row) (last : Last) → Spelled row.key word
     → IsFlag options row

@@ -1,6 +1,6 @@
 -- Whether a word strays depends on the options before it alone.
-use Rattle.std.proofs.Common.{◌≡◌, ◌∙◌, ◌<◌, ◌≤◌, ◌+◌, drop_of_length-le, ℕ, ◌&&◌, if◌then◌else◌, Bool, not, true, false, List, [], ◌∷◌,
-    ◌++◌, drop, length, get_or, Option, Some, None, refl, ap, sym, subst, inl, inr, ◌⊎◌}
+use Rattle.std.proofs.Common.{◌≡◌, ◌∙◌, ◌<◌, ◌≤◌, ◌+◌, drop_of_length-le, ℕ, ◌&&◌, if◌then◌else◌, Bool, not, true, false, List, [], ◌∷◌}
+use Rattle.std.proofs.Common.{◌++◌, drop, length, get_or, Option, Some, None, refl, ap, sym, subst, inl, inr, ◌⊎◌}
 use Rattle.std.proofs.lemmas.Bool.{cases_Bool}
 use Rattle.std.proofs.lemmas.List.{drop_more}
 use Rattle.std.specs.declared.string.String.{String}
@@ -9,8 +9,8 @@ use Rattle.command_table.specs.declared.option_key.OptionKey.{OptionKey}
 use Rattle.command_table.specs.declared.role.Role.TheVariants as role
 use Rattle.command_table.specs.declared.table.OptionRow.{OptionRow}
 use Rattle.command_table.specs.Options.{Word, is_dashed, words_of}
-use Rattle.command_table.specs.Words.{Split, after_role, has_key, nothing_split, option_named, role_of, role_of_option, role_of_other,
-    role_of_row}
+use Rattle.command_table.specs.Words.{Split, after_role, has_key, nothing_split, option_named, role_of, role_of_option, role_of_other}
+use Rattle.command_table.specs.Words.{role_of_row}
 use Rattle.lvm_words.specs.Parser.{after_split, is_stray, next_seen, no_stray, seen_after}
 use Rattle.lvm_words.proofs.Forms.{Form, flag, form, takes}
 
@@ -96,4 +96,4 @@ pub all_fine : (rows : List OptionRow) (seen : List OptionKey) {A : Type 0} (wor
 unfolding fine_from
 all_fine rows seen {A = A} words i past same =
     sym (ap (λ (ws : List (String A)). fine_from rows seen (words_of ws)) (drop_of_length-le words past)) ∙ same
-        ∙ sym (strays_alike rows (words_of words) nothing_split)
+    ∙ sym (strays_alike rows (words_of words) nothing_split)

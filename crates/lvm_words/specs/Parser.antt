@@ -1,6 +1,6 @@
 -- The simple command of clap for a list of options, and what it has to give.
-use Rattle.std.specs.Prelude.{◌≡◌, ℕ, ◌+◌, ◌&&◌, Bool, not, if◌then◌else◌, true, false, List, [], ◌∷◌, ◌++◌, map, Option, Some, None, codes,
-    find, fold, is_none, unwrap_or}
+use Rattle.std.specs.Prelude.{◌≡◌, ℕ, ◌+◌, ◌&&◌, Bool, not, if◌then◌else◌, true, false, List, [], ◌∷◌, ◌++◌, map, Option, Some, None, codes}
+use Rattle.std.specs.Prelude.{find, fold, is_none, unwrap_or}
 use Rattle.std.specs.List.{list_all}
 use Rattle.std.specs.Option.{option_and_then, option_map_or}
 use Rattle.clap.specs.Simple.{App, new_rule, new_shape}

@@ -1,6 +1,6 @@
 -- A sector has one reading, and none where it is refused.
-use Rattle.std.proofs.Common.{◌≡◌, ◌≢◌, ◌≤◌, ◌↔◌, IsTrue, ℕ, ◌%◌, Bool, true, false, List, Option, None, Some, MatchOption, refl, sym, ap,
-    ◌∙◌, subst, arith}
+use Rattle.std.proofs.Common.{◌≡◌, ◌≢◌, ◌≤◌, ◌↔◌, IsTrue, ℕ, ◌%◌, Bool, true, false, List, Option, None, Some, MatchOption, refl, sym, ap}
+use Rattle.std.proofs.Common.{◌∙◌, subst, arith}
 use Rattle.sector_base.specs.Fields.{field}
 use Rattle.mda_header.specs.declared.header.Locn.{Locn}
 use Rattle.mda_header.specs.declared.header.MdaHeader.{MdaHeader}
@@ -51,7 +51,7 @@ one_reading sector a b is is' =
     let size : a.size ≡ b.size = sym is.size ∙ is'.size in
     let committed : IsCommitted sector b.size a.committed = subst (λ (n : ℕ). IsCommitted sector n a.committed) size is.committed in
     let precommitted : IsPrecommitted sector b.size a.precommitted =
-        subst (λ (n : ℕ). IsPrecommitted sector n a.precommitted) size is.precommitted in
+    subst (λ (n : ℕ). IsPrecommitted sector n a.precommitted) size is.precommitted in
     λ i. record {
       start = (sym is.start ∙ is'.start) i;
       size = size i;

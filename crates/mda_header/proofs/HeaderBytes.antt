@@ -1,6 +1,6 @@
 -- What is put into a sector of zeros, one field behind the other, is what the checksum covers.
-use Rattle.std.proofs.Common.{◌≡◌, ◌≤◌, ℕ, ◌+◌, Bool, true, false, cond, List, ◌++◌, length, drop, replicate, codes, Option, None, Some,
-    unwrap_or, refl, ap, ◌∙◌, arith, length-append, append_assoc}
+use Rattle.std.proofs.Common.{◌≡◌, ◌≤◌, ℕ, ◌+◌, Bool, true, false, cond, List, ◌++◌, length, drop, replicate, codes, Option, None, Some}
+use Rattle.std.proofs.Common.{unwrap_or, refl, ap, ◌∙◌, arith, length-append, append_assoc}
 use Rattle.std.proofs.lemmas.List.{drop-replicate, length-replicate}
 use Rattle.std.specs.Int.{from_bool}
 use Rattle.sector_base.specs.Checksum.{checksum, lvm_crc_start}
@@ -58,17 +58,17 @@ covered_put header flags base s1 s2 s3 s4 s5 s6 zeros is_flags put1 put2 put3 pu
     let second : List ℕ = locn_bytes header.precommitted 0 in
     let to2 : s2 ≡ with_bytes base 4 (magic ++ version) = one_more base magic version s1 s2 4 20 put1 put2 refl (omega arith) in
     let to3 : s3 ≡ with_bytes base 4 (magic ++ version ++ start) =
-        one_more base (magic ++ version) start s2 s3 4 24 to2 put3 refl (omega arith) in
+    one_more base (magic ++ version) start s2 s3 4 24 to2 put3 refl (omega arith) in
     let to4 : s4 ≡ with_bytes base 4 (magic ++ version ++ start ++ area) =
-        one_more base (magic ++ version ++ start) area s3 s4 4 32 to3 put4 refl (omega arith) in
+    one_more base (magic ++ version ++ start) area s3 s4 4 32 to3 put4 refl (omega arith) in
     let to5 : s5 ≡ with_bytes base 4 (magic ++ version ++ start ++ area ++ first) =
-        one_more base (magic ++ version ++ start ++ area) first s4 s5 4 40 to4 put5 refl (omega arith) in
+    one_more base (magic ++ version ++ start ++ area) first s4 s5 4 40 to4 put5 refl (omega arith) in
     let long : length (magic ++ version ++ start ++ area ++ first) ≡ 60 =
-        omega (arith, length-append (magic ++ version ++ start ++ area) first, length-locn_bytes header.committed flags) in
+    omega (arith, length-append (magic ++ version ++ start ++ area) first, length-locn_bytes header.committed flags) in
     let to6 : s6 ≡ with_bytes base 4 (magic ++ version ++ start ++ area ++ first ++ second) =
-        one_more base (magic ++ version ++ start ++ area ++ first) second s5 s6 4 64 to5 put6 (omega arith) (omega arith) in
+    one_more base (magic ++ version ++ start ++ area ++ first) second s5 s6 4 64 to5 put6 (omega arith) (omega arith) in
     let longer : 4 + length (magic ++ version ++ start ++ area ++ first ++ second) ≡ 88 =
-        omega (arith, length-append (magic ++ version ++ start ++ area ++ first) second, length-locn_bytes header.precommitted 0) in
+    omega (arith, length-append (magic ++ version ++ start ++ area ++ first) second, length-locn_bytes header.precommitted 0) in
     ap (drop 4) to6
     ∙ drop-with_bytes base 4 (magic ++ version ++ start ++ area ++ first ++ second) (omega arith)
     ∙ ap (λ (n : ℕ). magic ++ version ++ start ++ area ++ first ++ second ++ drop n base) longer

@@ -1,6 +1,6 @@
 -- The bytes of a header are read as that header.
-use Rattle.std.proofs.Common.{◌≡◌, ◌<◌, ◌≤◌, ◌↔◌, IsTrue, ℕ, ◌+◌, ◌%◌, ◌^◌, Bool, true, false, List, ◌++◌, drop, replicate, Option, None,
-    Some, IfSome, if◌then◌else◌, refl, sym, ◌∙◌, arith}
+use Rattle.std.proofs.Common.{◌≡◌, ◌<◌, ◌≤◌, ◌↔◌, IsTrue, ℕ, ◌+◌, ◌%◌, ◌^◌, Bool, true, false, List, ◌++◌, drop, replicate, Option, None}
+use Rattle.std.proofs.Common.{Some, IfSome, if◌then◌else◌, refl, sym, ◌∙◌, arith}
 use Rattle.std.proofs.lemmas.Bool.{true≢false}
 use Rattle.sector_base.specs.Checksum.{checksum, lvm_crc_start}
 use Rattle.sector_base.specs.Fields.{field, little_bytes}
@@ -27,7 +27,7 @@ entry_read sector rest at size flags locn fits sum_fits inside offset_is size_is
       λ i. record {
         offset =
             sym (offset_is ∙ field-front 8 locn.offset
-                (little_bytes 8 locn.size ++ (little_bytes 4 locn.sum ++ little_bytes 4 flags) ++ rest) low) i;
+            (little_bytes 8 locn.size ++ (little_bytes 4 locn.sum ++ little_bytes 4 flags) ++ rest) low) i;
         size = sym (size_is ∙ field-front 8 locn.size (little_bytes 4 locn.sum ++ little_bytes 4 flags ++ rest) short) i;
         sum = sym (sum_is ∙ field-front 4 locn.sum (little_bytes 4 flags ++ rest) sum_fits) i;
       },
@@ -41,8 +41,8 @@ unfolding header_bytes summed_bytes
 committed_read start size None precommitted ignored fits sum inside = refl
 committed_read start size (Some locn) precommitted ignored fits sum inside =
     entry_read (header_bytes (of_fields start size (Some locn) precommitted ignored))
-        (drop 64 (header_bytes (of_fields start size (Some locn) precommitted ignored))) 40 size (if ignored then 1 else 0) locn fits sum
-        inside refl refl refl
+    (drop 64 (header_bytes (of_fields start size (Some locn) precommitted ignored))) 40 size (if ignored then 1 else 0) locn fits sum
+    inside refl refl refl
 
 precommitted_read : (start size : ℕ) (committed precommitted : Option Locn) (ignored : Bool) → size < 256 ^ 8
     → IfSome precommitted (λ text. text.sum < 2 ^ 32) → IsNoneOrInside size precommitted
@@ -53,10 +53,10 @@ precommitted_read start size (Some first) None ignored fits sum inside =
     λ is. let behind : 512 ≤ 0 = is.behind_header in absurd (omega arith)
 precommitted_read start size None (Some locn) ignored fits sum inside =
     entry_read (header_bytes (of_fields start size None (Some locn) ignored)) (replicate 424 0) 64 size 0 locn fits sum inside refl refl
-        refl
+    refl
 precommitted_read start size (Some first) (Some locn) ignored fits sum inside =
     entry_read (header_bytes (of_fields start size (Some first) (Some locn) ignored)) (replicate 424 0) 64 size 0 locn fits sum inside refl
-        refl refl
+    refl refl
 
 ignored_read : (start size : ℕ) (committed precommitted : Option Locn) (ignored : Bool)
     → IsTrue ignored ↔ (field 4 (header_bytes (of_fields start size committed precommitted ignored)) 60 % 2 ≡ 1)

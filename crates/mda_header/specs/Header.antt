@@ -68,7 +68,7 @@ IsRefused sector start size (SizeBad said sought) =
     IsSound sector × (field 8 sector 24 ≡ start) × (field 8 sector 32 ≡ said) × (sought ≡ size) × (said ≢ size)
 IsRefused sector start size (LocnOutside offset text_size) =
     IsOfArea sector start size × ((locn_at sector 40).offset ≡ offset) × ((locn_at sector 40).size ≡ text_size) × (offset ≢ 0)
-        × (¬ IsInside size (locn_at sector 40))
+    × (¬ IsInside size (locn_at sector 40))
 
 -- a header of whatever area that has no committed text: nothing is held there, whatever start and size it says
 pub record HoldsNothing (sector : List ℕ) : Type 0 where

@@ -27,7 +27,7 @@ pub taken-text_at : (area : Area) (locn : Locn) (sectors : List (List ℕ)) (byt
     → bytes ≡ text_at sector_at area.size locn.offset locn.size
 taken-text_at area locn sectors bytes sector_at good inside all is read =
     bytes-text_at sector_at area.size locn.offset locn.size sectors bytes good.size_is_whole good.has_ring inside.behind_header
-        inside.before_end inside.has_room all read is.taken
+    inside.before_end inside.has_room all read is.taken
 
 -- they are those of the text that was put into the sectors
 pub taken-text_sectors : (locn : Locn) (sectors : List (List ℕ)) (bytes text : List ℕ) → IsTaken locn sectors bytes

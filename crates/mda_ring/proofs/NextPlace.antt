@@ -81,11 +81,11 @@ apart size (Some text) count place whole big inside some is = λ sector next old
     let begins : place.offset ≡ next_offset size (Some text) = is.offset_is in
     let short : text.size ≤ size - 512 = inside.has_room in
     let starts : (place.offset ≡ 512 * need (text.offset + text.size))
-        ⊎ (place.offset + (size - 512) ≡ 512 * need (text.offset + text.size)) =
+    ⊎ (place.offset + (size - 512) ≡ 512 * need (text.offset + text.size)) =
     elim (next_offset-cases size text whole big inside (omega arith)) [ inl low ↦ inl (begins ∙ low) | inr high ↦ inr (omega arith) ]
     in
     shared size text.offset text.size place.offset place.sectors next.0 old.0 (byte_place size place.offset next.0)
-        (byte_place size text.offset old.0)
+    (byte_place size text.offset old.0)
     whole big inside.behind_header inside.before_end inside.has_bytes inside.has_room (omega arith) (omega arith) starts next.1 old.1
     (byte_place-cases size place.offset next.0 behind before (omega (arith, next.1)))
     (byte_place-cases size text.offset old.0 inside.behind_header inside.before_end (omega (arith, old.1)))

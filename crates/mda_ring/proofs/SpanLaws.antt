@@ -1,8 +1,8 @@
 -- The spans of a text have the sectors that its bytes touch, in the order of the bytes.
-use Rattle.std.proofs.Common.{◌≡◌, IsTrue, ℕ, ◌+◌, ◌-◌, ◌*◌, ◌/◌, ◌%◌, ◌<◌, ◌≤◌, ◌↔◌, min, true, false, ◌&&◌, ◌==◌, nat_le, nat_lt, None,
-    Some, ◌⊎◌, inl, inr, sym, ◌∙◌, arith}
-use Rattle.std.proofs.lemmas.Bool.{and_from, and_parts, cases_order, eq-eqb, eqb-true, le-leb, leb-true, lt-ltb, ltb-true, or_cases,
-    or_left, or_right, cond-true, cond-false, le-ltb, false≢true}
+use Rattle.std.proofs.Common.{◌≡◌, IsTrue, ℕ, ◌+◌, ◌-◌, ◌*◌, ◌/◌, ◌%◌, ◌<◌, ◌≤◌, ◌↔◌, min, true, false, ◌&&◌, ◌==◌, nat_le, nat_lt, None}
+use Rattle.std.proofs.Common.{Some, ◌⊎◌, inl, inr, sym, ◌∙◌, arith}
+use Rattle.std.proofs.lemmas.Bool.{and_from, and_parts, cases_order, eq-eqb, eqb-true, le-leb, leb-true, lt-ltb, ltb-true, or_cases}
+use Rattle.std.proofs.lemmas.Bool.{or_left, or_right, cond-true, cond-false, le-ltb, false≢true}
 use Rattle.sector_base.specs.Spans.{covers}
 use Rattle.sector_base.specs.declared.spans.Span.{Span}
 use Rattle.mda_ring.specs.declared.area.Area.{Area}
@@ -77,8 +77,10 @@ touched_where size offset count sector whole big behind before some short is =
 -- the sectors, in order, where they come round
 pub order_round : (area : Area) (offset count : ℕ) → IsArea area → 512 ≤ offset → offset < area.size
     → sectors_to_end area.size offset < touched_count area.size offset count → (k : ℕ) → k < touched_count area.size offset count
-    → nth_sector (span_of_area area (offset / 512) (min (touched_count area.size offset count) (sectors_to_end area.size offset)),
-    Some (span_of_area area 1 (touched_count area.size offset count - sectors_to_end area.size offset))) k
+    → nth_sector (
+      span_of_area area (offset / 512) (min (touched_count area.size offset count) (sectors_to_end area.size offset)),
+      Some (span_of_area area 1 (touched_count area.size offset count - sectors_to_end area.size offset)),
+    ) k
     ≡ area.start / 512 + ring_sector area.size offset k
 order_round area offset count good behind before round k within =
     let all : ℕ = touched_count area.size offset count in
@@ -93,8 +95,10 @@ order_round area offset count good behind before round k within =
 -- the sectors that are covered, where they come round
 pub cover_round : (area : Area) (offset count : ℕ) → IsArea area → 512 ≤ offset → offset < area.size → 1 ≤ count → count ≤ area.size - 512
     → sectors_to_end area.size offset < touched_count area.size offset count → (pv sector : ℕ)
-    → IsTrue (spans_cover (span_of_area area (offset / 512) (min (touched_count area.size offset count) (sectors_to_end area.size offset)),
-    Some (span_of_area area 1 (touched_count area.size offset count - sectors_to_end area.size offset))) pv sector)
+    → IsTrue (spans_cover (
+      span_of_area area (offset / 512) (min (touched_count area.size offset count) (sectors_to_end area.size offset)),
+      Some (span_of_area area 1 (touched_count area.size offset count - sectors_to_end area.size offset)),
+    ) pv sector)
     ↔ IsTouched area offset count pv sector
 cover_round area offset count good behind before some short round pv sector =
     let all : ℕ = touched_count area.size offset count in
@@ -106,23 +110,23 @@ cover_round area offset count good behind before some short round pv sector =
       λ is. elim (or_cases (covers first pv sector) (covers second pv sector) is) [
         | inl a ↦
             let in_first : (area.pv ≡ pv) × (area.start / 512 + offset / 512 ≤ sector)
-                × (sector < area.start / 512 + offset / 512 + min all to_end) = covers_tells first pv sector a in
+            × (sector < area.start / 512 + offset / 512 + min all to_end) = covers_tells first pv sector a in
             record {
               of_disk = sym in_first.0;
               behind_start = omega arith;
               touches =
                   touched_ahead area.size offset count (sector - area.start / 512) whole big behind before some short (omega arith)
-                      (omega arith) (omega arith);
+                  (omega arith) (omega arith);
             }
         | inr b ↦
             let in_second : (area.pv ≡ pv) × (area.start / 512 + 1 ≤ sector) × (sector < area.start / 512 + 1 + (all - to_end)) =
-                covers_tells second pv sector b in
+            covers_tells second pv sector b in
             record {
               of_disk = sym in_second.0;
               behind_start = omega arith;
               touches =
                   touched_round area.size offset count (sector - area.start / 512) whole big behind before some short (omega arith)
-                      (omega arith);
+                  (omega arith);
             }
       ],
       λ is.
@@ -138,8 +142,10 @@ cover_round area offset count good behind before some short round pv sector =
 -- the sectors that are covered, where none comes round
 pub cover_ahead : (area : Area) (offset count : ℕ) → IsArea area → 512 ≤ offset → offset < area.size → 1 ≤ count → count ≤ area.size - 512
     → touched_count area.size offset count ≤ sectors_to_end area.size offset → (pv sector : ℕ)
-    → IsTrue (spans_cover (span_of_area area (offset / 512) (min (touched_count area.size offset count) (sectors_to_end area.size offset)),
-    None) pv sector)
+    → IsTrue (spans_cover (
+      span_of_area area (offset / 512) (min (touched_count area.size offset count) (sectors_to_end area.size offset)),
+      None,
+    ) pv sector)
     ↔ IsTouched area offset count pv sector
 cover_ahead area offset count good behind before some short straight pv sector =
     let all : ℕ = touched_count area.size offset count in
@@ -150,13 +156,13 @@ cover_ahead area offset count good behind before some short straight pv sector =
       λ is. elim (or_cases (covers first pv sector) false is) [
         | inl a ↦
             let in_first : (area.pv ≡ pv) × (area.start / 512 + offset / 512 ≤ sector)
-                × (sector < area.start / 512 + offset / 512 + min all to_end) = covers_tells first pv sector a in
+            × (sector < area.start / 512 + offset / 512 + min all to_end) = covers_tells first pv sector a in
             record {
               of_disk = sym in_first.0;
               behind_start = omega arith;
               touches =
                   touched_ahead area.size offset count (sector - area.start / 512) whole big behind before some short (omega arith)
-                      (omega arith) (omega arith);
+                  (omega arith) (omega arith);
             }
         | inr never ↦ absurd (false≢true never)
       ],

@@ -1,10 +1,10 @@
 -- The bytes of a text in the sectors of a ring, and in those that it is put into.
-use Rattle.std.proofs.Common.{◌≡◌, ℕ, ◌+◌, ◌-◌, ◌*◌, ◌/◌, ◌%◌, ◌<◌, ◌≤◌, min, List, [], ◌∷◌, ◌++◌, length, take, drop, map, replicate,
-    get_or, ◌⊎◌, inl, inr, refl, sym, ap, ◌∙◌, cond, nat_eq, arith, length-append}
+use Rattle.std.proofs.Common.{◌≡◌, ℕ, ◌+◌, ◌-◌, ◌*◌, ◌/◌, ◌%◌, ◌<◌, ◌≤◌, min, List, [], ◌∷◌, ◌++◌, length, take, drop, map, replicate}
+use Rattle.std.proofs.Common.{get_or, ◌⊎◌, inl, inr, refl, sym, ap, ◌∙◌, cond, nat_eq, arith, length-append}
 use Rattle.std.proofs.Math.Nat.{mod-eq_of_lt}
 use Rattle.std.proofs.lemmas.Bool.{cases_lt}
-use Rattle.std.proofs.lemmas.List.{drop-replicate, drop_min, ext_get_or, get_or-append_right, get_or-drop, get_or-replicate, get_or-take,
-    get_or_append_left, get_or_at, get_or_past, take_at, take_min, take_rest}
+use Rattle.std.proofs.lemmas.List.{drop-replicate, drop_min, ext_get_or, get_or-append_right, get_or-drop, get_or-replicate, get_or-take}
+use Rattle.std.proofs.lemmas.List.{get_or_append_left, get_or_at, get_or_past, take_at, take_min, take_rest}
 use Rattle.std.proofs.lemmas.List.FromFn.{fill_by_all, get_or-map-range_with_len, length-map-range_with_len, map-range_with_len_more}
 use Rattle.std.specs.List.{range_with_len}
 use Rattle.sector_base.specs.Fields.{with_bytes}
@@ -132,7 +132,7 @@ pub bytes-text_sectors : (text : List ℕ) (sectors : List (List ℕ)) (bytes : 
 bytes-text_sectors text sectors bytes skip count put aligned long taken =
     let total : ℕ = need (length text + 1) in
     let all : length bytes ≡ length text + 1 =
-        ap length taken ∙ length-map-range_with_len (λ m. byte_in sectors (skip + m)) 0 count ∙ long in
+    ap length taken ∙ length-map-range_with_len (λ m. byte_in sectors (skip + m)) 0 count ∙ long in
     let each : (k : ℕ) → k < length text + 1 → get_or bytes k 0 ≡ get_or (text ++ 0 ∷ []) k 0 = λ k within.
     ap (λ (l : List ℕ). get_or l k 0) taken
     ∙ get_or-map-range_with_len (λ m. byte_in sectors (skip + m)) 0 count k k 0 (omega arith) (omega arith)

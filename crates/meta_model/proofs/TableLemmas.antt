@@ -1,6 +1,6 @@
 -- What is pushed into a table goes last.
-use Rattle.std.proofs.Common.{◌≡◌, ℕ, ◌+◌, false, true≢false, nat_eq, List, [], ◌∷◌, ◌++◌, take, slice_get, Option, Some, None, is_some,
-    Result, Ok, Err, is_err, refl, ap, ◌∙◌}
+use Rattle.std.proofs.Common.{◌≡◌, ℕ, ◌+◌, false, true≢false, nat_eq, List, [], ◌∷◌, ◌++◌, take, slice_get, Option, Some, None, is_some}
+use Rattle.std.proofs.Common.{Result, Ok, Err, is_err, refl, ap, ◌∙◌}
 use Rattle.std.proofs.lemmas.List.{take_more}
 use Rattle.std.proofs.lemmas.Option.{slice_get_within, get_or_from_slice_get}
 use Rattle.std.specs.Cmp.Lexicographic.{pointwise}

@@ -1,6 +1,6 @@
 -- What the keys of a section of lvm2's metadata give, by their kinds.
-use Rattle.std.specs.Prelude.{ℕ, Bool, true, false, not, ◌==◌, ◌&&◌, nat_eq, if◌then◌else◌, List, [], ◌∷◌, length, filter, find, Option,
-    Some, None, option_map, Result, Ok, Err}
+use Rattle.std.specs.Prelude.{ℕ, Bool, true, false, not, ◌==◌, ◌&&◌, nat_eq, if◌then◌else◌, List, [], ◌∷◌, length, filter, find, Option}
+use Rattle.std.specs.Prelude.{Some, None, option_map, Result, Ok, Err}
 use Rattle.std.specs.Option.{option_map_or}
 use Rattle.std.specs.List.{list_all}
 use Rattle.std.specs.Cmp.Lexicographic.{pointwise}
@@ -111,7 +111,7 @@ id key items = required text key items >>= λ printed. or_refused (BadId key) (i
 abbrev pub status : List (List ℕ) → List ℕ → Items → Read (List (List ℕ))
 status known key items =
     required words key items >>= λ found. option_map_or (λ word. Err (UnknownStatus word)) (find (λ word. not (is_among known word)) found)
-        (Ok found)
+    (Ok found)
 
 -- as many as were said
 abbrev pub counted : {A : Type 0} → ℕ → List A → Read (List A)

@@ -2,8 +2,8 @@
 use Rattle.std.specs.Prelude.{ℕ, ◌&&◌, nat_le, if◌then◌else◌, List, [], ◌∷◌, map, codes}
 use Rattle.sector_base.specs.Shown.{Value, number, text}
 use Rattle.meta_model.specs.declared.refusal.GroupRefusal.{GroupRefusal}
-use Rattle.meta_model.specs.declared.refusal.GroupRefusal.TheVariants.{NoMemory, Missing, WrongKind, UnknownStatus, UnknownSegment, Foreign,
-    CountDiffers, UnknownName, BadName, BadId}
+use Rattle.meta_model.specs.declared.refusal.GroupRefusal.TheVariants.{NoMemory, Missing, WrongKind, UnknownStatus, UnknownSegment, Foreign}
+use Rattle.meta_model.specs.declared.refusal.GroupRefusal.TheVariants.{CountDiffers, UnknownName, BadName, BadId}
 
 -- a byte that can be printed, and a question mark in place of any other
 abbrev pub printable_byte : ℕ → ℕ

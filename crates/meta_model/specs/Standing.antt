@@ -1,6 +1,6 @@
 -- Which tree stands for which group, key by key, in the order in which lvm2's metadata is examined here.
-use Rattle.std.specs.Prelude.{◌≡◌, ℕ, Bool, false, not, ◌==◌, ◌&&◌, nat_eq, nat_lt, if◌then◌else◌, List, [], ◌∷◌, ◌++◌, map, take, drop,
-    Option, Some, None, option_map, Ok, Err, codes, is_none, filter_map}
+use Rattle.std.specs.Prelude.{◌≡◌, ℕ, Bool, false, not, ◌==◌, ◌&&◌, nat_eq, nat_lt, if◌then◌else◌, List, [], ◌∷◌, ◌++◌, map, take, drop}
+use Rattle.std.specs.Prelude.{Option, Some, None, option_map, Ok, Err, codes, is_none, filter_map}
 use Rattle.std.specs.Option.{option_or}
 use Rattle.std.specs.Char.{is_ascii_digit}
 use Rattle.std.specs.List.{list_all, position}
@@ -9,8 +9,8 @@ use Rattle.lvm_name.specs.Names.{is_among, group_name_refusal, any_name_refusal}
 use Rattle.conf_text.specs.Entries.{Conf, ConfEntry}
 use Rattle.conf_text.specs.Grammar.{IsTextOf}
 use Rattle.conf_text.specs.Items.{items}
-use Rattle.meta_model.specs.Keys.{Items, Read, ◌>>=◌, each, or_refused, number, text, words, pairs, section, required, optional, only,
-    only_text, only_number, id, status, counted}
+use Rattle.meta_model.specs.Keys.{Items, Read, ◌>>=◌, each, or_refused, number, text, words, pairs, section, required, optional, only}
+use Rattle.meta_model.specs.Keys.{only_text, only_number, id, status, counted}
 use Rattle.meta_model.specs.declared.refusal.GroupRefusal.TheVariants.{Missing, WrongKind, UnknownSegment, Foreign, UnknownName, BadName}
 use Rattle.meta_model.specs.declared.group.Group.{Group}
 use Rattle.meta_model.specs.declared.pv.Pv.{Pv}
@@ -69,7 +69,7 @@ pub record Names : Type 0 where
 abbrev pub on_named : Names → List ℕ → Option On
 on_named names name =
     option_or (option_map (λ number. on.Pv number) (position (pointwise nat_eq name) names.pvs))
-        (option_map (λ number. on.Lv number) (position (pointwise nat_eq name) names.lvs))
+    (option_map (λ number. on.Lv number) (position (pointwise nat_eq name) names.lvs))
 
 -- a leg: the name of what it lies on, and its first extent there
 abbrev pub leg_of : Names → List ℕ × ℕ → Read Leg
@@ -163,8 +163,11 @@ vg_words = codes "RESIZEABLE" ∷ codes "READ" ∷ codes "WRITE" ∷ []
 -- the status that these words give a group
 abbrev pub vg_status : List (List ℕ) → VgStatus
 vg_status words =
-    record { resizeable = is_among words (codes "RESIZEABLE"); read = is_among words (codes "READ");
-        write = is_among words (codes "WRITE") }
+    record {
+      resizeable = is_among words (codes "RESIZEABLE");
+      read = is_among words (codes "READ");
+      write = is_among words (codes "WRITE");
+    }
 
 -- the group of a section with these keys, or the first that is refused; `PVMOVE` among its status words decides nothing
 abbrev pub group_in : List ℕ → Items → Read Group

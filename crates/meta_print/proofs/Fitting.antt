@@ -44,15 +44,15 @@ unfolding kind
 lv_words-content status =
     both (both (both (both (both (both
     (word_content status.read (codes "READ") refl) (word_content status.write (codes "WRITE") refl))
-        (word_content status.visible (codes "VISIBLE") refl)) (word_content status.fixed_minor (codes "FIXED_MINOR") refl))
+    (word_content status.visible (codes "VISIBLE") refl)) (word_content status.fixed_minor (codes "FIXED_MINOR") refl))
     (word_content status.pvmove (codes "PVMOVE") refl)) (word_content status.locked (codes "LOCKED") refl))
-        (word_content status.notsynced (codes "NOTSYNCED") refl)
+    (word_content status.notsynced (codes "NOTSYNCED") refl)
 
 pub vg_words-content : (status : VgStatus) → AreContents (vg_words status)
 unfolding kind
 vg_words-content status =
     both (both (word_content status.resizeable (codes "RESIZEABLE") refl) (word_content status.read (codes "READ") refl))
-        (word_content status.write (codes "WRITE") refl)
+    (word_content status.write (codes "WRITE") refl)
 
 -- ---- a physical volume
 
@@ -64,9 +64,9 @@ pv_fits pv h = record {
       fits_text (codes "id") (hyphen_form pv.id) (key_named (codes "id") refl refl) refl h.id_again.content
       (fits_text (codes "device") pv.device (key_named (codes "device") refl refl) refl h.device_content
       (fits_words (codes "status") (word_if pv.allocatable (codes "ALLOCATABLE")) (key_named (codes "status") refl refl) refl
-          (word_content pv.allocatable (codes "ALLOCATABLE") refl).each
+      (word_content pv.allocatable (codes "ALLOCATABLE") refl).each
       (fits_words (codes "flags") (word_if pv.missing (codes "MISSING")) (key_named (codes "flags") refl refl) refl
-          (word_content pv.missing (codes "MISSING") refl).each
+      (word_content pv.missing (codes "MISSING") refl).each
       (fits_number (codes "dev_size") pv.dev_size (key_named (codes "dev_size") refl refl) refl h.size_fits
       (fits_number (codes "pe_start") pv.pe_start (key_named (codes "pe_start") refl refl) refl h.start_fits
       (fits_number (codes "pe_count") pv.pe_count (key_named (codes "pe_count") refl refl) refl h.count_fits fits_none))))));
@@ -95,7 +95,7 @@ striped_fits group start count stripe legs true start_fits count_fits stripe_fit
       (fits_number (codes "stripe_count") (length legs) (key_named (codes "stripe_count") refl refl) refl h.count_fits
       (fits_number (codes "stripe_size") stripe (key_named (codes "stripe_size") refl refl) refl stripe_fits
       (fits_assign (codes "stripes") (Many (flat_map (pair_of group) legs)) refl
-          (key_named (codes "stripes") refl refl, legs_can group legs h.each) (legs_small group legs h.each) fits_none)))));
+      (key_named (codes "stripes") refl refl, legs_can group legs h.each) (legs_small group legs h.each) fits_none)))));
 }
 striped_fits group start count stripe legs false start_fits count_fits stripe_fits h = record {
   later = codes "stripes" ∷ codes "stripe_count" ∷ codes "type" ∷ codes "extent_count" ∷ codes "start_extent" ∷ [];
@@ -105,7 +105,7 @@ striped_fits group start count stripe legs false start_fits count_fits stripe_fi
       (fits_text (codes "type") (codes "striped") (key_named (codes "type") refl refl) refl refl
       (fits_number (codes "stripe_count") (length legs) (key_named (codes "stripe_count") refl refl) refl h.count_fits
       (fits_assign (codes "stripes") (Many (flat_map (pair_of group) legs)) refl
-          (key_named (codes "stripes") refl refl, legs_can group legs h.each) (legs_small group legs h.each) fits_none))));
+      (key_named (codes "stripes") refl refl, legs_can group legs h.each) (legs_small group legs h.each) fits_none))));
 }
 
 mirror_fits : (group : Group) (start count region : ℕ) (moved : Option ℕ) (legs : List Leg) → start < 2 ^ 64 → count < 2 ^ 64
@@ -121,12 +121,12 @@ mirror_fits group start count region None legs start_fits count_fits region_fits
       (fits_number (codes "mirror_count") (length legs) (key_named (codes "mirror_count") refl refl) refl h.count_fits
       (fits_number (codes "region_size") region (key_named (codes "region_size") refl refl) refl region_fits
       (fits_assign (codes "mirrors") (Many (flat_map (pair_of group) legs)) refl
-          (key_named (codes "mirrors") refl refl, legs_can group legs h.each) (legs_small group legs h.each) fits_none)))));
+      (key_named (codes "mirrors") refl refl, legs_can group legs h.each) (legs_small group legs h.each) fits_none)))));
 }
 mirror_fits group start count region (Some moved) legs start_fits count_fits region_fits moved_fits h = record {
   later =
       codes "mirrors" ∷ codes "extents_moved" ∷ codes "region_size" ∷ codes "mirror_count" ∷ codes "type" ∷ codes "extent_count"
-          ∷ codes "start_extent" ∷ [];
+      ∷ codes "start_extent" ∷ [];
   fits =
       fits_number (codes "start_extent") start (key_named (codes "start_extent") refl refl) refl start_fits
       (fits_number (codes "extent_count") count (key_named (codes "extent_count") refl refl) refl count_fits
@@ -135,7 +135,7 @@ mirror_fits group start count region (Some moved) legs start_fits count_fits reg
       (fits_number (codes "region_size") region (key_named (codes "region_size") refl refl) refl region_fits
       (fits_number (codes "extents_moved") moved (key_named (codes "extents_moved") refl refl) refl moved_fits
       (fits_assign (codes "mirrors") (Many (flat_map (pair_of group) legs)) refl
-          (key_named (codes "mirrors") refl refl, legs_can group legs h.each) (legs_small group legs h.each) fits_none))))));
+      (key_named (codes "mirrors") refl refl, legs_can group legs h.each) (legs_small group legs h.each) fits_none))))));
 }
 
 kind_fits : (group : Group) (start count : ℕ) (kind : SegKind) → start < 2 ^ 64 → count < 2 ^ 64 → IsKind group kind

@@ -1,6 +1,6 @@
 -- What a tree gives of the group that it stands for.
-use Rattle.std.proofs.Common.{◌≡◌, ℕ, suc, ◌<◌, ◌^◌, Bool, true, false, cond, List, [], ◌∷◌, length, get_or, Option, Some, None, Ok, Err,
-    refl, sym, ap, subst, ◌∙◌, arith}
+use Rattle.std.proofs.Common.{◌≡◌, ℕ, suc, ◌<◌, ◌^◌, Bool, true, false, cond, List, [], ◌∷◌, length, get_or, Option, Some, None, Ok, Err}
+use Rattle.std.proofs.Common.{refl, sym, ap, subst, ◌∙◌, arith}
 use Rattle.std.specs.Prelude.{nat_eq, nat_lt, codes, option_map, slice_index_or}
 use Rattle.std.specs.Option.{option_or}
 use Rattle.std.specs.List.{position, AllByRecursion as Each}
@@ -58,8 +58,8 @@ placed : (names : List (List ℕ)) (name : List ℕ) (number : ℕ) → position
     → slice_index_or names number [] ≡ name
 placed names name number h =
     let parts : (number < length names) × (pointwise nat_eq name (get_or names number []) ≡ true)
-        × ((k : ℕ) → k < number → pointwise nat_eq name (get_or names k []) ≡ false) = position-Some (pointwise nat_eq name) names number []
-        h in sym (same_text name (get_or names number []) (sym parts.1))
+    × ((k : ℕ) → k < number → pointwise nat_eq name (get_or names k []) ≡ false) = position-Some (pointwise nat_eq name) names number []
+    h in sym (same_text name (get_or names number []) (sym parts.1))
 
 named_by : (names : Names) (name : List ℕ) (is : On) (pv lv : Option ℕ) → position (pointwise nat_eq name) names.pvs ≡ pv
     → position (pointwise nat_eq name) names.lvs ≡ lv
@@ -79,8 +79,11 @@ leg_from : (group : Group) (pair : List ℕ × ℕ) → IsGoodPair pair → (leg
 leg_from group pair good leg h =
     bound h (λ (is : On) found e.
     let same : name_of group is ≡ pair.0 = name_of-on group is ∙ found_named (names_of group) pair.0 is (there _ found) in
-    subst (IsLeg group) (same_Ok e) (record { found = ap (on_named (names_of group)) same ∙ there _ found;
-        content = subst IsContent (sym same) good.0; first_fits = good.1 }))
+    subst (IsLeg group) (same_Ok e) (record {
+      found = ap (on_named (names_of group)) same ∙ there _ found;
+      content = subst IsContent (sym same) good.0;
+      first_fits = good.1;
+    }))
 
 -- each is read
 pub each_from : {A B : Type 0} (read : A → Read B) (P : A → Type 0) (Q : B → Type 0) → ((x : A) → P x → (y : B) → read x ≡ Ok y → Q y)
@@ -101,8 +104,8 @@ legs_from group said key keys ls small good h =
     bound {x = counted said found} h1 (λ given given_is h2.
     let counts : (length found ≡ said) × (found ≡ given) = counted_as said found given given_is in
     let read : Each (IsLeg group) ls × (length ls ≡ length given) =
-        each_from (leg_of (names_of group)) IsGoodPair (IsLeg group) (leg_from group) given ls
-            (subst (Each IsGoodPair) counts.1 (pairs_read key keys found good found_is)) h2 in
+    each_from (leg_of (names_of group)) IsGoodPair (IsLeg group) (leg_from group) given ls
+    (subst (Each IsGoodPair) counts.1 (pairs_read key keys found good found_is)) h2 in
     record { count_fits = omega (arith, read.1, counts.0, ap length counts.1, small); each = read.0 }))
 
 stripe_from : (keys : Items) (stripe : ℕ) (test : Bool) → AreGood keys
@@ -115,9 +118,10 @@ striped_from group keys kind good h =
     bound h (λ said said_is h1.
     bound h1 (λ ls ls_is h2.
     bound h2 (λ stripe stripe_is e.
-    let is : IsKind group (Striped stripe ls) =
-        (stripe_from keys stripe (nat_lt 1 said) good stripe_is,
-            legs_from group said (codes "stripes") keys ls (number_read (codes "stripe_count") keys said good said_is) good ls_is) in
+    let is : IsKind group (Striped stripe ls) = (
+      stripe_from keys stripe (nat_lt 1 said) good stripe_is,
+      legs_from group said (codes "stripes") keys ls (number_read (codes "stripe_count") keys said good said_is) good ls_is,
+    ) in
     subst (IsKind group) (same_Ok e) is)))
 
 mirror_from : (group : Group) (keys : Items) (kind : SegKind) → AreGood keys → mirror (names_of group) keys ≡ Ok kind → IsKind group kind

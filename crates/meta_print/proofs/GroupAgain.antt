@@ -64,7 +64,7 @@ lvs_entries-items : (group : Group) (lvs : List (List ℕ × Lv)) → items (lvs
 lvs_entries-items group [] = refl
 lvs_entries-items group (lv ∷ lvs) =
     ap items (sym (append-nil (lvs_entries group (lv ∷ lvs))))
-        ∙ section_item (codes "logical_volumes") (flat_map (lv_entries group) (lv ∷ lvs)) [] (lvs_whole group (lv ∷ lvs))
+    ∙ section_item (codes "logical_volumes") (flat_map (lv_entries group) (lv ∷ lvs)) [] (lvs_whole group (lv ∷ lvs))
 
 lvs_entries-whole : (group : Group) (lvs : List (List ℕ × Lv)) → IsWhole (lvs_entries group lvs)
 lvs_entries-whole group [] = whole_none
@@ -88,10 +88,10 @@ group_body-items group =
 pub group_whole : (group : Group) → IsWhole (group_body group)
 group_whole group =
     whole_assign _ _ _ (whole_assign _ _ _ (whole_assign _ _ _
-        (whole_assign _ _ _ (whole_assign _ _ _ (whole_assign _ _ _ (whole_assign _ _ _ (whole_assign _ _ _ (whole_assign _ _ _
+    (whole_assign _ _ _ (whole_assign _ _ _ (whole_assign _ _ _ (whole_assign _ _ _ (whole_assign _ _ _ (whole_assign _ _ _
     (whole_append (section (codes "physical_volumes") (flat_map pv_entries group.pvs)) (lvs_entries group group.lvs)
     (whole_section (codes "physical_volumes") (flat_map pv_entries group.pvs) (pvs_whole group.pvs))
-        (lvs_entries-whole group group.lvs))))))))))
+    (lvs_entries-whole group group.lvs))))))))))
 
 -- ---- the volumes
 
@@ -129,8 +129,19 @@ group_by : (group : Group) (more : Items) (lvs_body : List ConfEntry) (pvs lvs :
     → named pv_of [] pvs ≡ Ok group.pvs → named (lv_of (named_by pvs lvs)) [] lvs ≡ Ok group.lvs
     → group_in group.name (group_items group more) ≡ Ok group
 group_by group more lvs_body pvs lvs h found no_system no_lock pv_sections lv_sections read_pvs read_lvs =
-    rw (h.id_again.again, texts_again (vg_words group.status), (vg_known group.status).none, no_system, no_lock, found, pv_sections,
-        lv_sections, read_pvs, read_lvs, vg_again group.status) refl
+    rw (
+      h.id_again.again,
+      texts_again (vg_words group.status),
+      (vg_known group.status).none,
+      no_system,
+      no_lock,
+      found,
+      pv_sections,
+      lv_sections,
+      read_pvs,
+      read_lvs,
+      vg_again group.status,
+    ) refl
 
 pub group_read_again : (group : Group) → IsPrintable group → group_in group.name (items (group_body group)) ≡ Ok group
 group_read_again group h =
@@ -139,7 +150,7 @@ group_read_again group h =
     let names : named_by pvs lvs ≡ names_of group = rw (rows_names pv_body group.pvs, rows_names (lv_body group) group.lvs) refl in
     let read_lvs : named (lv_of (named_by pvs lvs)) [] lvs ≡ Ok group.lvs =
     ap (λ found. named (lv_of found) [] lvs) names
-        ∙ rows_again (lv_of (names_of group)) (lv_body group) [] group.lvs h.lv_names (lvs_read group group.lvs h.each_lv)
+    ∙ rows_again (lv_of (names_of group)) (lv_body group) [] group.lvs h.lv_names (lvs_read group group.lvs h.each_lv)
     in
     ap (group_in group.name) (group_body-items group)
     ∙ group_by group (lvs_items group group.lvs) (flat_map (lv_entries group) group.lvs) pvs lvs h (lvs_found group group.lvs)

@@ -16,8 +16,8 @@ use Rattle.meta_model.specs.declared.group.Group.{Group}
 use Rattle.meta_model.specs.declared.pv.Pv.{Pv}
 use Rattle.meta_model.specs.declared.lv.Lv.{Lv}
 use Rattle.meta_model.specs.declared.segment.Segment.{Segment}
-use Rattle.meta_print.specs.Layout.{section, lv_words, vg_words, segments_entries, pv_entries, lv_entries, lvs_entries, trailer, tree_of,
-    backup_of}
+use Rattle.meta_print.specs.Layout.{section, lv_words, vg_words, segments_entries, pv_entries, lv_entries, lvs_entries, trailer, tree_of}
+use Rattle.meta_print.specs.Layout.{backup_of}
 use Rattle.meta_print.proofs.Printable.{IsSegment, IsLv, IsPv, AreNames, IsPrintable}
 use Rattle.meta_print.proofs.NamesOfText.{volume_name-name, group_name-name, group_name-beside, differ_back, IsBeside}
 use Rattle.meta_print.proofs.Numbered.{numbered, decimal_digits, numbered_differ}
@@ -26,8 +26,8 @@ use Rattle.meta_print.proofs.SegmentAgain.{segment_body}
 use Rattle.meta_print.proofs.LvAgain.{lv_body}
 use Rattle.meta_print.proofs.GroupAgain.{group_body}
 use Rattle.meta_print.proofs.VolumesAgain.{row_sections}
-use Rattle.meta_print.proofs.Limits.{Fits, FitsIn, fits_none, fits_deeper, fits_both, fits_section, fits_number, fits_text, fits_words,
-    key_named, has_name}
+use Rattle.meta_print.proofs.Limits.{Fits, FitsIn, fits_none, fits_deeper, fits_both, fits_section, fits_number, fits_text, fits_words}
+use Rattle.meta_print.proofs.Limits.{key_named, has_name}
 use Rattle.meta_print.proofs.Fitting.{lv_words-content, vg_words-content, pv_fits, segment_fits}
 
 -- ---- the names of segments
@@ -40,7 +40,7 @@ digits_name : (ds : List ℕ) → list_all is_ascii_digit ds ≡ true → list_a
 digits_name [] h = refl
 digits_name (d ∷ ds) h =
     let parts : (is_ascii_digit d ≡ true) × (list_all is_ascii_digit ds ≡ true) =
-        and_parts (is_ascii_digit d) (list_all is_ascii_digit ds) h in
+    and_parts (is_ascii_digit d) (list_all is_ascii_digit ds) h in
     rw (digit_name d parts.0, digits_name ds parts.1) refl
 
 -- seven letters before digits
@@ -51,13 +51,13 @@ lettered ds h = h
 numbered_name : (at : ℕ) → at < 2 ^ 64 → IsName (numbered at)
 numbered_name at fits =
     key_named (numbered at) (ne_eqb (length (numbered at)) 0 (λ e. omega (arith, e)))
-        (lettered (decimal at) (digits_name (decimal at) (decimal_digits at fits)))
+    (lettered (decimal at) (digits_name (decimal at) (decimal_digits at fits)))
 
 no_count_by : (ds : List ℕ) → list_all is_ascii_digit ds ≡ true → pointwise nat_eq ds (codes "_count") ≡ false
 no_count_by [] h = refl
 no_count_by (d ∷ ds) h =
     let parts : (is_ascii_digit d ≡ true) × (list_all is_ascii_digit ds ≡ true) =
-        and_parts (is_ascii_digit d) (list_all is_ascii_digit ds) h in
+    and_parts (is_ascii_digit d) (list_all is_ascii_digit ds) h in
     let digit : is_ascii_digit d ≡ true = parts.0 in
     let other : nat_eq d 95 ≡ false = grind (arith, nat_tests) in
     rw other refl
@@ -76,7 +76,7 @@ free_first m some fits =
 free_next : (at : ℕ) (names : List (List ℕ)) → at < 2 ^ 64 → AreFree at names → AreFree (at + 1) (numbered at ∷ names)
 free_next at names small free m above fits =
     or_from (pointwise nat_eq (numbered m) (numbered at)) (has_name names (numbered m))
-        (numbered_differ m at fits small (λ e. omega (arith, e, above))) (free m (omega arith) fits)
+    (numbered_differ m at fits small (λ e. omega (arith, e, above))) (free m (omega arith) fits)
 
 -- ---- a logical volume
 
@@ -92,7 +92,7 @@ segments_fit group at (segment ∷ segments) names room free h =
     let small : at < 2 ^ 64 = omega (arith, room) in
     fits_both
     (fits_section (numbered at) (segment_body group segment) (numbered_name at small) (free at (omega arith) small)
-        (segment_fits group segment h.0).fits)
+    (segment_fits group segment h.0).fits)
     (segments_fit group (at + 1) segments (numbered at ∷ names) (omega (arith, room)) (free_next at names small free) h.1)
 
 lv_fits : (group : Group) (lv : Lv) → IsLv group lv → FitsIn 1 (lv_body group lv)
@@ -123,7 +123,7 @@ rows_fit : {A : Type 0} (deep : ℕ) (body : A → List ConfEntry) (taken : List
 rows_fit deep body taken [] names h = fits_none
 rows_fit deep body taken (row ∷ rows) names h =
     fits_both (fits_section row.0 (body row.1) (volume_name-name row.0 names.0) names.1 h.0.fits)
-        (rows_fit deep body (row.0 ∷ taken) rows names.2 h.1)
+    (rows_fit deep body (row.0 ∷ taken) rows names.2 h.1)
 
 pvs_fit : (pvs : List (List ℕ × Pv)) → Each (λ (pv : List ℕ × Pv). IsPv pv.1) pvs
     → Each (λ (row : List ℕ × Pv). FitsIn 0 (pv_body row.1)) pvs
@@ -140,29 +140,31 @@ lvs_entries-fit : (group : Group) (names : List (List ℕ)) (lvs : List (List �
     → Each (λ (lv : List ℕ × Lv). IsLv group lv.1) lvs → (later : List (List ℕ)) × Fits 3 names later (lvs_entries group lvs)
 unfolding kind
 lvs_entries-fit group names [] fresh named h = (names, fits_none)
-lvs_entries-fit group names (lv ∷ lvs) fresh named h =
-    (codes "logical_volumes" ∷ names, fits_section (codes "logical_volumes") (flat_map (lv_entries group) (lv ∷ lvs))
-        (key_named (codes "logical_volumes") refl refl) fresh (rows_fit 1 (lv_body group) [] (lv ∷ lvs) named (lvs_fit group (lv ∷ lvs) h)))
+lvs_entries-fit group names (lv ∷ lvs) fresh named h = (
+  codes "logical_volumes" ∷ names,
+  fits_section (codes "logical_volumes") (flat_map (lv_entries group) (lv ∷ lvs))
+      (key_named (codes "logical_volumes") refl refl) fresh (rows_fit 1 (lv_body group) [] (lv ∷ lvs) named (lvs_fit group (lv ∷ lvs) h)),
+)
 
 -- ---- the group
 
 abbrev group_names : List (List ℕ)
 group_names =
     codes "physical_volumes" ∷ codes "metadata_copies" ∷ codes "max_pv" ∷ codes "max_lv" ∷ codes "extent_size" ∷ codes "flags"
-        ∷ codes "status" ∷ codes "format" ∷ codes "seqno" ∷ codes "id" ∷ []
+    ∷ codes "status" ∷ codes "format" ∷ codes "seqno" ∷ codes "id" ∷ []
 
 pvs_section-fits : (group : Group) (names : List (List ℕ)) → has_name names (codes "physical_volumes") ≡ false → IsPrintable group
     → Fits 3 names (codes "physical_volumes" ∷ names) (section (codes "physical_volumes") (flat_map pv_entries group.pvs))
 unfolding kind
 pvs_section-fits group names fresh h =
     fits_deeper 1 (fits_section (codes "physical_volumes") (flat_map pv_entries group.pvs) (key_named (codes "physical_volumes") refl refl)
-        fresh (rows_fit 0 pv_body [] group.pvs h.pv_names (pvs_fit group.pvs h.each_pv)))
+    fresh (rows_fit 0 pv_body [] group.pvs h.pv_names (pvs_fit group.pvs h.each_pv)))
 
 group_fits : (group : Group) → IsPrintable group → FitsIn 3 (group_body group)
 unfolding kind
 group_fits group h =
     let lvs : (later : List (List ℕ)) × Fits 3 group_names later (lvs_entries group group.lvs) =
-        lvs_entries-fit group group_names group.lvs refl h.lv_names h.each_lv in
+    lvs_entries-fit group group_names group.lvs refl h.lv_names h.each_lv in
     record {
       later = lvs.0;
       fits =
@@ -170,7 +172,7 @@ group_fits group h =
           (fits_number (codes "seqno") group.seqno (key_named (codes "seqno") refl refl) refl h.seqno_fits
           (fits_text (codes "format") (codes "lvm2") (key_named (codes "format") refl refl) refl refl
           (fits_words (codes "status") (vg_words group.status) (key_named (codes "status") refl refl) refl
-              (vg_words-content group.status).each
+          (vg_words-content group.status).each
           (fits_words (codes "flags") [] (key_named (codes "flags") refl refl) refl tt
           (fits_number (codes "extent_size") group.extent_size (key_named (codes "extent_size") refl refl) refl h.extent_fits
           (fits_number (codes "max_lv") group.max_lv (key_named (codes "max_lv") refl refl) refl h.max_lv_fits
@@ -226,12 +228,17 @@ pub tree_sound : (group : Group) (now : ℕ) → now < 2 ^ 64 → IsPrintable gr
 tree_sound group now small h =
     sound_by (with_trailer (group.name ∷ [])) (tree_of group now)
     (fits_both (fits_section group.name (group_body group) (group_name-name group.name h.name_is) refl (group_fits group h).fits)
-        (trailer_fits (group.name ∷ []) now (beside_group group.name (group_name-beside group.name h.name_is)) small))
+    (trailer_fits (group.name ∷ []) now (beside_group group.name (group_name-beside group.name h.name_is)) small))
 
 pub backup_sound : (group : Group) (now : ℕ) → now < 2 ^ 64 → IsPrintable group → IsSound (backup_of group now)
 backup_sound group now small h =
     sound_by (group.name ∷ with_trailer []) (backup_of group now)
-    (fits_both (trailer_fits [] now (record { no_contents = refl; no_version = refl; no_description = refl; no_host = refl;
-        no_time = refl }) small)
+    (fits_both (trailer_fits [] now (record {
+      no_contents = refl;
+      no_version = refl;
+      no_description = refl;
+      no_host = refl;
+      no_time = refl;
+    }) small)
     (fits_section group.name (group_body group) (group_name-name group.name h.name_is)
-        (beside_trailer group.name (group_name-beside group.name h.name_is)) (group_fits group h).fits))
+    (beside_trailer group.name (group_name-beside group.name h.name_is)) (group_fits group h).fits))

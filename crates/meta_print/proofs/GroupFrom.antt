@@ -1,6 +1,6 @@
 -- A group for which a tree stands can be printed.
-use Rattle.std.proofs.Common.{◌≡◌, ℕ, ◌<◌, ◌^◌, Bool, true, false, List, [], ◌∷◌, ◌++◌, length, map, Some, None, Ok, refl, ap, subst, ◌∙◌,
-    arith}
+use Rattle.std.proofs.Common.{◌≡◌, ℕ, ◌<◌, ◌^◌, Bool, true, false, List, [], ◌∷◌, ◌++◌, length, map, Some, None, Ok, refl, ap, subst, ◌∙◌}
+use Rattle.std.proofs.Common.{arith}
 use Rattle.std.specs.Prelude.{◌&&◌, not, codes, filter_map, is_none, if◌then◌else◌}
 use Rattle.std.specs.List.{cons_option, AllByRecursion as Each}
 use Rattle.std.proofs.lemmas.Bool.{and_parts, not-true}
@@ -8,19 +8,19 @@ use Rattle.lvm_name.specs.Names.{is_among, group_name_refusal, any_name_refusal}
 use Rattle.conf_text.specs.Entries.{Conf, ConfEntry}
 use Rattle.conf_text.specs.Printed.{CanPrint}
 use Rattle.conf_text.specs.Items.{items}
-use Rattle.meta_model.specs.Keys.{Items, Read, ◌>>=◌, each, number, words, section, id as keys_id, status as keys_status, required,
-    optional, only_text, only_number, counted}
+use Rattle.meta_model.specs.Keys.{Items, Read, ◌>>=◌, each, number, words, section, id as keys_id, status as keys_status, required}
+use Rattle.meta_model.specs.Keys.{optional, only_text, only_number, counted}
 use Rattle.meta_model.specs.Standing as standing
-use Rattle.meta_model.specs.Standing.{Names, segment_of, segments_of, sections_of, is_segment_name, lv_of, pv_of, named, group_in,
-    only_section, group_of, HasTree}
+use Rattle.meta_model.specs.Standing.{Names, segment_of, segments_of, sections_of, is_segment_name, lv_of, pv_of, named, group_in}
+use Rattle.meta_model.specs.Standing.{only_section, group_of, HasTree}
 use Rattle.meta_model.specs.declared.refusal.GroupRefusal.TheVariants.{BadName, Foreign, WrongKind}
 use Rattle.meta_model.specs.declared.group.Group.{Group}
 use Rattle.meta_model.specs.declared.pv.Pv.{Pv}
 use Rattle.meta_model.specs.declared.lv.Lv.{Lv}
 use Rattle.meta_print.proofs.Printable.{names_of, IsIdAgain, IsSegment, IsLv, IsPv, AreNames, IsPrintable}
 use Rattle.meta_print.proofs.Inverting.{bound, same_Ok, not_refused, counted_as}
-use Rattle.meta_print.proofs.TextParts.{AreGood, text_can, body_good, sections_good, number_read, number_or, text_or, section_read,
-    section_or, id_read}
+use Rattle.meta_print.proofs.TextParts.{AreGood, text_can, body_good, sections_good, number_read, number_or, text_or, section_read}
+use Rattle.meta_print.proofs.TextParts.{section_or, id_read}
 use Rattle.meta_print.proofs.FromTree.{each_from, segment_from, pv_from}
 
 -- ---- a logical volume
@@ -48,7 +48,7 @@ lv_from group keys lv good h =
     let counts : (length (segments_of keys) ≡ said) × (segments_of keys ≡ bodies) = counted_as said (segments_of keys) bodies bodies_is in
     let all : Each (IsSegment group) segments × (length segments ≡ length bodies) =
     each_from (λ body. segment_of (names_of group) (items body)) CanPrint (IsSegment group)
-        (λ body can segment is. segment_from group (items body) segment (body_good body can) is) bodies segments
+    (λ body can segment is. segment_from group (items body) segment (body_good body can) is) bodies segments
     (subst (Each CanPrint) counts.1 (bodies_good (sections_of keys) (sections_good keys good))) segments_is
     in
     let small : said < 2 ^ 64 = number_read (codes "segment_count") keys said good said_is in
@@ -69,10 +69,10 @@ named_step : {A : Type 0} (read : Items → Read A) (taken : List (List ℕ)) (p
     × (read (items part.1) ≡ Ok x) × (named read (part.0 ∷ taken) more ≡ Ok xs) × ((part.0, x) ∷ xs ≡ rows)
 named_step read taken part more rows h =
     let parts : ((is_none (any_name_refusal part.0) && not (is_among taken part.0)) ≡ true)
-        × (((read (items part.1) >>= λ x. named read (part.0 ∷ taken) more >>= λ xs. Ok ((part.0, x) ∷ xs))) ≡ Ok rows) = not_refused
-        (BadName part.0) h in
+    × (((read (items part.1) >>= λ x. named read (part.0 ∷ taken) more >>= λ xs. Ok ((part.0, x) ∷ xs))) ≡ Ok rows) = not_refused
+    (BadName part.0) h in
     let tests : (is_none (any_name_refusal part.0) ≡ true) × (not (is_among taken part.0) ≡ true) =
-        and_parts (is_none (any_name_refusal part.0)) (not (is_among taken part.0)) parts.0 in
+    and_parts (is_none (any_name_refusal part.0)) (not (is_among taken part.0)) parts.0 in
     bound parts.1 (λ x x_is h1. bound h1 (λ xs xs_is e. (tests.0, not-true (is_among taken part.0) tests.1, x, xs, x_is, xs_is, same_Ok e)))
 
 -- the rows have these names
@@ -88,7 +88,7 @@ named_names read taken (part ∷ more) rows h =
     let (is_name, free, x, xs, x_is, xs_is, e) = named_step read taken part more rows h in
     let rest : HasNames (part.0 ∷ taken) (map (λ part. part.0) more) xs = named_names read (part.0 ∷ taken) more xs xs_is in
     subst (HasNames taken (map (λ part. part.0) (part ∷ more))) e
-        (record { are = (is_name, free, rest.are); same = ap (λ names. part.0 ∷ names) rest.same })
+    (record { are = (is_name, free, rest.are); same = ap (λ names. part.0 ∷ names) rest.same })
 
 named_each : {A : Type 0} (read : Items → Read A) (Q : A → Type 0) → ((keys : Items) (x : A) → AreGood keys → read keys ≡ Ok x → Q x)
     → (taken : List (List ℕ)) (parts : List (List ℕ × List ConfEntry)) (rows : List (List ℕ × A))
@@ -98,7 +98,7 @@ named_each {A} read Q one taken [] rows good h = subst (Each (λ (row : List ℕ
 named_each {A} read Q one taken (part ∷ more) rows good h =
     let (is_name, free, x, xs, x_is, xs_is, e) = named_step read taken part more rows h in
     subst (Each (λ (row : List ℕ × A). Q row.1)) e
-        (one (items part.1) x (body_good part.1 good.0) x_is, named_each read Q one (part.0 ∷ taken) more xs good.1 xs_is)
+    (one (items part.1) x (body_good part.1 good.0) x_is, named_each read Q one (part.0 ∷ taken) more xs good.1 xs_is)
 
 -- ---- the volumes
 
@@ -127,7 +127,7 @@ volumes_from group pvs lvs pvs_good lvs_good pvs_are lvs_are =
       each_pv = named_each pv_of IsPv pv_from [] pvs group.pvs pvs_good pvs_are;
       each_lv =
           named_each (lv_of (names_of group)) (IsLv group) (lv_from group) [] lvs group.lvs lvs_good
-              (subst (λ (n : Names). named (lv_of n) [] lvs ≡ Ok group.lvs) same lvs_are);
+          (subst (λ (n : Names). named (lv_of n) [] lvs ≡ Ok group.lvs) same lvs_are);
     }
 
 -- ---- the group
@@ -136,7 +136,7 @@ volumes_from group pvs lvs pvs_good lvs_good pvs_are lvs_are =
 abbrev volumes_in : List (List ℕ × List ConfEntry) → List (List ℕ × List ConfEntry) → Read (List (List ℕ × Pv) × List (List ℕ × Lv))
 volumes_in pvs lvs =
     named pv_of [] pvs >>= λ pvs_read. named (lv_of (record { pvs = part_names pvs; lvs = part_names lvs })) [] lvs
-        >>= λ lvs_read. Ok (pvs_read, lvs_read)
+    >>= λ lvs_read. Ok (pvs_read, lvs_read)
 
 volumes_are : (group : Group) (pvs lvs : List (List ℕ × List ConfEntry)) (found : List (List ℕ × Pv) × List (List ℕ × Lv))
     → Each (λ (part : List ℕ × List ConfEntry). CanPrint part.1) pvs
@@ -149,7 +149,7 @@ volumes_are group pvs lvs found pvs_good lvs_good h same_pvs same_lvs =
     let pvs_same : pvs_read ≡ group.pvs = ap (λ (u : List (List ℕ × Pv) × List (List ℕ × Lv)). u.0) both ∙ same_pvs in
     let lvs_same : lvs_read ≡ group.lvs = ap (λ (u : List (List ℕ × Pv) × List (List ℕ × Lv)). u.1) both ∙ same_lvs in
     volumes_from group pvs lvs pvs_good lvs_good (pvs_is ∙ ap (λ (l : List (List ℕ × Pv)). Ok l) pvs_same)
-        (lvs_is ∙ ap (λ (l : List (List ℕ × Lv)). Ok l) lvs_same)))
+    (lvs_is ∙ ap (λ (l : List (List ℕ × Lv)). Ok l) lvs_same)))
 
 group_by : (group : Group) → is_none (group_name_refusal group.name) ≡ true → IsIdAgain group.id → group.seqno < 2 ^ 64
     → group.extent_size < 2 ^ 64 → group.max_lv < 2 ^ 64 → group.max_pv < 2 ^ 64 → group.copies < 2 ^ 64
@@ -185,18 +185,28 @@ group_from name keys group named_well good h =
     bound {x = required section (codes "physical_volumes") keys} h11 (λ pv_entries pv_entries_is h12.
     bound {x = optional section [] (codes "logical_volumes") keys} h12 (λ lv_entries lv_entries_is h13.
     bound {x = volumes_in (sections_of (items pv_entries)) (sections_of (items lv_entries))} h13 (λ volumes volumes_is e.
-    let same : record { name = name; id = id; seqno = seqno; status = standing.vg_status status; extent_size = extent_size; max_lv = max_lv;
-        max_pv = max_pv; copies = copies; pvs = volumes.0; lvs = volumes.1 } ≡ group = same_Ok e in
+    let same : record {
+      name = name;
+      id = id;
+      seqno = seqno;
+      status = standing.vg_status status;
+      extent_size = extent_size;
+      max_lv = max_lv;
+      max_pv = max_pv;
+      copies = copies;
+      pvs = volumes.0;
+      lvs = volumes.1;
+    } ≡ group = same_Ok e in
     group_by group
     (subst (λ (n : List ℕ). is_none (group_name_refusal n) ≡ true) (ap (λ (g : Group). g.name) same) named_well)
     (subst IsIdAgain (ap (λ (g : Group). g.id) same) (id_read (codes "id") keys id good id_is))
     (subst (λ (n : ℕ). n < 2 ^ 64) (ap (λ (g : Group). g.seqno) same) (number_read (codes "seqno") keys seqno good seqno_is))
     (subst (λ (n : ℕ). n < 2 ^ 64) (ap (λ (g : Group). g.extent_size) same)
-        (number_read (codes "extent_size") keys extent_size good extent_size_is))
+    (number_read (codes "extent_size") keys extent_size good extent_size_is))
     (subst (λ (n : ℕ). n < 2 ^ 64) (ap (λ (g : Group). g.max_lv) same) (number_read (codes "max_lv") keys max_lv good max_lv_is))
     (subst (λ (n : ℕ). n < 2 ^ 64) (ap (λ (g : Group). g.max_pv) same) (number_read (codes "max_pv") keys max_pv good max_pv_is))
     (subst (λ (n : ℕ). n < 2 ^ 64) (ap (λ (g : Group). g.copies) same)
-        (number_or 0 (codes "metadata_copies") keys copies (omega arith) good copies_is))
+    (number_or 0 (codes "metadata_copies") keys copies (omega arith) good copies_is))
     (volumes_are group (sections_of (items pv_entries)) (sections_of (items lv_entries)) volumes
     (sections_good (items pv_entries) (body_good pv_entries (section_read (codes "physical_volumes") keys pv_entries good pv_entries_is)))
     (sections_good (items lv_entries) (body_good lv_entries (section_or (codes "logical_volumes") keys lv_entries good lv_entries_is)))
@@ -211,20 +221,21 @@ one_section [] part good h = absurd cc
 one_section (found ∷ second ∷ more) part good h = absurd cc
 one_section (found ∷ []) part good h =
     let parts : (is_none (group_name_refusal found.0) ≡ true) × (◌≡◌ {A = Read (List ℕ × List ConfEntry)} (Ok found) (Ok part)) =
-        not_refused (BadName found.0) h in
-    let same : found ≡ part = same_Ok parts.1 in
-    (subst (λ (p : List ℕ × List ConfEntry). CanPrint p.1) same good.0,
-        subst (λ (p : List ℕ × List ConfEntry). is_none (group_name_refusal p.0) ≡ true) same parts.0)
+    not_refused (BadName found.0) h in
+    let same : found ≡ part = same_Ok parts.1 in (
+      subst (λ (p : List ℕ × List ConfEntry). CanPrint p.1) same good.0,
+      subst (λ (p : List ℕ × List ConfEntry). is_none (group_name_refusal p.0) ≡ true) same parts.0,
+    )
 
 tree_from : (tree : Conf) (group : Group) → CanPrint tree → group_of tree ≡ Ok group → IsPrintable group
 unfolding group_of
 tree_from tree group can h =
     bound {x = only_section (sections_of (items tree))} h (λ found found_is h1.
     bound {x = only_text (codes "Text Format Volume Group") (λ key. WrongKind key) (codes "contents") (items tree)} h1
-        (λ contents contents_is h2.
+    (λ contents contents_is h2.
     bound {x = only_number 1 (λ key. WrongKind key) (codes "version") (items tree)} h2 (λ version version_is e.
     let one : CanPrint found.1 × (is_none (group_name_refusal found.0) ≡ true) =
-        one_section (sections_of (items tree)) found (sections_good (items tree) (body_good tree can)) found_is in
+    one_section (sections_of (items tree)) found (sections_good (items tree) (body_good tree can)) found_is in
     group_from found.0 (items found.1) group one.1 (body_good found.1 one.0) e)))
 
 pub printable : (group : Group) → HasTree group → IsPrintable group

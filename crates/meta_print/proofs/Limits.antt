@@ -1,13 +1,13 @@
 -- Entries that can be printed, close the sections that they open, and keep the limits of a text.
-use Rattle.std.proofs.Common.{◌≡◌, ℕ, suc, ◌+◌, ◌<◌, ◌≤◌, ◌^◌, Bool, true, false, List, [], ◌∷◌, ◌++◌, length, map, refl, sym, ap, ◌∙◌,
-    arith}
+use Rattle.std.proofs.Common.{◌≡◌, ℕ, suc, ◌+◌, ◌<◌, ◌≤◌, ◌^◌, Bool, true, false, List, [], ◌∷◌, ◌++◌, length, map, refl, sym, ap, ◌∙◌}
+use Rattle.std.proofs.Common.{arith}
 use Rattle.std.specs.Prelude.{◌==◌, nat_eq, nat_lt}
 use Rattle.std.specs.List.{list_all, list_any, AllByRecursion as Each}
 use Rattle.std.specs.Cmp.Lexicographic.{pointwise}
 use Rattle.std.proofs.lemmas.Bool.{lt-ltb, and_parts, and_from}
 use Rattle.conf_text.specs.Bytes.{kind}
-use Rattle.conf_text.specs.Entries.{Number, Text, Value, One, Many, ConfEntry, Close, Assign, after_entry, after_entries, keep_limits,
-    keeps_limits, fits_scalar, scalars_of}
+use Rattle.conf_text.specs.Entries.{Number, Text, Value, One, Many, ConfEntry, Close, Assign, after_entry, after_entries, keep_limits}
+use Rattle.conf_text.specs.Entries.{keeps_limits, fits_scalar, scalars_of}
 use Rattle.conf_text.specs.Grammar.{is_name, IsName, IsContent}
 use Rattle.conf_text.specs.Printed.{CanPrintAll, CanPrintEntry, CanPrint}
 use Rattle.meta_print.specs.Layout.{number, text, words, section}
@@ -24,9 +24,9 @@ kept_both : (given : List (List (List ℕ))) (es fs : List ConfEntry) → keep_l
 kept_both given [] fs first second = second
 kept_both given (e ∷ es) fs first second =
     let parts : (keeps_limits given e ≡ true) × (keep_limits (after_entry given e) es ≡ true) =
-        and_parts (keeps_limits given e) (keep_limits (after_entry given e) es) first in
+    and_parts (keeps_limits given e) (keep_limits (after_entry given e) es) first in
     and_from (keeps_limits given e) (keep_limits (after_entry given e) (es ++ fs)) parts.0
-        (kept_both (after_entry given e) es fs parts.1 second)
+    (kept_both (after_entry given e) es fs parts.1 second)
 
 can_both : (es fs : List ConfEntry) → CanPrint es → CanPrint fs → CanPrint (es ++ fs)
 can_both [] fs first second = second
@@ -54,7 +54,7 @@ fits_both {deep} {names} {mid} {later} {es} {fs} first second = record {
   after = λ outer. after_both (names ∷ outer) es fs ∙ ap (λ given. after_entries given fs) (first.after outer) ∙ second.after outer;
   kept =
       λ outer room. kept_both (names ∷ outer) es fs (first.kept outer room)
-          (ap (λ given. keep_limits given fs) (first.after outer) ∙ second.kept outer room);
+      (ap (λ given. keep_limits given fs) (first.after outer) ∙ second.kept outer room);
   can = can_both es fs first.can second.can;
 }
 
@@ -77,12 +77,12 @@ pub fits_section : {deep : ℕ} {names later : List (List ℕ)} (name : List ℕ
 fits_section {deep} {names} {later} name body named fresh fits = record {
   after =
       λ outer. after_both ([] ∷ (name ∷ names) ∷ outer) body (Close ∷ [])
-          ∙ ap (λ given. after_entries given (Close ∷ [])) (fits.after ((name ∷ names) ∷ outer));
+      ∙ ap (λ given. after_entries given (Close ∷ [])) (fits.after ((name ∷ names) ∷ outer));
   kept = λ outer room.
       let shallow : nat_lt (suc (length outer)) 17 ≡ true = lt-ltb (suc (length outer)) 17 (omega arith) in
       let inner : keep_limits ([] ∷ (name ∷ names) ∷ outer) (body ++ Close ∷ []) ≡ true =
       kept_both ([] ∷ (name ∷ names) ∷ outer) body (Close ∷ []) (fits.kept ((name ∷ names) ∷ outer) (omega (arith, room)))
-          (ap (λ given. keep_limits given (Close ∷ [])) (fits.after ((name ∷ names) ∷ outer)))
+      (ap (λ given. keep_limits given (Close ∷ [])) (fits.after ((name ∷ names) ∷ outer)))
       in
       rw (fresh, shallow, inner) refl;
   can = (named, can_both body (Close ∷ []) fits.can (tt, tt));

@@ -40,7 +40,7 @@ segments_whole : (group : Group) (at : ℕ) (segments : List Segment) → IsWhol
 segments_whole group at [] = whole_none
 segments_whole group at (segment ∷ segments) =
     whole_append (section (numbered at) (segment_body group segment)) (segments_entries group (at + 1) segments)
-        (whole_section (numbered at) (segment_body group segment) (segment_whole group segment)) (segments_whole group (at + 1) segments)
+    (whole_section (numbered at) (segment_body group segment) (segment_whole group segment)) (segments_whole group (at + 1) segments)
 
 segments_items : (group : Group) (at : ℕ) (segments : List Segment)
     → items (segments_entries group at segments) ≡ segment_items group at segments
@@ -58,7 +58,7 @@ bodies_again : (group : Group) (at : ℕ) (segments : List Segment) → 0 < at �
 bodies_again group at [] some fits = refl
 bodies_again group at (segment ∷ segments) some fits =
     one_segment (numbered at) (segment_body group segment) (segment_items group (at + 1) segments)
-        (numbered_names at some (omega (arith, fits)))
+    (numbered_names at some (omega (arith, fits)))
     ∙ ap (λ bodies. segment_body group segment ∷ bodies) (bodies_again group (at + 1) segments (omega arith) (omega (arith, fits)))
 
 segments_again : (group : Group) (segments : List Segment) → Each (IsSegment group) segments
@@ -75,10 +75,16 @@ lv_read_again group lv h =
     in
     let counts : counted (length lv.segments) (segments_of (items (lv_body group lv))) ≡ Ok (map (segment_body group) lv.segments) =
     ap (counted (length lv.segments)) bodies
-        ∙ counted_same (length lv.segments) (map (segment_body group) lv.segments) (length-map lv.segments (segment_body group))
+    ∙ counted_same (length lv.segments) (map (segment_body group) lv.segments) (length-map lv.segments (segment_body group))
     in
-    rw (h.id_again.again, texts_again (lv_words lv.status), (lv_known lv.status).none, counts, segments_again group lv.segments h.each,
-        lv_again lv.status) refl
+    rw (
+      h.id_again.again,
+      texts_again (lv_words lv.status),
+      (lv_known lv.status).none,
+      counts,
+      segments_again group lv.segments h.each,
+      lv_again lv.status,
+    ) refl
 
 -- ---- its keys are known
 
@@ -91,7 +97,7 @@ segments_known : (group : Group) (path : List ℕ) (at : ℕ) (segments : List S
 segments_known group path at [] some fits = refl
 segments_known group path at (segment ∷ segments) some fits =
     one_known path (numbered at) (segment_body group segment) (segment_items group (at + 1) segments)
-        (numbered_names at some (omega (arith, fits))) (segment_known group (path_in path (numbered at)) segment)
+    (numbered_names at some (omega (arith, fits))) (segment_known group (path_in path (numbered at)) segment)
     ∙ segments_known group path (at + 1) segments (omega arith) (omega (arith, fits))
 
 pub lv_keys_known : (group : Group) (path : List ℕ) (lv : Lv) → length lv.segments < 2 ^ 64 → in_lv path (items (lv_body group lv)) ≡ []
@@ -101,4 +107,4 @@ lv_keys_known group path lv fits =
 pub lv_whole : (group : Group) (lv : Lv) → IsWhole (lv_body group lv)
 lv_whole group lv =
     whole_assign _ _ _ (whole_assign _ _ _ (whole_assign _ _ _
-        (whole_assign _ _ _ (whole_assign _ _ _ (whole_assign _ _ _ (segments_whole group 1 lv.segments))))))
+    (whole_assign _ _ _ (whole_assign _ _ _ (whole_assign _ _ _ (segments_whole group 1 lv.segments))))))

@@ -1,6 +1,6 @@
 -- Names of groups and of volumes are names of a text, and a group's is none of the keys beside it.
-use Rattle.std.proofs.Common.{◌≡◌, ℕ, suc, ◌+◌, ◌≤◌, Bool, cond, true, false, not, List, [], ◌∷◌, length, Option, Some, None, inl, inr,
-    refl, sym, ap, ◌∙◌, arith}
+use Rattle.std.proofs.Common.{◌≡◌, ℕ, suc, ◌+◌, ◌≤◌, Bool, cond, true, false, not, List, [], ◌∷◌, length, Option, Some, None, inl, inr}
+use Rattle.std.proofs.Common.{refl, sym, ap, ◌∙◌, arith}
 use Rattle.std.specs.Prelude.{◌==◌, ◌||◌, nat_eq, nat_le, is_none, codes}
 use Rattle.std.specs.Int.{is_in_range}
 use Rattle.std.specs.Char.{is_ascii_digit}
@@ -54,14 +54,14 @@ no_dots_by reserves text h =
     let short : nat_le (length text) 127 ≡ true = short_by reserves text h in
     let no_dash : begins_with (codes "-") text ≡ false = no_dash_by reserves text h in
     false_from_ne_true (is_among (codes "." ∷ codes ".." ∷ []) text)
-        (λ e. let bad : false ≡ true = rw (some, short, no_dash, e) at h in absurd cc)
+    (λ e. let bad : false ≡ true = rw (some, short, no_dash, e) at h in absurd cc)
 
 bytes_by : (reserves : List ℕ → Bool) (text : List ℕ) → is_none (name_refusal reserves text) ≡ true → (found : Option ℕ)
     → position (λ byte. not (is_name_byte byte)) text ≡ found → found ≡ None
 bytes_by reserves text h None e = refl
 bytes_by reserves text h (Some place) e =
     let bad : false ≡ true =
-        rw (some_by reserves text h, short_by reserves text h, no_dash_by reserves text h, no_dots_by reserves text h, e) at h in
+    rw (some_by reserves text h, short_by reserves text h, no_dash_by reserves text h, no_dots_by reserves text h, e) at h in
     absurd cc
 
 pub passes_by : (reserves : List ℕ → Bool) (text : List ℕ) → is_none (name_refusal reserves text) ≡ true → Passes text
@@ -77,7 +77,7 @@ not_reserved : (reserves : List ℕ → Bool) (text : List ℕ) → is_none (nam
 not_reserved reserves text h =
     let passes : Passes text = passes_by reserves text h in
     false_from_ne_true (reserves text) (λ e. let bad : false
-        ≡ true = rw (passes.some, passes.short, passes.no_dash, passes.no_dots, passes.bytes, e) at h in absurd cc)
+    ≡ true = rw (passes.some, passes.short, passes.no_dash, passes.no_dots, passes.bytes, e) at h in absurd cc)
 
 -- ---- a name of a text
 
@@ -92,7 +92,7 @@ byte-name b h =
       | inl digit ↦ rw digit refl
       | inr other ↦ let letter : is_letter b ≡ true =
           shuffled (is_ascii_digit b) (is_in_range 65 90 b) (is_in_range 97 122 b) (b == 43) (b == 95) (b == 46) (b == 45) other h in rw
-              (other, letter) refl
+          (other, letter) refl
     ]
 
 none_found : (test : Bool) (place : ℕ) → cond test (Some place) None ≡ None → test ≡ false
@@ -113,9 +113,10 @@ bytes-name (b ∷ bs) h =
     rw (byte-name b good, bytes-name bs (omega (arith, rest))) refl
 
 passes-name : (text : List ℕ) → Passes text → IsName text
-passes-name text passes =
-    (λ e. let bad : true ≡ false = ap (λ (t : List ℕ). length t == 0) (sym e) ∙ passes.some in absurd cc,
-        bytes-name text (ltb-false (position_or_len is_bad text) (length text) (none_found _ _ passes.bytes)))
+passes-name text passes = (
+  λ e. let bad : true ≡ false = ap (λ (t : List ℕ). length t == 0) (sym e) ∙ passes.some in absurd cc,
+  bytes-name text (ltb-false (position_or_len is_bad text) (length text) (none_found _ _ passes.bytes)),
+)
 
 pub group_name-name : (name : List ℕ) → is_none (group_name_refusal name) ≡ true → IsName name
 group_name-name name h = passes-name name (passes_by is_top_key name h)
@@ -140,8 +141,8 @@ beside_by a b c d e h = grind arith
 pub group_name-beside : (name : List ℕ) → is_none (group_name_refusal name) ≡ true → IsBeside name
 group_name-beside name h =
     let parts : (pointwise nat_eq name (codes "contents") ≡ false) × (pointwise nat_eq name (codes "version") ≡ false)
-        × (pointwise nat_eq name (codes "description") ≡ false) × (pointwise nat_eq name (codes "creation_host") ≡ false)
-        × (pointwise nat_eq name (codes "creation_time") ≡ false) =
+    × (pointwise nat_eq name (codes "description") ≡ false) × (pointwise nat_eq name (codes "creation_host") ≡ false)
+    × (pointwise nat_eq name (codes "creation_time") ≡ false) =
     beside_by _ _ _ _ _ (not_reserved is_top_key name h)
     in
     record { no_contents = parts.0; no_version = parts.1; no_description = parts.2; no_host = parts.3; no_time = parts.4 }

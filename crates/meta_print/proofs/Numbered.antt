@@ -37,4 +37,4 @@ numbered_names at some fits = named_by (decimal at) (first_decimal at some fits)
 pub numbered_differ : (m n : ℕ) → m < 2 ^ 64 → n < 2 ^ 64 → m ≢ n → pointwise nat_eq (numbered m) (numbered n) ≡ false
 numbered_differ m n first second differ =
     false_from_ne_true (pointwise nat_eq (numbered m) (numbered n))
-        (λ e. differ (decimal_injective m n first second (same_text (decimal m) (decimal n) (sym e))))
+    (λ e. differ (decimal_injective m n first second (same_text (decimal m) (decimal n) (sym e))))

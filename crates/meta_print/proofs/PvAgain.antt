@@ -27,10 +27,24 @@ pub pv_whole : (pv : Pv) → IsWhole (pv_body pv)
 pv_whole pv = record { stays = λ deep more. refl; passes = λ deep more. refl; lists = λ more. refl }
 
 again_by : (id device : List ℕ) (allocatable missing : Bool) (dev_size pe_start pe_count : ℕ) → id_printed (hyphen_form id) ≡ Some id
-    → pv_of (items (pv_body (record { id = id; device = device; allocatable = allocatable; missing = missing; dev_size = dev_size;
-    pe_start = pe_start; pe_count = pe_count })))
-    ≡ Ok (record { id = id; device = device; allocatable = allocatable; missing = missing; dev_size = dev_size; pe_start = pe_start;
-    pe_count = pe_count })
+    → pv_of (items (pv_body (record {
+      id = id;
+      device = device;
+      allocatable = allocatable;
+      missing = missing;
+      dev_size = dev_size;
+      pe_start = pe_start;
+      pe_count = pe_count;
+    })))
+    ≡ Ok (record {
+      id = id;
+      device = device;
+      allocatable = allocatable;
+      missing = missing;
+      dev_size = dev_size;
+      pe_start = pe_start;
+      pe_count = pe_count;
+    })
 again_by id device true true dev_size pe_start pe_count is = rw is refl
 again_by id device true false dev_size pe_start pe_count is = rw is refl
 again_by id device false true dev_size pe_start pe_count is = rw is refl

@@ -15,19 +15,29 @@ pub tree_again : (group : Group) (now : ℕ) → now < 2 ^ 64 → HasTree group 
 tree_again group now small h =
     let good : IsPrintable group = printable group h in
     let sound : IsSound (tree_of group now) = tree_sound group now small good in
-    record { is_text = printed_again (tree_of group now) sound.can sound.balanced sound.limits; stands = tree_stands group now good;
-        known = tree_known group now good }
+    record {
+      is_text = printed_again (tree_of group now) sound.can sound.balanced sound.limits;
+      stands = tree_stands group now good;
+      known = tree_known group now good;
+    }
 
 pub backup_again : (group : Group) (now : ℕ) → now < 2 ^ 64 → HasTree group → IsReadAs (backup_of group now) group
 backup_again group now small h =
     let good : IsPrintable group = printable group h in
     let sound : IsSound (backup_of group now) = backup_sound group now small good in
-    record { is_text = printed_again (backup_of group now) sound.can sound.balanced sound.limits; stands = backup_stands group now good;
-        known = backup_known group now good }
+    record {
+      is_text = printed_again (backup_of group now) sound.can sound.balanced sound.limits;
+      stands = backup_stands group now good;
+      known = backup_known group now good;
+    }
 
 -- a tree stands for each group that can be printed
 pub has_tree : (group : Group) → IsPrintable group → HasTree group
 has_tree group good =
     let sound : IsSound (tree_of group 0) = tree_sound group 0 (omega arith) good in
-    record { text = printed (tree_of group 0); tree = tree_of group 0;
-        is_text = printed_again (tree_of group 0) sound.can sound.balanced sound.limits; stands = tree_stands group 0 good }
+    record {
+      text = printed (tree_of group 0);
+      tree = tree_of group 0;
+      is_text = printed_again (tree_of group 0) sound.can sound.balanced sound.limits;
+      stands = tree_stands group 0 good;
+    }

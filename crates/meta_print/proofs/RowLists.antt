@@ -13,10 +13,10 @@ pub rows_more : {X Y : Type 0} (f : X → List Y) (rows : List X) (at : ℕ) (ro
     → flat_map f (take at rows) ++ f row ≡ flat_map f (take (at + 1) rows)
 rows_more f rows at row stands =
     let more : take (at + 1) rows ≡ take at rows ++ row ∷ [] =
-        take_more rows at row (slice_get_within rows at row stands)
-            ∙ ap (λ x. take at rows ++ x ∷ []) (get_or_from_slice_get rows at row row stands) in
+    take_more rows at row (slice_get_within rows at row stands)
+    ∙ ap (λ x. take at rows ++ x ∷ []) (get_or_from_slice_get rows at row row stands) in
     sym (ap (flat_map f) more ∙ flat_map-append f (take at rows) (row ∷ [])
-        ∙ ap (λ last. flat_map f (take at rows) ++ last) (append-nil (f row)))
+    ∙ ap (λ last. flat_map f (take at rows) ++ last) (append-nil (f row)))
 
 -- the section of logical volumes, where there are some
 pub lvs_section : (group : Group) (lvs : List (List ℕ × Lv)) → (length lvs ≡ 0 → ⊥)

@@ -18,8 +18,15 @@ lines ls = flat_map (λ l. l ++ 10 ∷ []) ls
 
 abbrev pv : Pv
 pv =
-    record { id = codes "00000000100000000100000030000000"; device = codes "a"; allocatable = true; missing = false; dev_size = 131072;
-        pe_start = 2048; pe_count = 15 }
+    record {
+      id = codes "00000000100000000100000030000000";
+      device = codes "a";
+      allocatable = true;
+      missing = false;
+      dev_size = 131072;
+      pe_start = 2048;
+      pe_count = 15;
+    }
 
 -- one with no logical volume
 abbrev vg0 : Group
@@ -91,8 +98,12 @@ move = record {
   created = 1700000000;
   host = codes "h\\\"q";
   segments =
-      record { start = 0; count = 4; kind = Mirror 2048 (Some 3)
-          (record { on = on.Pv 0; first = 2 } ∷ record { on = on.Pv 1; first = 5 } ∷ []) } ∷ [];
+      record {
+        start = 0;
+        count = 4;
+        kind = Mirror 2048 (Some 3)
+            (record { on = on.Pv 0; first = 2 } ∷ record { on = on.Pv 1; first = 5 } ∷ []);
+      } ∷ [];
 }
 
 -- one with two physical volumes, the images of a mirror and a move
@@ -134,7 +145,10 @@ unfolding digits kind
 striped_segments = refl
 
 mirrored_segment : printed (segment_entries vg1 1
-    (record { start = 0; count = 4; kind = Mirror 1024 None (record { on = on.Lv 0; first = 0 } ∷ record { on = on.Lv 1; first = 0 } ∷ [])
+    (record {
+      start = 0;
+      count = 4;
+      kind = Mirror 1024 None (record { on = on.Lv 0; first = 0 } ∷ record { on = on.Lv 1; first = 0 } ∷ []);
     }))
     ≡ lines (
     codes "segment1 {" ∷

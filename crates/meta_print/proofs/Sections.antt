@@ -26,7 +26,7 @@ pub whole_append : (es fs : List ConfEntry) → IsWhole es → IsWhole fs → Is
 whole_append es fs first second = record {
   stays =
       λ deep more. ap (body_from deep) (append_assoc es fs more) ∙ first.stays deep (fs ++ more)
-          ∙ ap (λ rest. es ++ rest) (second.stays deep more) ∙ sym (append_assoc es fs (body_from deep more));
+      ∙ ap (λ rest. es ++ rest) (second.stays deep more) ∙ sym (append_assoc es fs (body_from deep more));
   passes = λ deep more. ap (items_from (suc deep)) (append_assoc es fs more) ∙ first.passes deep (fs ++ more) ∙ second.passes deep more;
   lists = λ more.
       ap items (append_assoc es fs more) ∙ first.lists (fs ++ more) ∙ ap (λ rest. items es ++ rest) (second.lists more)
@@ -49,7 +49,7 @@ pub whole_section : (name : List ℕ) (body : List ConfEntry) → IsWhole body �
 whole_section name body whole = record {
   stays = λ deep more.
       ap (λ rest. Open name ∷ rest) (ap (body_from (suc deep)) (append_assoc body (Close ∷ []) more) ∙ whole.stays (suc deep) (Close ∷ more)
-          ∙ sym (append_assoc body (Close ∷ []) (body_from deep more)));
+      ∙ sym (append_assoc body (Close ∷ []) (body_from deep more)));
   passes = λ deep more. ap (items_from (suc (suc deep))) (append_assoc body (Close ∷ []) more) ∙ whole.passes (suc deep) (Close ∷ more);
   lists = λ more.
       section_item name body more whole
@@ -67,4 +67,4 @@ pub sections_items : {X : Type 0} (f : X → List ℕ) (g : X → List ConfEntry
 sections_items f g each [] = refl
 sections_items f g each (x ∷ xs) =
     section_item (f x) (g x) (flat_map (λ x. section (f x) (g x)) xs) (each x)
-        ∙ ap (λ found. (f x, Body (g x)) ∷ found) (sections_items f g each xs)
+    ∙ ap (λ found. (f x, Body (g x)) ∷ found) (sections_items f g each xs)

@@ -82,7 +82,7 @@ again_by : (group : Group) (start count : ℕ) (kind : SegKind) → IsKind group
     ≡ Ok (record { start = start; count = count; kind = kind })
 again_by group start count (Striped stripe legs) h =
     striped_by (names_of group) start count (length legs) stripe (flat_map (pair_of group) legs) (named_legs group legs) legs
-        (nat_lt 1 (length legs)) (stripe == 0)
+    (nat_lt 1 (length legs)) (stripe == 0)
     refl (eqb-true stripe 0) (pairs_again group legs) (counted_again group legs) (each_again group legs h.1.each)
 again_by group start count (Mirror region moved legs) h = mirror_by group start count region moved legs h.2.each
 

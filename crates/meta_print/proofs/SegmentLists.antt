@@ -1,6 +1,6 @@
 -- Segments, one by one.
-use Rattle.std.proofs.Common.{◌≡◌, ℕ, ◌+◌, ◌<◌, List, [], ◌∷◌, ◌++◌, length, get_or, take, Option, Some, None, refl, sym, ap, ◌∙◌,
-    append_assoc, arith}
+use Rattle.std.proofs.Common.{◌≡◌, ℕ, ◌+◌, ◌<◌, List, [], ◌∷◌, ◌++◌, length, get_or, take, Option, Some, None, refl, sym, ap, ◌∙◌}
+use Rattle.std.proofs.Common.{append_assoc, arith}
 use Rattle.std.proofs.lemmas.List.{take_more, length-take-le, append-nil}
 use Rattle.conf_text.specs.Entries.{Assign, Many}
 use Rattle.std.specs.Prelude.{codes, flat_map}
@@ -30,10 +30,10 @@ pub segments_more : (group : Group) (segments : List Segment) (at : ℕ) (segmen
     ≡ segments_entries group 1 (take (at + 1) segments)
 segments_more group segments at segment within is =
     let more : take (at + 1) segments ≡ take at segments ++ segment ∷ [] =
-        take_more segments at segment within ∙ ap (λ s. take at segments ++ s ∷ []) (sym is) in
+    take_more segments at segment within ∙ ap (λ s. take at segments ++ s ∷ []) (sym is) in
     let long : length (take at segments) ≡ at = length-take-le at segments (omega arith) in
     sym (ap (segments_entries group 1) more ∙ segments_last group 1 (take at segments) segment
-        ∙ ap (λ n. segments_entries group 1 (take at segments) ++ segment_entries group n segment) (omega (arith, long)))
+    ∙ ap (λ n. segments_entries group 1 (take at segments) ++ segment_entries group n segment) (omega (arith, long)))
 
 -- a mirror, part by part
 pub mirror_parts : (group : Group) (region : ℕ) (moved : Option ℕ) (legs : List Leg)

@@ -1,14 +1,14 @@
 -- Each part of a tree that a text has can be printed.
-use Rattle.std.proofs.Common.{◌≡◌, ℕ, zero, suc, ◌<◌, ◌^◌, Bool, true, false, not, List, [], ◌∷◌, Option, Some, None, Ok, inl, inr, length,
-    subst, refl, sym, ap, ◌∙◌}
+use Rattle.std.proofs.Common.{◌≡◌, ℕ, zero, suc, ◌<◌, ◌^◌, Bool, true, false, not, List, [], ◌∷◌, Option, Some, None, Ok, inl, inr, length}
+use Rattle.std.proofs.Common.{subst, refl, sym, ap, ◌∙◌}
 use Rattle.std.specs.Prelude.{◌&&◌, ◌==◌, filter, nat_eq, option_map}
 use Rattle.std.specs.List.{list_all, AllByRecursion as Each}
 use Rattle.std.specs.Cmp.Lexicographic.{pointwise, same_text}
 use Rattle.std.proofs.lemmas.Bool.{and_parts, ltb-true}
 use Rattle.std.proofs.lemmas.Option.{same_Some, cond_some}
 use Rattle.lvm_id.specs.LvmId.{is_id_char, hyphen_form}
-use Rattle.conf_text.specs.Entries.{Scalar, Number, Text, Value, One, Many, ConfEntry, Open, Close, Assign, after_entry, keep_limits,
-    keeps_limits, fits_scalar, scalars_of, is_given}
+use Rattle.conf_text.specs.Entries.{Scalar, Number, Text, Value, One, Many, ConfEntry, Open, Close, Assign, after_entry, keep_limits}
+use Rattle.conf_text.specs.Entries.{keeps_limits, fits_scalar, scalars_of, is_given}
 use Rattle.conf_text.specs.Grammar.{IsContent, IsScalar, IsArray, BeginsWith, IsTextOf}
 use Rattle.conf_text.specs.Printed.{CanPrintScalar, CanPrintAll, CanPrint}
 use Rattle.conf_text.specs.Items.{Node, Leaf, Body, body_from, items_from, items, lookup}
@@ -30,7 +30,7 @@ array_can bytes (s ∷ []) h fits =
     (scalar_can h.1 s h.4 parts.0, tt)
 array_can bytes (s ∷ t ∷ ss) h fits =
     let parts : (fits_scalar s ≡ true) × (list_all fits_scalar (t ∷ ss) ≡ true) =
-        and_parts (fits_scalar s) (list_all fits_scalar (t ∷ ss)) fits in
+    and_parts (fits_scalar s) (list_all fits_scalar (t ∷ ss)) fits in
     (scalar_can h.1 s h.5 parts.0, array_can h.3 (t ∷ ss) h.7 parts.1)
 
 fits_from : (given : List (List (List ℕ))) (name : List ℕ) (value : Value) → keeps_limits given (Assign name value) ≡ true
@@ -42,21 +42,23 @@ entries_can : (given : List (List (List ℕ))) (text : List ℕ) (es : List Conf
 entries_can given text [] gap h limits = tt
 entries_can given text (Open name ∷ es) gap h limits =
     let parts : (keeps_limits given (Open name) ≡ true) × (keep_limits (after_entry given (Open name)) es ≡ true) =
-        and_parts (keeps_limits given (Open name)) (keep_limits (after_entry given (Open name)) es) limits in
+    and_parts (keeps_limits given (Open name)) (keep_limits (after_entry given (Open name)) es) limits in
     (h.3.1.3, entries_can (after_entry given (Open name)) h.1 es gap h.5 parts.1)
 entries_can given text (Close ∷ es) gap h limits = (tt, entries_can (after_entry given Close) h.1 es gap h.5 limits)
 entries_can given text (Assign name (One s) ∷ es) gap h limits =
     let parts : (keeps_limits given (Assign name (One s)) ≡ true) × (keep_limits (after_entry given (Assign name (One s))) es ≡ true) =
     and_parts (keeps_limits given (Assign name (One s))) (keep_limits (after_entry given (Assign name (One s))) es) limits
-    in
-    ((h.3.2.4, scalar_can h.3.1 s h.3.3 (and_parts (fits_scalar s) true (fits_from given name (One s) parts.0)).0),
-        entries_can (after_entry given (Assign name (One s))) h.1 es gap h.5 parts.1)
+    in (
+      (h.3.2.4, scalar_can h.3.1 s h.3.3 (and_parts (fits_scalar s) true (fits_from given name (One s) parts.0)).0),
+      entries_can (after_entry given (Assign name (One s))) h.1 es gap h.5 parts.1,
+    )
 entries_can given text (Assign name (Many ss) ∷ es) gap h limits =
     let parts : (keeps_limits given (Assign name (Many ss)) ≡ true) × (keep_limits (after_entry given (Assign name (Many ss))) es ≡ true) =
     and_parts (keeps_limits given (Assign name (Many ss))) (keep_limits (after_entry given (Assign name (Many ss))) es) limits
-    in
-    ((h.3.2.4, array_can h.3.3.0 ss h.3.3.1 (fits_from given name (Many ss) parts.0)),
-        entries_can (after_entry given (Assign name (Many ss))) h.1 es gap h.5 parts.1)
+    in (
+      (h.3.2.4, array_can h.3.3.0 ss h.3.3.1 (fits_from given name (Many ss) parts.0)),
+      entries_can (after_entry given (Assign name (Many ss))) h.1 es gap h.5 parts.1,
+    )
 
 pub text_can : (text : List ℕ) (es : List ConfEntry) → IsTextOf text es → CanPrint es
 text_can text es h = entries_can ([] ∷ []) text es h.spelled.gap h.spelled.entries h.limits
@@ -194,9 +196,9 @@ id_from : (printed x : List ℕ) → IsContent printed → id_printed printed �
 id_from printed x content h =
     let kept : List ℕ = filter (λ c. not (c == 45)) printed in
     let parts : ((length kept == 32 && list_all is_id_char kept && pointwise nat_eq (hyphen_form kept) printed) ≡ true) × (kept ≡ x) =
-        cond_some _ kept x h in
+    cond_some _ kept x h in
     let printed_so : pointwise nat_eq (hyphen_form kept) printed ≡ true =
-        (and_parts (length kept == 32 && list_all is_id_char kept) (pointwise nat_eq (hyphen_form kept) printed) parts.0).1 in
+    (and_parts (length kept == 32 && list_all is_id_char kept) (pointwise nat_eq (hyphen_form kept) printed) parts.0).1 in
     let same : hyphen_form x ≡ printed = ap hyphen_form (sym parts.1) ∙ same_text (hyphen_form kept) printed (sym printed_so) in
     record { again = rw same h; content = rw same content }
 

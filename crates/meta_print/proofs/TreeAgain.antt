@@ -31,7 +31,7 @@ tree_items group now = section_item group.name (group_body group) (trailer now) 
 backup_items : (group : Group) (now : ℕ) → items (backup_of group now) ≡ trailer_items now ((group.name, Body (group_body group)) ∷ [])
 backup_items group now =
     ap (trailer_items now) (ap items (sym (append-nil (section group.name (group_body group))))
-        ∙ section_item group.name (group_body group) [] (group_whole group))
+    ∙ section_item group.name (group_body group) [] (group_whole group))
 
 stands_by : (tree : Conf) (group : Group) (now : ℕ) (body : List ConfEntry) → items tree ≡ (group.name, Body body) ∷ trailer_items now []
     → is_none (group_name_refusal group.name) ≡ true → IsBeside group.name → group_in group.name (items body) ≡ Ok group
@@ -58,7 +58,7 @@ backup_known_by tree name now body found known = rw (found, known) refl
 pub tree_stands : (group : Group) (now : ℕ) → IsPrintable group → group_of (tree_of group now) ≡ Ok group
 tree_stands group now h =
     stands_by (tree_of group now) group now (group_body group) (tree_items group now) h.name_is (group_name-beside group.name h.name_is)
-        (group_read_again group h)
+    (group_read_again group h)
 
 pub backup_stands : (group : Group) (now : ℕ) → IsPrintable group → group_of (backup_of group now) ≡ Ok group
 backup_stands group now h =

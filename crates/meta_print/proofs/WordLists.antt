@@ -1,6 +1,6 @@
 -- A list of words, word by word.
-use Rattle.std.proofs.Common.{◌≡◌, ℕ, ◌+◌, ◌<◌, Bool, true, false, List, [], ◌∷◌, ◌++◌, length, get_or, map, take, refl, sym, ap, ◌∙◌,
-    arith, Bor}
+use Rattle.std.proofs.Common.{◌≡◌, ℕ, ◌+◌, ◌<◌, Bool, true, false, List, [], ◌∷◌, ◌++◌, length, get_or, map, take, refl, sym, ap, ◌∙◌}
+use Rattle.std.proofs.Common.{arith, Bor}
 use Rattle.std.proofs.lemmas.List.{take_more, take_at, take_all, length_push, get_or_push, append-nil}
 use Rattle.std.proofs.lemmas.Grind.{flat_map-append}
 use Rattle.conf_text.specs.Entries.{Text}
@@ -25,7 +25,7 @@ pub words_set_more : (pairs : List (Bool × Bor (List ℕ))) (at : ℕ) (d : Boo
     → words_set (take (at + 1) pairs) ≡ words_set (take at pairs) ++ word_if (get_or pairs at d).0 (get_or pairs at d).1.now
 words_set_more pairs at d within =
     ap words_set (take_more pairs at d within)
-        ∙ flat_map-append (λ pair. word_if pair.0 pair.1.now) (take at pairs) (get_or pairs at d ∷ [])
+    ∙ flat_map-append (λ pair. word_if pair.0 pair.1.now) (take at pairs) (get_or pairs at d ∷ [])
     ∙ ap (λ more. words_set (take at pairs) ++ more) (append-nil (word_if (get_or pairs at d).0 (get_or pairs at d).1.now))
 
 -- a pair whose word is set
@@ -36,8 +36,7 @@ pub words_set-set : (key : List ℕ) (pairs : List (Bool × Bor (List ℕ))) (at
     × (count + 1 ≡ length (words_set (take (at + 1) pairs)))
 words_set-set key pairs at count d within counts set =
     let more : words_set (take (at + 1) pairs) ≡ words_set (take at pairs) ++ (get_or pairs at d).1.now ∷ [] =
-        words_set_more pairs at d within ∙ rw set refl in
-    (
+    words_set_more pairs at d within ∙ rw set refl in (
       word_added key (words_set (take at pairs)) (get_or pairs at d).1.now count counts
           ∙ ap (λ ws. list_begun key (map Text ws)) (sym more),
       omega (arith, counts, length_push (words_set (take at pairs)) (get_or pairs at d).1.now, ap length more),

@@ -33,7 +33,7 @@ both_known {known} {words} {more} first second =
 pub vg_known : (status : VgStatus) → AllKnown (standing.vg_words ++ codes "PVMOVE" ∷ []) (vg_words status)
 vg_known status =
     both_known (both_known (known_if status.resizeable (codes "RESIZEABLE") refl) (known_if status.read (codes "READ") refl))
-        (known_if status.write (codes "WRITE") refl)
+    (known_if status.write (codes "WRITE") refl)
 
 pub lv_known : (status : LvStatus) → AllKnown standing.lv_words (lv_words status)
 lv_known status =
@@ -41,11 +41,11 @@ lv_known status =
     let write : AllKnown standing.lv_words (word_if status.write (codes "WRITE")) = known_if status.write (codes "WRITE") refl in
     let visible : AllKnown standing.lv_words (word_if status.visible (codes "VISIBLE")) = known_if status.visible (codes "VISIBLE") refl in
     let fixed : AllKnown standing.lv_words (word_if status.fixed_minor (codes "FIXED_MINOR")) =
-        known_if status.fixed_minor (codes "FIXED_MINOR") refl in
+    known_if status.fixed_minor (codes "FIXED_MINOR") refl in
     let moves : AllKnown standing.lv_words (word_if status.pvmove (codes "PVMOVE")) = known_if status.pvmove (codes "PVMOVE") refl in
     let locked : AllKnown standing.lv_words (word_if status.locked (codes "LOCKED")) = known_if status.locked (codes "LOCKED") refl in
     let notsynced : AllKnown standing.lv_words (word_if status.notsynced (codes "NOTSYNCED")) =
-        known_if status.notsynced (codes "NOTSYNCED") refl in
+    known_if status.notsynced (codes "NOTSYNCED") refl in
     both_known (both_known (both_known (both_known (both_known (both_known read write) visible) fixed) moves) locked) notsynced
 
 -- ---- each tells what it told

@@ -1,6 +1,6 @@
 -- The metadata text of a group, as its tree: one layout, which lvm2 reads.
-use Rattle.std.specs.Prelude.{ℕ, ◌+◌, Bool, true, false, not, ◌||◌, ◌==◌, nat_lt, if◌then◌else◌, List, [], ◌∷◌, ◌++◌, length, map, flat_map,
-    Option, Some, None, codes, decimal, slice_index_or}
+use Rattle.std.specs.Prelude.{ℕ, ◌+◌, Bool, true, false, not, ◌||◌, ◌==◌, nat_lt, if◌then◌else◌, List, [], ◌∷◌, ◌++◌, length, map, flat_map}
+use Rattle.std.specs.Prelude.{Option, Some, None, codes, decimal, slice_index_or}
 use Rattle.lvm_id.specs.LvmId.{hyphen_form}
 use Rattle.conf_text.specs.Entries.{Conf, ConfEntry, Open, Close, Assign, One, Many, Scalar, Number, Text}
 use Rattle.meta_model.specs.declared.group.Group.{Group}

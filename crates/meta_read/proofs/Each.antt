@@ -1,6 +1,6 @@
 -- Reading all of a list, one after the other.
-use Rattle.std.proofs.Common.{◌≡◌, ◌<◌, ◌+◌, ℕ, suc, List, [], ◌∷◌, ◌++◌, length, map, filter_map, drop, get_or, Option, Some, None, Ok,
-    Err, refl, ap, sym, ◌∙◌, append_assoc, append-nil, add-one}
+use Rattle.std.proofs.Common.{◌≡◌, ◌<◌, ◌+◌, ℕ, suc, List, [], ◌∷◌, ◌++◌, length, map, filter_map, drop, get_or, Option, Some, None, Ok}
+use Rattle.std.proofs.Common.{Err, refl, ap, sym, ◌∙◌, append_assoc, append-nil, add-one}
 use Rattle.std.proofs.Math.Seq.{drop-cons}
 use Rattle.meta_model.specs.Keys.{Read, ◌>>=◌, each}
 use Rattle.meta_model.specs.declared.refusal.GroupRefusal.{GroupRefusal}

@@ -1,6 +1,6 @@
 -- Names that are put one behind the other are found as the first of them.
-use Rattle.std.proofs.Common.{◌≡◌, ℕ, ◌+◌, Bool, true, false, nat_eq, List, [], ◌∷◌, ◌++◌, length, take, position, Option, Some, None,
-    option_map, if◌then◌else◌, cond, refl, sym, ap, ◌∙◌, ◌<◌, get_or, Bor, arith}
+use Rattle.std.proofs.Common.{◌≡◌, ℕ, ◌+◌, Bool, true, false, nat_eq, List, [], ◌∷◌, ◌++◌, length, take, position, Option, Some, None}
+use Rattle.std.proofs.Common.{option_map, if◌then◌else◌, cond, refl, sym, ap, ◌∙◌, ◌<◌, get_or, Bor, arith}
 use Rattle.std.proofs.Math.ListN.{get_or-map}
 use Rattle.std.proofs.lemmas.List.{take_more, length-take-le, length-map}
 use Rattle.conf_text.specs.Entries.{Conf}
@@ -44,15 +44,15 @@ position_from-last test first [] x = let same : first ≡ first + 0 = omega arit
 position_from-last test first (y ∷ ys) x =
     let same : first + 1 + length ys ≡ first + length (y ∷ ys) = omega arith in
     or_behind (test y) first _ (position_from test (first + 1) ys) _
-        (position_from-last test (first + 1) ys x
-        ∙ ap (λ n. option_or (position_from test (first + 1) ys) (cond (test x) (Some n) None)) same)
+    (position_from-last test (first + 1) ys x
+    ∙ ap (λ n. option_or (position_from test (first + 1) ys) (cond (test x) (Some n) None)) same)
 
 position-last : {A : Type 0} (test : A → Bool) (xs : List A) (x : A)
     → position test (xs ++ x ∷ []) ≡ option_or (position test xs) (if test x then Some (length xs) else None)
 position-last test xs x =
     let same : 0 + length xs ≡ length xs = omega arith in
     position_from-zero test (xs ++ x ∷ []) ∙ position_from-last test 0 xs x
-        ∙ ap (λ n. option_or (position_from test 0 xs) (cond (test x) (Some n) None)) same
+    ∙ ap (λ n. option_or (position_from test 0 xs) (cond (test x) (Some n) None)) same
     ∙ ap (λ found. option_or found (cond (test x) (Some (length xs)) None)) (sym (position_from-zero test xs))
 
 carried : (carrier : ℕ → On) (before : Option On) (found : Option ℕ) (here : Bool) (at : ℕ)
@@ -69,14 +69,14 @@ pub counted_one_more : {A : Type 0} (test : A → Bool) (carrier : ℕ → On) (
     ≡ option_or before (option_map carrier (position test (xs ++ x ∷ [])))
 counted_one_more test carrier before xs x =
     carried carrier before (position test xs) (test x) (length xs)
-        ∙ ap (λ found. option_or before (option_map carrier found)) (sym (position-last test xs x))
+    ∙ ap (λ found. option_or before (option_map carrier found)) (sym (position-last test xs x))
 
 names_next : (sections : List (Bor (List ℕ) × Conf)) (number : ℕ) (found : Bor (List ℕ) × Conf) → number < length sections
     → found ≡ get_or sections number found → take (number + 1) (names_in sections) ≡ take number (names_in sections) ++ found.0.now ∷ []
 names_next sections number found within is =
     let long : length (names_in sections) ≡ length sections =
-        length-map (as_sections sections) (λ (pair : List ℕ × Conf). pair.0)
-            ∙ length-map sections (λ (pair : Bor (List ℕ) × Conf). (pair.0.now, pair.1)) in
+    length-map (as_sections sections) (λ (pair : List ℕ × Conf). pair.0)
+    ∙ length-map sections (λ (pair : Bor (List ℕ) × Conf). (pair.0.now, pair.1)) in
     let here : get_or (names_in sections) number found.0.now ≡ found.0.now =
     get_or-map (λ (pair : List ℕ × Conf). pair.0) (as_sections sections) number (found.0.now, found.1)
     ∙ ap (λ (pair : List ℕ × Conf). pair.0) (get_or-map (λ (pair : Bor (List ℕ) × Conf). (pair.0.now, pair.1)) sections number found)
@@ -93,8 +93,8 @@ pub next_found : (carrier : ℕ → On) (sections : List (Bor (List ℕ) × Conf
 next_found carrier sections number at found before now q within is same_number is_now =
     let names : List (List ℕ) = take number (names_in sections) in
     let long : length (names_in sections) ≡ length sections =
-        length-map (as_sections sections) (λ (pair : List ℕ × Conf). pair.0)
-            ∙ length-map sections (λ (pair : Bor (List ℕ) × Conf). (pair.0.now, pair.1)) in
+    length-map (as_sections sections) (λ (pair : List ℕ × Conf). pair.0)
+    ∙ length-map sections (λ (pair : Bor (List ℕ) × Conf). (pair.0.now, pair.1)) in
     let counted : length names ≡ number = length-take-le number (names_in sections) (omega arith) in
     is_now
     ∙ ap (λ n. option_or (option_or before (option_map carrier (position (pointwise nat_eq q) names)))

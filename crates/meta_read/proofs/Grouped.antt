@@ -36,8 +36,14 @@ in_parts : (name : List ℕ) (one : Read (List ℕ)) (two three four five : Read
     → (one >>= λ id. two >>= λ seqno. three >>= λ extent_size. four >>= λ max_lv. five >>= λ max_pv. six >>= λ status.
     seven >>= λ _. eight >>= λ _. nine >>= λ _. ten >>= λ _. eleven >>= λ copies.
     twelve >>= λ pvs. thirteen >>= λ lvs. last pvs lvs >>= λ volumes.
-    Ok (made name (record { id = id; seqno = seqno; status = vg_status status; extent_size = extent_size; max_lv = max_lv;
-        max_pv = max_pv }) copies volumes))
+    Ok (made name (record {
+      id = id;
+      seqno = seqno;
+      status = vg_status status;
+      extent_size = extent_size;
+      max_lv = max_lv;
+      max_pv = max_pv;
+    }) copies volumes))
     ≡ ((one >>= λ id. two >>= λ seqno. three >>= λ extent_size. four >>= λ max_lv. five >>= λ max_pv. six >>= λ status.
     Ok (record { id = id; seqno = seqno; status = vg_status status; extent_size = extent_size; max_lv = max_lv; max_pv = max_pv }))
     >>= λ head. (seven >>= λ _. eight >>= λ _. nine >>= λ _. ten >>= λ _. eleven)
@@ -61,10 +67,10 @@ in_parts name (Ok a) (Ok b) (Ok c) (Ok d) (Ok e) (Ok f) (Ok g) (Ok h) (Ok i) (Ok
 pub group_in_parts : (name : List ℕ) (keys : Items) → group_in name keys ≡ group_by_parts name keys
 group_in_parts name keys =
     in_parts name (id (codes "id") keys) (required number (codes "seqno") keys) (required number (codes "extent_size") keys)
-        (required number (codes "max_lv") keys) (required number (codes "max_pv") keys)
+    (required number (codes "max_lv") keys) (required number (codes "max_pv") keys)
     (status (vg_words ++ codes "PVMOVE" ∷ []) (codes "status") keys) (only_text (codes "lvm2") (λ key. Foreign key) (codes "format") keys)
-        (only_text [] (λ key. Foreign key) (codes "system_id") keys)
+    (only_text [] (λ key. Foreign key) (codes "system_id") keys)
     (only_text (codes "none") (λ key. Foreign key) (codes "lock_type") keys) (optional words [] (codes "flags") keys)
-        (optional number 0 (codes "metadata_copies") keys)
+    (optional number 0 (codes "metadata_copies") keys)
     (required section (codes "physical_volumes") keys) (optional section [] (codes "logical_volumes") keys)
-        (λ pv_entries lv_entries. volumes_of (sections_of (items pv_entries)) (sections_of (items lv_entries)))
+    (λ pv_entries lv_entries. volumes_of (sections_of (items pv_entries)) (sections_of (items lv_entries)))

@@ -1,6 +1,6 @@
 -- Reading all rows of a table, one after the other.
-use Rattle.std.proofs.Common.{◌≡◌, ◌<◌, ◌+◌, ℕ, Bool, true, false, not, ◌&&◌, ◌||◌, nat_eq, if◌then◌else◌, List, [], ◌∷◌, ◌++◌, length, map,
-    drop, get_or, Ok, Err, is_none, refl, ap, sym, ◌∙◌}
+use Rattle.std.proofs.Common.{◌≡◌, ◌<◌, ◌+◌, ℕ, Bool, true, false, not, ◌&&◌, ◌||◌, nat_eq, if◌then◌else◌, List, [], ◌∷◌, ◌++◌, length, map}
+use Rattle.std.proofs.Common.{drop, get_or, Ok, Err, is_none, refl, ap, sym, ◌∙◌}
 use Rattle.std.proofs.lemmas.List.{map-append}
 use Rattle.std.proofs.lemmas.List.Folds.{list_any-append}
 use Rattle.std.specs.Cmp.Lexicographic.{pointwise}
@@ -22,8 +22,8 @@ named_same : {A : Type 0} (read : Items → Read A) (taken other : List (List �
 named_same read taken other [] same = refl
 named_same read taken other (found ∷ more) same =
     ap (λ b. if is_none (any_name_refusal found.0)
-        && not b then (read (items found.1) >>= λ x. named read (found.0 ∷ taken) more >>= λ xs. Ok ((found.0, x) ∷ xs)) else Err
-        (BadName found.0)) (same found.0)
+    && not b then (read (items found.1) >>= λ x. named read (found.0 ∷ taken) more >>= λ xs. Ok ((found.0, x) ∷ xs)) else Err
+    (BadName found.0)) (same found.0)
     ∙ ap (λ inner. if is_none (any_name_refusal found.0)
     && not (is_among other found.0) then (read (items found.1) >>= λ x. inner >>= λ xs. Ok ((found.0, x) ∷ xs)) else Err (BadName found.0))
     (named_same read (found.0 ∷ taken) (found.0 ∷ other) more (λ q. ap (λ b. pointwise nat_eq q found.0 || b) (same q)))
@@ -67,8 +67,8 @@ named_then_row : {A : Type 0} (read : Items → Read A) (done : List (List ℕ �
     >>= λ xs. Ok (row ∷ xs)) >>= λ more. Ok (done ++ more))
 named_then_row read done found rest =
     ap (λ all. all >>= λ more. Ok (done ++ more))
-        (read_row (is_none (any_name_refusal found.0)) (is_among (names_of done)) found (read (items found.1))
-        (λ name. named read (name ∷ names_of done) rest))
+    (read_row (is_none (any_name_refusal found.0)) (is_among (names_of done)) found (read (items found.1))
+    (λ name. named read (name ∷ names_of done) rest))
 
 -- one more was read
 named_then_next : {A : Type 0} (read : Items → Read A) (done : List (List ℕ × A)) (found : List ℕ × List ConfEntry) (row : List ℕ × A)

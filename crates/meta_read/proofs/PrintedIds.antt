@@ -1,6 +1,6 @@
 -- An id is what its printed form is without the hyphens.
-use Rattle.std.proofs.Common.{◌≡◌, ℕ, ◌+◌, Bool, true, false, not, ◌&&◌, ◌==◌, nat_eq, true≢false, List, [], ◌∷◌, ◌++◌, length, take, drop,
-    filter, Option, Some, None, refl, sym, ap, ◌∙◌, arith, length-drop, if◌then◌else◌}
+use Rattle.std.proofs.Common.{◌≡◌, ℕ, ◌+◌, Bool, true, false, not, ◌&&◌, ◌==◌, nat_eq, true≢false, List, [], ◌∷◌, ◌++◌, length, take, drop}
+use Rattle.std.proofs.Common.{filter, Option, Some, None, refl, sym, ap, ◌∙◌, arith, length-drop, if◌then◌else◌}
 use Rattle.std.proofs.lemmas.Bool.{eqb-true, eq-eqb}
 use Rattle.std.proofs.lemmas.List.{take-append-drop, take_all}
 use Rattle.std.proofs.lemmas.List.Elements.{filter-append}
@@ -43,12 +43,12 @@ total (n ∷ ns) = n + total ns
 front-chars : (n : ℕ) (chars : List ℕ) → list_all is_id_char chars ≡ true → list_all is_id_char (take n chars) ≡ true
 front-chars n chars are =
     and-first _ _ (sym (list_all-append is_id_char (take n chars) (drop n chars)) ∙ ap (list_all is_id_char) (take-append-drop n chars)
-        ∙ are)
+    ∙ are)
 
 rest-chars : (n : ℕ) (chars : List ℕ) → list_all is_id_char chars ≡ true → list_all is_id_char (drop n chars) ≡ true
 rest-chars n chars are =
     and-second (list_all is_id_char (take n chars)) _
-        (sym (list_all-append is_id_char (take n chars) (drop n chars)) ∙ ap (list_all is_id_char) (take-append-drop n chars) ∙ are)
+    (sym (list_all-append is_id_char (take n chars) (drop n chars)) ∙ ap (list_all is_id_char) (take-append-drop n chars) ∙ are)
 
 empty : (chars : List ℕ) → 0 ≡ length chars → [] ≡ chars
 empty [] none = refl
@@ -89,7 +89,7 @@ id_printed-is id text is printed =
     let long : (length id == 32) ≡ true = eq-eqb (length id) 32 is.length_is in
     let chars : list_all is_id_char id ≡ true = list_all-from_AllPass is_id_char id is.in_alphabet in
     let same : pointwise nat_eq (hyphen_form id) text ≡ true =
-        ap (pointwise nat_eq (hyphen_form id)) (sym printed) ∙ pointwise-same (hyphen_form id) in
+    ap (pointwise nat_eq (hyphen_form id)) (sym printed) ∙ pointwise-same (hyphen_form id) in
     rw (bare, long, chars, same) refl
 
 -- where an id is read of the text, it prints as the text
@@ -99,7 +99,7 @@ printed-id_printed id text read = by (is_read text) refl read
     is_read : List ℕ → Bool
     is_read printed =
         length (filter no_hyphen printed) == 32 && list_all is_id_char (filter no_hyphen printed)
-            && pointwise nat_eq (hyphen_form (filter no_hyphen printed)) printed
+        && pointwise nat_eq (hyphen_form (filter no_hyphen printed)) printed
 
     by : (b : Bool) → is_read text ≡ b → (if b then Some (filter no_hyphen text) else None) ≡ Some id → IsId id × (hyphen_form id ≡ text)
     by true e some =
@@ -108,8 +108,7 @@ printed-id_printed id text read = by (is_read text) refl read
         let long : length (filter no_hyphen text) ≡ 32 = eqb-true _ _ (and-first _ _ front) in
         let chars : list_all is_id_char (filter no_hyphen text) ≡ true = and-second (length (filter no_hyphen text) == 32) _ front in
         let same : hyphen_form (filter no_hyphen text) ≡ text =
-            pointwise-equal _ _ (and-second (length (filter no_hyphen text) == 32 && list_all is_id_char (filter no_hyphen text)) _ e) in
-        (
+        pointwise-equal _ _ (and-second (length (filter no_hyphen text) == 32 && list_all is_id_char (filter no_hyphen text)) _ e) in (
           record {
             length_is = ap length (sym bare) ∙ long;
             in_alphabet = AllPass-from_list_all is_id_char id (ap (list_all is_id_char) (sym bare) ∙ chars);

@@ -22,4 +22,4 @@ pub list_any-among : (words : List (Bor (List ℕ))) (word : List ℕ)
 list_any-among [] word = refl
 list_any-among (other ∷ others) word =
     ap (λ b. b || list_any (λ other. pointwise nat_eq other.now word) others) (pointwise-flip other.now word)
-        ∙ ap (λ b. pointwise nat_eq word other.now || b) (list_any-among others word)
+    ∙ ap (λ b. pointwise nat_eq word other.now || b) (list_any-among others word)

@@ -6,8 +6,8 @@ use Rattle.meta_model.specs.PassedOver.{passed_over}
 use Rattle.meta_model.specs.Standing.{group_of}
 use Rattle.meta_model.specs.declared.group.Group.{Group}
 use Rattle.meta_model.specs.declared.lv.Lv.{Lv}
-use Rattle.meta_model.specs.declared.refusal.GroupRefusal.TheVariants.{Missing, WrongKind, UnknownStatus, UnknownSegment, Foreign,
-    CountDiffers, UnknownName, BadName, BadId}
+use Rattle.meta_model.specs.declared.refusal.GroupRefusal.TheVariants.{Missing, WrongKind, UnknownStatus, UnknownSegment, Foreign}
+use Rattle.meta_model.specs.declared.refusal.GroupRefusal.TheVariants.{CountDiffers, UnknownName, BadName, BadId}
 use Rattle.meta_model.specs.declared.segment.On.TheVariants as on
 use Rattle.meta_model.specs.declared.segment.SegKind.TheVariants.{Striped}
 
@@ -46,9 +46,18 @@ group lvs = record {
   max_lv = 0;
   max_pv = 0;
   copies = 0;
-  pvs =
-      (codes "pv0", record { id = codes "00000000100000000100000030000000"; device = codes "a"; allocatable = true; missing = false;
-          dev_size = 131072; pe_start = 2048; pe_count = 15 }) ∷ [];
+  pvs = (
+    codes "pv0",
+    record {
+      id = codes "00000000100000000100000030000000";
+      device = codes "a";
+      allocatable = true;
+      missing = false;
+      dev_size = 131072;
+      pe_start = 2048;
+      pe_count = 15;
+    },
+  ) ∷ [];
   lvs = lvs;
 }
 
@@ -75,7 +84,7 @@ colour_is_unknown = refl
 abbrev volume : ℕ → List ConfEntry → List ConfEntry
 volume said keys =
     Open (codes "logical_volumes") ∷ Open (codes "data") ∷ text (codes "id") (codes "500000-0050-0000-0060-0000-0070-000000")
-        ∷ words (codes "status") (codes "READ" ∷ codes "VISIBLE" ∷ [])
+    ∷ words (codes "status") (codes "READ" ∷ codes "VISIBLE" ∷ [])
     ∷ words (codes "flags") (codes "ACTIVATION_SKIP" ∷ []) ∷ text (codes "allocation_policy") (codes "inherit")
     ∷ number (codes "segment_count") said
     ∷ Open (codes "segment1") ∷ number (codes "start_extent") 0 ∷ number (codes "extent_count") 4 ∷ keys ++ Close ∷ Close ∷ Close ∷ []
@@ -83,7 +92,7 @@ volume said keys =
 abbrev linear : List ℕ → List ConfEntry
 linear name =
     text (codes "type") (codes "striped") ∷ number (codes "stripe_count") 1 ∷ Assign (codes "stripes") (Many (Text name ∷ Number 7 ∷ []))
-        ∷ []
+    ∷ []
 
 -- `PVMOVE` of the group and an unknown flag decide nothing, and a policy is passed over
 linear_stands : group_of (tree (codes "PVMOVE" ∷ all_words) [] (volume 1 (linear (codes "pv0"))))

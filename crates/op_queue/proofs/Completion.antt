@@ -1,6 +1,6 @@
 -- What is left of a queue after an operation was taken out, carried out and counted.
-use Rattle.std.proofs.Common.{◌≡◌, ◌≤◌, ◌<◌, ℕ, ◌+◌, Bool, true, false, cond, not, ◌==◌, ◌&&◌, List, [], length, map, remove,
-    slice_index_or, vec_len, refl, ap, ◌∙◌, arith}
+use Rattle.std.proofs.Common.{◌≡◌, ◌≤◌, ◌<◌, ℕ, ◌+◌, Bool, true, false, cond, not, ◌==◌, ◌&&◌, List, [], length, map, remove}
+use Rattle.std.proofs.Common.{slice_index_or, vec_len, refl, ap, ◌∙◌, arith}
 use Rattle.std.specs.Prelude.{if◌then◌else◌}
 use Rattle.std.specs.VecDeque.{deque_len, deque_capacity}
 use Rattle.std.proofs.lemmas.List.{length-map}
@@ -41,11 +41,11 @@ at_most_one false x y h = omega arith
 -- the operation at this place completes
 module _ (whole : OpQueue) (at tag : ℕ) (op : Op) (well : Bool) (rest new : OpQueue) (taken : IsTakenFrom whole at tag op rest)
     (waiting : new.waiting ≡ rest.waiting) (sizes : new.sizes ≡ rest.sizes) (next_tag : new.next_tag ≡ rest.next_tag)
-        (steps : new.steps ≡ rest.steps + 1)
+    (steps : new.steps ≡ rest.steps + 1)
     (spare_ops : new.spare_ops ≡ rest.spare_ops) (spare_sectors : new.spare_sectors ≡ rest.spare_sectors)
     (counted : vec_len new.faults ≡ vec_len rest.faults)
     (faults : (p : ℕ) → slice_index_or new.faults.items p 0
-        ≡ (if not well && (disk_of op == p) then slice_index_or rest.faults.items p 0 + 1 else slice_index_or rest.faults.items p 0)) where
+    ≡ (if not well && (disk_of op == p) then slice_index_or rest.faults.items p 0 + 1 else slice_index_or rest.faults.items p 0)) where
   -- what is left in flight
   left : new.waiting.items ≡ remove whole.waiting.items at
   left = ap (λ q. q.items) waiting ∙ taken.waiting
@@ -75,8 +75,15 @@ module _ (whole : OpQueue) (at tag : ℕ) (op : Op) (well : Bool) (rest new : Op
     order = rw left (all_pairs_remove IsBefore whole.waiting.items at taken.here taken.good.order);
     steps = omega (arith, taken.good.steps, len, same_tag, steps, taken.steps);
     faults =
-        λ p. omega (arith, taken.good.faults p, at_most_one (not well && (disk_of op == p)) (slice_index_or whole.faults.items p 0)
-            (slice_index_or new.faults.items p 0) (counts p), len, steps, taken.steps);
+        λ p. omega (
+          arith,
+          taken.good.faults p,
+          at_most_one (not well && (disk_of op == p)) (slice_index_or whole.faults.items p 0)
+              (slice_index_or new.faults.items p 0) (counts p),
+          len,
+          steps,
+          taken.steps,
+        );
     room = omega (arith, taken.good.room, len, capacity, spare_ops, taken.spare_ops);
     life = omega (arith, taken.good.life, same_tag, spare_ops, taken.spare_ops);
   }

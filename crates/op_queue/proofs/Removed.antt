@@ -1,6 +1,6 @@
 -- The operations in flight, after one was taken out.
-use Rattle.std.proofs.Common.{◌≡◌, ◌≢◌, ◌⊎◌, inl, inr, ◌<◌, ℕ, zero, suc, List, [], ◌∷◌, not, ◌==◌, filter, length, take, drop, map, remove,
-    get_or, Some, All, AllPairs, Contains, ⊎_elim, refl, sym, ap, subst, ◌∙◌, arith}
+use Rattle.std.proofs.Common.{◌≡◌, ◌≢◌, ◌⊎◌, inl, inr, ◌<◌, ℕ, zero, suc, List, [], ◌∷◌, not, ◌==◌, filter, length, take, drop, map, remove}
+use Rattle.std.proofs.Common.{get_or, Some, All, AllPairs, Contains, ⊎_elim, refl, sym, ap, subst, ◌∙◌, arith}
 use Rattle.std.proofs.lemmas.List.{length-map, get_or-map, map-append, take-map, drop-map}
 use Rattle.std.proofs.lemmas.List.Elements.{All-append, All-take, All-drop, Contains-append_right}
 use Rattle.std.proofs.lemmas.Bool.Decides.{eqb_tells}
@@ -27,7 +27,7 @@ pub found_at : (os : List Operation) (at : ℕ) (o : Operation) → at < length 
 found_at [] at o lt e h = absurd (omega arith)
 found_at (p ∷ os) zero o lt e h =
     ⊎_elim (λ same. rw same.0 (ap (λ (v : Operation). Some v.work) e)) (λ other. absurd (other.1 (ap (λ (v : Operation). v.tag) e)))
-        (eqb_tells p.tag o.tag)
+    (eqb_tells p.tag o.tag)
 found_at (p ∷ os) (suc at) o lt e h =
     let before : p.tag < (get_or os at o).tag = h 0 (suc at) o (omega arith) (omega arith) in
     let before' : p.tag < o.tag = subst (λ (v : Operation). p.tag < v.tag) e before in
@@ -52,14 +52,14 @@ filter_removed [] at o lt e h = absurd (omega arith)
 filter_removed (p ∷ os) zero o lt e h =
     let here : os ≡ filter (λ (q : Operation). not (q.tag == p.tag)) (p ∷ os) =
     ⊎_elim (λ same. rw same.0 (filter_none os p.tag (λ k d le. h 0 (suc k) d (omega arith) (omega arith)))) (λ other. absurd (other.1 refl))
-        (eqb_tells p.tag p.tag) in
+    (eqb_tells p.tag p.tag) in
     subst (λ (v : Operation). os ≡ filter (λ (q : Operation). not (q.tag == v.tag)) (p ∷ os)) e here
 filter_removed (p ∷ os) (suc at) o lt e h =
     let before : p.tag < (get_or os at o).tag = h 0 (suc at) o (omega arith) (omega arith) in
     let before' : p.tag < o.tag = subst (λ (v : Operation). p.tag < v.tag) e before in
     ⊎_elim (λ same. absurd (let e' : p.tag ≡ o.tag = same.1 in omega arith))
     (λ other. rw other.0 (ap (λ (l : List Operation). p ∷ l)
-        (filter_removed os at o (omega arith) e (λ i j d a b. h (suc i) (suc j) d (omega arith) (omega arith)))))
+    (filter_removed os at o (omega arith) e (λ i j d a b. h (suc i) (suc j) d (omega arith) (omega arith)))))
     (eqb_tells p.tag o.tag)
 
 -- of a list and one more in front
@@ -73,7 +73,7 @@ pub ready_left : (os : List Operation) (at : ℕ) (o : Operation) (t : ℕ) → 
 ready_left [] at o t lt which was other = absurd (omega arith)
 ready_left (p ∷ os) zero o t lt which was other =
     ⊎_elim (λ here. absurd (other (sym here ∙ ap (λ (v : Operation). v.tag) which))) (λ later. later)
-        (contains_cons p.tag (tags_of os) t was)
+    (contains_cons p.tag (tags_of os) t was)
 ready_left (p ∷ os) (suc at) o t lt which was other =
     ⊎_elim
     (λ here. (0, omega arith, here))

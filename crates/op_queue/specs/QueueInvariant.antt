@@ -51,7 +51,7 @@ lawful_of queue good = record {
   order = order_of queue.waiting.items good.order;
   within =
       All-map (λ (o : Operation). LiesWithin queue.sizes.items o.work) operation_of queue.waiting.items
-          (λ k d lt. lies_within queue.sizes.items _ (good.waits k d lt).0);
+      (λ k d lt. lies_within queue.sizes.items _ (good.waits k d lt).0);
   ready = All-contains_itself (tags_of (map operation_of queue.waiting.items));
   faults = λ pv. simp length-map (omega (arith, good.faults pv));
   life = simp length-map (omega arith);

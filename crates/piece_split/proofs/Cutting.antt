@@ -1,6 +1,6 @@
 -- The first piece of a request, and those of what is left.
-use Rattle.std.proofs.Common.{◌≡◌, ℕ, zero, suc, ◌+◌, ◌-◌, ◌*◌, ◌/◌, ◌%◌, ◌≤◌, Bool, cond, List, [], ◌∷◌, ◌++◌, map, max, min, inl, inr,
-    refl, sym, ap, subst, ◌∙◌, arith, append_assoc, append-nil}
+use Rattle.std.proofs.Common.{◌≡◌, ℕ, zero, suc, ◌+◌, ◌-◌, ◌*◌, ◌/◌, ◌%◌, ◌≤◌, Bool, cond, List, [], ◌∷◌, ◌++◌, map, max, min, inl, inr}
+use Rattle.std.proofs.Common.{refl, sym, ap, subst, ◌∙◌, arith, append_assoc, append-nil}
 use Rattle.std.specs.List.{range_with_len}
 use Rattle.std.proofs.lemmas.Bool.{cases_lt, ne_eqb}
 use Rattle.sector_base.specs.declared.places.Piece.{Piece}
@@ -13,7 +13,7 @@ piece volume write first count = record { volume = volume; first = first; count 
 some_blocks : (first count : ℕ) → 1 ≤ count → blocks_of first count ≡ range_with_len (first / 8) ((first + count - 1) / 8 - first / 8 + 1)
 some_blocks first count some =
     ap (λ (b : Bool). cond b [] (range_with_len (first / 8) ((first + count - 1) / 8 - first / 8 + 1)))
-        (ne_eqb count 0 (λ none. omega arith))
+    (ne_eqb count 0 (λ none. omega arith))
 
 -- two requests that end at one sector have the same of a block that lies in both
 same_piece : (volume first count later left : ℕ) (write : Bool) (block : ℕ) → first + count ≡ later + left → first ≤ 8 * block
@@ -29,7 +29,7 @@ same_pieces : (volume first count later left : ℕ) (write : Bool) (from n : ℕ
 same_pieces volume first count later left write from zero ends low low' = refl
 same_pieces volume first count later left write from (suc n) ends low low' =
     ap (λ (p : Piece). p ∷ map (piece_in volume first count write) (range_with_len (from + 1) n))
-        (same_piece volume first count later left write from ends low low')
+    (same_piece volume first count later left write from ends low low')
     ∙ ap (λ (ps : List Piece). piece_in volume later left write from ∷ ps)
     (same_pieces volume first count later left write (from + 1) n ends (omega arith) (omega arith))
 
@@ -59,7 +59,7 @@ later_blocks volume first count write some =
           let none : n ≡ 0 = omega arith in
           let left : count - step ≡ 0 = omega arith in
           ap (λ (k : ℕ). map (piece_in volume first count write) (range_with_len (first / 8 + 1) k)) none
-              ∙ sym (ap (λ (k : ℕ). pieces_of volume (first + step) k write) left ∙ no_pieces volume (first + step) write)
+          ∙ sym (ap (λ (k : ℕ). pieces_of volume (first + step) k write) left ∙ no_pieces volume (first + step) write)
       | inl more ↦
           let later : ℕ = first + step in
           let left : ℕ = count - step in
@@ -98,13 +98,13 @@ pub more_pieces : (volume at left count : ℕ) (write : Bool) (before whole : Li
 more_pieces volume at left count write before whole some is so_far =
     let next : pieces_of volume at left write ≡ piece volume write at count ∷ pieces_of volume (at + count) (left - count) write =
     subst (λ (n : ℕ). pieces_of volume at left write ≡ piece volume write at n ∷ pieces_of volume (at + n) (left - n) write) (sym is)
-        (split_first volume at left write some) in
+    (split_first volume at left write some) in
     append_assoc before (piece volume write at count ∷ []) (pieces_of volume (at + count) (left - count) write)
-        ∙ ap (λ (l : List Piece). before ++ l) (sym next) ∙ so_far
+    ∙ ap (λ (l : List Piece). before ++ l) (sym next) ∙ so_far
 
 -- where nothing is left, they are all
 pub all_pieces : (volume at left : ℕ) (write : Bool) (before whole : List Piece) → left ≡ 0
     → before ++ pieces_of volume at left write ≡ whole → before ≡ whole
 all_pieces volume at left write before whole none so_far =
     sym (append-nil before) ∙ ap (λ (l : List Piece). before ++ l)
-        (sym (ap (λ (n : ℕ). pieces_of volume at n write) none ∙ no_pieces volume at write)) ∙ so_far
+    (sym (ap (λ (n : ℕ). pieces_of volume at n write) none ∙ no_pieces volume at write)) ∙ so_far

@@ -17,23 +17,23 @@ by_pieces volume write P none more zero first (suc n) le = absurd (omega arith)
 by_pieces volume write P none more (suc most) first (suc n) le =
     let step : ℕ = min (8 - first % 8) (suc n) in
     let rest : P (first + step) (suc n - step) (pieces_of volume (first + step) (suc n - step) write) =
-        by_pieces volume write P none more most (first + step) (suc n - step) (omega arith) in
+    by_pieces volume write P none more most (first + step) (suc n - step) (omega arith) in
     subst (P first (suc n)) (sym (split_first volume first (suc n) write (omega arith)))
-        (more first (suc n) step (pieces_of volume (first + step) (suc n - step) write) (omega arith) refl rest)
+    (more first (suc n) step (pieces_of volume (first + step) (suc n - step) write) (omega arith) refl rest)
 
 -- they follow each other from the first sector to the last
 pub all_cover : (volume first count : ℕ) (write : Bool) → Cover first (first + count) (pieces_of volume first count write)
 all_cover volume first count write =
     by_pieces volume write (λ (from n : ℕ) (ps : List Piece). Cover from (from + n) ps) (λ from. omega arith)
     (λ from n step rest some is later. let ends : from + step + (n - step)
-        ≡ from + n = omega arith in (refl, subst (λ (to : ℕ). Cover (from + step) to rest) ends later)) count first count (omega arith)
+    ≡ from + n = omega arith in (refl, subst (λ (to : ℕ). Cover (from + step) to rest) ends later)) count first count (omega arith)
 
 -- they are of the request
 pub all_of_request : (volume first count : ℕ) (write : Bool)
     → AllByRecursion (λ (p : Piece). (p.volume ≡ volume) × (p.write ≡ write)) (pieces_of volume first count write)
 all_of_request volume first count write =
     by_pieces volume write (λ (from n : ℕ) (ps : List Piece). AllByRecursion (λ (p : Piece). (p.volume ≡ volume) × (p.write ≡ write)) ps)
-        (λ from. tt)
+    (λ from. tt)
     (λ from n step rest some is later. ((refl, refl), later)) count first count (omega arith)
 
 -- each lies in one block
@@ -54,9 +54,9 @@ begin_at_multiples : (volume first count : ℕ) (write : Bool) → ((first % 8 �
     → AllByRecursion (λ (p : Piece). p.first % 8 ≡ 0) (pieces_of volume first count write)
 begin_at_multiples volume first count write =
     by_pieces volume write (λ (from n : ℕ) (ps : List Piece). ((from % 8 ≡ 0) ⊎ (n ≡ 0))
-        → AllByRecursion (λ (p : Piece). p.first % 8 ≡ 0) ps) (λ from start. tt)
+    → AllByRecursion (λ (p : Piece). p.first % 8 ≡ 0) ps) (λ from start. tt)
     (λ from n step rest some is later start. first_begins from n step rest some later (cut from n step is) start) count first count
-        (omega arith)
+    (omega arith)
   where
     first_begins : (from n step : ℕ) (rest : List Piece) → 1 ≤ n
         → (((from + step) % 8 ≡ 0) ⊎ (n - step ≡ 0) → AllByRecursion (λ (p : Piece). p.first % 8 ≡ 0) rest)
@@ -73,5 +73,5 @@ later_begin volume first zero write =
 later_begin volume first (suc n) write =
     let step : ℕ = min (8 - first % 8) (suc n) in
     subst (λ (ps : List Piece). AllByRecursion (λ (p : Piece). p.first % 8 ≡ 0) (drop 1 ps))
-        (sym (split_first volume first (suc n) write (omega arith)))
+    (sym (split_first volume first (suc n) write (omega arith)))
     (begin_at_multiples volume (first + step) (suc n - step) write (cut first (suc n) step refl))

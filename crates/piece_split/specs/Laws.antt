@@ -20,7 +20,7 @@ PiecesCoverRequest = (volume first count : ℕ) (write : Bool) → Cover first (
 abbrev pub PiecesAreOfRequest : Type 0
 PiecesAreOfRequest =
     (volume first count : ℕ) (write : Bool) → All (λ piece. (piece.volume ≡ volume) × (piece.write ≡ write))
-        (pieces_of volume first count write)
+    (pieces_of volume first count write)
 
 -- a piece has a sector, and all its sectors lie between two multiples of eight
 abbrev pub IsInOneBlock : Piece → Type 0

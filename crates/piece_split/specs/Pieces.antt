@@ -10,8 +10,12 @@ blocks_of first count = if count == 0 then [] else range_with_len (first / 8) ((
 -- the part of a request in the block of eight sectors with this number
 abbrev pub piece_in : ℕ → ℕ → ℕ → Bool → ℕ → Piece
 piece_in volume first count write block =
-    record { volume = volume; first = max first (8 * block); count = min (first + count) (8 * block + 8) - max first (8 * block);
-        write = write }
+    record {
+      volume = volume;
+      first = max first (8 * block);
+      count = min (first + count) (8 * block + 8) - max first (8 * block);
+      write = write;
+    }
 
 -- the pieces of a request, in order: its part in each block
 unfoldable pub pieces_of : ℕ → ℕ → ℕ → Bool → List Piece

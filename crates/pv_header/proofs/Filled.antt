@@ -1,7 +1,7 @@
 -- A sector that is filled from its front on, with zeros behind.
 use Rattle.std.proofs.Common.{◌≡◌, ℕ, ◌+◌, ◌-◌, ◌≤◌, List, [], ◌++◌, length, take, drop, replicate, sym, ap, ◌∙◌, arith}
-use Rattle.std.proofs.lemmas.List.{append-nil, append_assoc, length-append, length-replicate, length-take-le, drop_all,
-    replicate-append-replicate}
+use Rattle.std.proofs.lemmas.List.{append-nil, append_assoc, length-append, length-replicate, length-take-le, drop_all}
+use Rattle.std.proofs.lemmas.List.{replicate-append-replicate}
 use Rattle.sector_base.specs.Fields.{with_bytes}
 use Rattle.pv_header.proofs.Placed.{with_bytes-zeros}
 
@@ -28,14 +28,14 @@ Fills-put old front place new bs next fills e n h =
     record {
       bytes =
           e ∙ ap (λ s. with_bytes s place bs) fills.bytes ∙ with_bytes-zeros front (512 - place) place bs fills.front_len (omega arith)
-              ∙ ap (λ m. front ++ bs ++ replicate m 0) left;
+          ∙ ap (λ m. front ++ bs ++ replicate m 0) left;
       front_len = omega (arith, length-append front bs, fills.front_len);
     }
 
 skipped : (front : List ℕ) (all n rest : ℕ) → all ≡ n + rest → front ++ replicate all 0 ≡ front ++ replicate n 0 ++ replicate rest 0
 skipped front all n rest e =
     ap (λ m. front ++ replicate m 0) e ∙ ap (λ (zs : List ℕ). front ++ zs) (sym (replicate-append-replicate n rest 0))
-        ∙ sym (append_assoc front (replicate n 0) (replicate rest 0))
+    ∙ sym (append_assoc front (replicate n 0) (replicate rest 0))
 
 -- zeros passed over
 pub Fills-skip : (sector front : List ℕ) (place n next : ℕ) → Fills sector front place → next ≡ place + n → next ≤ 512

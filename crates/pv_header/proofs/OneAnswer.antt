@@ -1,6 +1,6 @@
 -- A sector has one header at most, and one answer: but for the want of memory, no two answers fit it.
-use Rattle.std.proofs.Common.{◌≡◌, ℕ, ◌+◌, ◌*◌, ◌≤◌, Option, Some, None, Result, Ok, Err, List, [], ◌∷◌, ◌++◌, length, find, refl, sym, ap,
-    subst, ◌∙◌, arith, ◌⊎◌, inl, inr, MatchResult, slice_range}
+use Rattle.std.proofs.Common.{◌≡◌, ℕ, ◌+◌, ◌*◌, ◌≤◌, Option, Some, None, Result, Ok, Err, List, [], ◌∷◌, ◌++◌, length, find, refl, sym, ap}
+use Rattle.std.proofs.Common.{subst, ◌∙◌, arith, ◌⊎◌, inl, inr, MatchResult, slice_range}
 use Rattle.std.proofs.lemmas.Bool.{cases_lt}
 use Rattle.std.proofs.lemmas.List.{ext_get_or}
 use Rattle.std.proofs.lemmas.Option.{get_or_from_slice_get}
@@ -10,8 +10,8 @@ use Rattle.lvm_id.specs.LvmId.{IsId, IsFirstMisfit, fits_plain}
 use Rattle.pv_header.specs.declared.extent_list.Extent.{Extent}
 use Rattle.pv_header.specs.declared.header.PvHeader.{PvHeader}
 use Rattle.pv_header.specs.declared.refusal.PvRefusal.{PvRefusal}
-use Rattle.pv_header.specs.declared.refusal.PvRefusal.TheVariants.{NoMemory, BadId, ListUnended, AreaOutside, AreaShape, AreasOverlap,
-    Bootloader}
+use Rattle.pv_header.specs.declared.refusal.PvRefusal.TheVariants.{NoMemory, BadId, ListUnended, AreaOutside, AreaShape, AreasOverlap}
+use Rattle.pv_header.specs.declared.refusal.PvRefusal.TheVariants.{Bootloader}
 use Rattle.pv_header.specs.Areas.{is_outside, is_misshapen, first_overlap}
 use Rattle.pv_header.specs.Extents.{IsListAt, IsUnended, extent_at}
 use Rattle.pv_header.specs.PvHeader.{IsPvHeader, after_list, areas_place, extension_place}
@@ -49,18 +49,26 @@ IsPvHeader-unique sector g h b c x y =
     let data_same = IsListAt-unique sector 72 g.data_areas h.data_areas x.data_at y.data_at in
     let place_same : areas_place g ≡ areas_place h = ap (after_list 72) data_same in
     let areas_same =
-        IsListAt-unique sector (areas_place g) g.areas h.areas x.areas_at
-            (subst (λ at. IsListAt sector at h.areas) (sym place_same) y.areas_at) in
+    IsListAt-unique sector (areas_place g) g.areas h.areas x.areas_at
+    (subst (λ at. IsListAt sector at h.areas) (sym place_same) y.areas_at) in
     let extension_same : extension_place g ≡ extension_place h = λ i. after_list (place_same i) (areas_same i) in
     let id_same = sym x.id_at ∙ y.id_at in
     let device_same = sym x.device_at ∙ y.device_at in
     let version_same = sym x.version_at ∙ ap (field 4 sector) extension_same ∙ y.version_at in
     let flags_same = sym x.flags_at ∙ ap (λ at. field 4 sector (at + 4)) extension_same ∙ y.flags_at in
     let bootloader_same =
-        IsListAt-unique sector (extension_place g + 8) b c x.bootloader_at
-            (subst (λ at. IsListAt sector (at + 8) c) (sym extension_same) y.bootloader_at) in
-    (λ i. record { id = id_same i; device_bytes = device_same i; data_areas = data_same i; areas = areas_same i; version = version_same i;
-        flags = flags_same i }, bootloader_same)
+    IsListAt-unique sector (extension_place g + 8) b c x.bootloader_at
+    (subst (λ at. IsListAt sector (at + 8) c) (sym extension_same) y.bootloader_at) in (
+      λ i. record {
+        id = id_same i;
+        device_bytes = device_same i;
+        data_areas = data_same i;
+        areas = areas_same i;
+        version = version_same i;
+        flags = flags_same i;
+      },
+      bootloader_same,
+    )
 
 -- the id of a header is one
 id_of_header : (sector : List ℕ) (h : PvHeader) (b : List Extent) → IsPvHeader sector h b → IsId (slice_range sector 32 64)
@@ -87,14 +95,14 @@ IsFirstUnended-no_header sector _ h b (data_list unended) x = IsListAt-not_unend
 IsFirstUnended-no_header sector _ h b (metadata_list data_areas data_at unended) x =
     let same = IsListAt-unique sector 72 data_areas h.data_areas data_at x.data_at in
     IsListAt-not_unended sector (after_list 72 data_areas) h.areas
-        (IsListAt-after sector 72 data_areas h.data_areas h.areas same x.areas_at) unended
+    (IsListAt-after sector 72 data_areas h.data_areas h.areas same x.areas_at) unended
 IsFirstUnended-no_header sector _ h b (bootloader_list data_areas areas data_at areas_at unended) x =
     let data_same = IsListAt-unique sector 72 data_areas h.data_areas data_at x.data_at in
     let areas_same =
-        IsListAt-unique sector (after_list 72 data_areas) areas h.areas areas_at
-            (IsListAt-after sector 72 data_areas h.data_areas h.areas data_same x.areas_at) in
+    IsListAt-unique sector (after_list 72 data_areas) areas h.areas areas_at
+    (IsListAt-after sector 72 data_areas h.data_areas h.areas data_same x.areas_at) in
     let place_same : after_list (after_list 72 data_areas) areas ≡ extension_place h =
-        λ i. after_list (after_list 72 (data_same i)) (areas_same i) in
+    λ i. after_list (after_list 72 (data_same i)) (areas_same i) in
     IsListAt-not_unended sector (extension_place h + 8) b x.bootloader_at (subst (λ at. IsUnended sector (at + 8)) place_same unended)
 
 -- the first list without an end is one
@@ -109,12 +117,12 @@ IsFirstUnended-unique sector _ _ (metadata_list data_areas data_at u) (data_list
 IsFirstUnended-unique sector _ _ (metadata_list data_areas data_at u) (metadata_list data_areas' data_at' v) = refl
 IsFirstUnended-unique sector _ _ (metadata_list xs data_at u) (bootloader_list ys areas data_at' areas_at v) =
     absurd (IsListAt-not_unended sector (after_list 72 xs) areas
-        (IsListAt-after sector 72 xs ys areas (IsListAt-unique sector 72 xs ys data_at data_at') areas_at) u)
+    (IsListAt-after sector 72 xs ys areas (IsListAt-unique sector 72 xs ys data_at data_at') areas_at) u)
 IsFirstUnended-unique sector _ _ (bootloader_list data_areas areas data_at areas_at u) (data_list v) =
     absurd (IsListAt-not_unended sector 72 data_areas data_at v)
 IsFirstUnended-unique sector _ _ (bootloader_list ys areas data_at areas_at u) (metadata_list xs data_at' v) =
     absurd (IsListAt-not_unended sector (after_list 72 xs) areas
-        (IsListAt-after sector 72 xs ys areas (IsListAt-unique sector 72 xs ys data_at' data_at) areas_at) v)
+    (IsListAt-after sector 72 xs ys areas (IsListAt-unique sector 72 xs ys data_at' data_at) areas_at) v)
 IsFirstUnended-unique sector _ _ (bootloader_list xs areas data_at areas_at u) (bootloader_list ys areas' data_at' areas_at' v) = refl
 
 -- what the three tests of the areas make of a header's fields
@@ -128,7 +136,7 @@ verdict None None None h (area ∷ more) disk_bytes = Err (Bootloader area.offse
 verdict_of : ℕ → PvHeader → List Extent → Result PvHeader PvRefusal
 verdict_of disk_bytes h b =
     verdict (find (is_outside disk_bytes) (h.data_areas ++ h.areas)) (find is_misshapen h.areas)
-        (option_map offsets_of (first_overlap (h.data_areas ++ h.areas) disk_bytes)) h b disk_bytes
+    (option_map offsets_of (first_overlap (h.data_areas ++ h.areas) disk_bytes)) h b disk_bytes
 
 abbrev Answers : List ℕ → ℕ → Result PvHeader PvRefusal → Type 0
 Answers sector disk_bytes r = MatchResult r (Reads sector disk_bytes) (Refuses sector disk_bytes)
@@ -159,8 +167,8 @@ answer_of_header sector disk_bytes h b (Err (ListUnended list)) x a = absurd (Is
 answer_of_header sector disk_bytes h b (Err (AreaOutside offset size bytes)) x (g, c, y, (e, said)) =
     same_verdict sector disk_bytes g h c b (Err (AreaOutside offset size bytes)) y x
     (ap (λ n. Err (AreaOutside offset size n)) said
-        ∙ (λ i. verdict (sym e i) (find is_misshapen g.areas) (option_map offsets_of (first_overlap (g.data_areas ++ g.areas) disk_bytes)) g
-        c disk_bytes))
+    ∙ (λ i. verdict (sym e i) (find is_misshapen g.areas) (option_map offsets_of (first_overlap (g.data_areas ++ g.areas) disk_bytes)) g
+    c disk_bytes))
 answer_of_header sector disk_bytes h b (Err (AreaShape offset size)) x (g, c, y, (inside, e)) =
     same_verdict sector disk_bytes g h c b (Err (AreaShape offset size)) y x
     (λ i. verdict (sym inside i) (sym e i) (option_map offsets_of (first_overlap (g.data_areas ++ g.areas) disk_bytes)) g c disk_bytes)
@@ -170,7 +178,7 @@ answer_of_header sector disk_bytes h b (Err (AreasOverlap first second)) x (g, c
 answer_of_header sector disk_bytes h b (Err (Bootloader offset)) x (g, size, more, y, lie) =
     same_verdict sector disk_bytes g h (record { offset = offset; size = size } ∷ more) b (Err (Bootloader offset)) y x
     (λ i. verdict (sym lie.inside i) (sym lie.well_shaped i) (option_map offsets_of (sym lie.apart i)) g
-        (record { offset = offset; size = size } ∷ more) disk_bytes)
+    (record { offset = offset; size = size } ∷ more) disk_bytes)
 
 -- the same answer, but for the want of memory
 abbrev pub AreOne : Result PvHeader PvRefusal → Result PvHeader PvRefusal → Type 0
@@ -186,7 +194,7 @@ answers_of_header : (sector : List ℕ) (disk_bytes : ℕ) (h : PvHeader) (b : L
     → Answers sector disk_bytes r → Answers sector disk_bytes s → AreOne r s
 answers_of_header sector disk_bytes h b r s x a a' =
     both_verdicts (verdict_of disk_bytes h b) r s (answer_of_header sector disk_bytes h b r x a)
-        (answer_of_header sector disk_bytes h b s x a')
+    (answer_of_header sector disk_bytes h b s x a')
 
 answers_of_bad_id : (sector : List ℕ) (disk_bytes place : ℕ) (s : Result PvHeader PvRefusal)
     → IsFirstMisfit fits_plain (slice_range sector 32 64) place
@@ -206,7 +214,7 @@ answers_of_bad_id sector disk_bytes place (Err (AreasOverlap first second)) misf
     absurd (IsFirstMisfit-not_id (slice_range sector 32 64) place misfit (id_of_header sector h b x))
 answers_of_bad_id sector disk_bytes place (Err (Bootloader offset)) misfit (h, size, more, x, _) =
     absurd (IsFirstMisfit-not_id (slice_range sector 32 64) place misfit
-        (id_of_header sector h (record { offset = offset; size = size } ∷ more) x))
+    (id_of_header sector h (record { offset = offset; size = size } ∷ more) x))
 
 answers_of_unended : (sector : List ℕ) (disk_bytes list : ℕ) (s : Result PvHeader PvRefusal) → IsId (slice_range sector 32 64)
     → IsFirstUnended sector list

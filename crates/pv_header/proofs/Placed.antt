@@ -1,8 +1,8 @@
 -- Bytes put into a sector one after another.
-use Rattle.std.proofs.Common.{◌≡◌, ℕ, ◌+◌, ◌-◌, ◌*◌, ◌<◌, ◌≤◌, List, [], ◌∷◌, ◌++◌, length, take, drop, get_or, replicate, refl, sym, ap,
-    ◌∙◌, arith}
-use Rattle.std.proofs.lemmas.List.{append-nil, append_assoc, take-append-drop, length-append, length-take-le, length-drop, take_at, drop_at,
-    drop-drop, drop-replicate, take_more}
+use Rattle.std.proofs.Common.{◌≡◌, ℕ, ◌+◌, ◌-◌, ◌*◌, ◌<◌, ◌≤◌, List, [], ◌∷◌, ◌++◌, length, take, drop, get_or, replicate, refl, sym, ap}
+use Rattle.std.proofs.Common.{◌∙◌, arith}
+use Rattle.std.proofs.lemmas.List.{append-nil, append_assoc, take-append-drop, length-append, length-take-le, length-drop, take_at, drop_at}
+use Rattle.std.proofs.lemmas.List.{drop-drop, drop-replicate, take_more}
 use Rattle.std.proofs.Math.Nat.{add-zero}
 use Rattle.std.proofs.lemmas.List.Concat.{flat_map-append}
 use Rattle.byteorder.specs.Numbers.{length-bytes_low_first}
@@ -16,8 +16,13 @@ with_bytes-nil s at = rw (append-nil, add-zero) (take-append-drop at s)
 
 pub length-with_bytes : (s : List ℕ) (at : ℕ) (bs : List ℕ) → at + length bs ≤ length s → length (with_bytes s at bs) ≡ length s
 length-with_bytes s at bs h =
-    omega (arith, length-append (take at s ++ bs) (drop (at + length bs) s), length-append (take at s) bs,
-        length-take-le at s (omega arith), length-drop (at + length bs) s)
+    omega (
+      arith,
+      length-append (take at s ++ bs) (drop (at + length bs) s),
+      length-append (take at s) bs,
+      length-take-le at s (omega arith),
+      length-drop (at + length bs) s,
+    )
 
 -- bytes put right after others
 pub with_bytes-with_bytes : (s : List ℕ) (at : ℕ) (bs cs : List ℕ) (place : ℕ) → place ≡ at + length bs → place + length cs ≤ length s
@@ -46,8 +51,12 @@ with_bytes-zeros front n at bs e h =
 pub length-pair_bytes : (area : Extent) → length (pair_bytes area) ≡ 16
 unfolding pair_bytes
 length-pair_bytes area =
-    omega (arith, length-append (little_bytes 8 area.offset) (little_bytes 8 area.size), length-bytes_low_first 0 8 area.offset,
-        length-bytes_low_first 0 8 area.size)
+    omega (
+      arith,
+      length-append (little_bytes 8 area.offset) (little_bytes 8 area.size),
+      length-bytes_low_first 0 8 area.offset,
+      length-bytes_low_first 0 8 area.size,
+    )
 
 pub length-list_bytes : (list : List Extent) → length (list_bytes list) ≡ 16 * length list
 unfolding list_bytes
@@ -60,4 +69,4 @@ pub list_bytes_more : (list : List Extent) (i : ℕ) (d : Extent) → i < length
 unfolding list_bytes
 list_bytes_more list i d h =
     ap list_bytes (take_more list i d h) ∙ flat_map-append pair_bytes (take i list) (get_or list i d ∷ [])
-        ∙ ap (λ (bs : List ℕ). list_bytes (take i list) ++ bs) (append-nil (pair_bytes (get_or list i d)))
+    ∙ ap (λ (bs : List ℕ). list_bytes (take i list) ++ bs) (append-nil (pair_bytes (get_or list i d)))

@@ -1,6 +1,6 @@
 -- A list of areas is read pair by pair.
-use Rattle.std.proofs.Common.{◌≡◌, ◌≢◌, ℕ, ◌+◌, ◌*◌, ◌<◌, ◌≤◌, Some, List, [], ◌∷◌, ◌++◌, length, refl, sym, ap, subst, ◌∙◌, arith,
-    below_more, inl, inr}
+use Rattle.std.proofs.Common.{◌≡◌, ◌≢◌, ℕ, ◌+◌, ◌*◌, ◌<◌, ◌≤◌, Some, List, [], ◌∷◌, ◌++◌, length, refl, sym, ap, subst, ◌∙◌, arith}
+use Rattle.std.proofs.Common.{below_more, inl, inr}
 use Rattle.std.proofs.lemmas.Bool.{cases_lt}
 use Rattle.std.proofs.lemmas.List.{length_push, get_or_append_left, get_or_push}
 use Rattle.std.proofs.lemmas.List.Elements.{All-nil, All-push}
@@ -39,7 +39,7 @@ BeginsList-more sector at place offset size list begins p o s goes_on =
     ∙ sym (slice_get-get_or list k no_extent h) ∙ begins.pairs k h in
     let here : P (length list) =
     slice_get-get_or all (length list) no_extent (omega (arith, length_push list area))
-        ∙ ap Some (get_or_push list area no_extent (length list) refl)
+    ∙ ap Some (get_or_push list area no_extent (length list) refl)
     ∙ ap Some (extent_at-is sector place offset size o s ∙ ap (extent_at sector) p) in
     record {
       pairs = λ k h. below_more P (length list) before here k (omega (arith, length_push list area));
@@ -52,7 +52,7 @@ pub BeginsList-goes_on : (sector : List ℕ) (at : ℕ) (list : List Extent) →
 unfolding extent_at
 BeginsList-goes_on sector at list begins k h e =
     begins.offsets k no_extent h (ap (λ (area : Extent). area.offset)
-        (get_or_from_slice_get list k (extent_at sector (at + 16 * k)) no_extent (begins.pairs k h)) ∙ e)
+    (get_or_from_slice_get list k (extent_at sector (at + 16 * k)) no_extent (begins.pairs k h)) ∙ e)
 
 -- the list ends where a 0 stands for an offset
 pub IsListAt-ended : (sector : List ℕ) (at place : ℕ) (list : List Extent) → BeginsList sector at list → place ≡ at + 16 * length list

@@ -1,6 +1,6 @@
 -- What is read where the bytes of a number or of a list of areas stand.
-use Rattle.std.proofs.Common.{◌≡◌, ◌≢◌, ℕ, ◌+◌, ◌*◌, ◌^◌, ◌<◌, ◌≤◌, Some, List, ◌∷◌, ◌++◌, length, take, drop, get_or, replicate, refl, sym,
-    ap, ◌∙◌, arith}
+use Rattle.std.proofs.Common.{◌≡◌, ◌≢◌, ℕ, ◌+◌, ◌*◌, ◌^◌, ◌<◌, ◌≤◌, Some, List, ◌∷◌, ◌++◌, length, take, drop, get_or, replicate, refl, sym}
+use Rattle.std.proofs.Common.{ap, ◌∙◌, arith}
 use Rattle.std.proofs.lemmas.List.{append_assoc, take-append-drop, length-take-le, drop_at, drop-drop, drop_more}
 use Rattle.std.proofs.lemmas.List.Concat.{flat_map-append}
 use Rattle.std.proofs.lemmas.Option.{slice_get-get_or}
@@ -30,8 +30,8 @@ unfolding extent_at pair_bytes
 extent_at-written sector place area rest h fits =
     let both = h ∙ append_assoc (little_bytes 8 area.offset) (little_bytes 8 area.size) rest in
     let next =
-        drop_next sector place (little_bytes 8 area.offset) (little_bytes 8 area.size ++ rest) (place + 8) both
-            (omega (arith, length-bytes_low_first 0 8 area.offset)) in
+    drop_next sector place (little_bytes 8 area.offset) (little_bytes 8 area.size ++ rest) (place + 8) both
+    (omega (arith, length-bytes_low_first 0 8 area.offset)) in
     let offset = field-written 8 sector place area.offset (little_bytes 8 area.size ++ rest) both fits.0 in
     let size = field-written 8 sector (place + 8) area.size rest next fits.1 in
     λ i. record { offset = offset i; size = size i }
@@ -49,11 +49,11 @@ drop-list_bytes : (list : List Extent) (k : ℕ) (d : Extent) (rest : List ℕ) 
     → drop (16 * k) (list_bytes list ++ rest) ≡ pair_bytes (get_or list k d) ++ (list_bytes (drop (k + 1) list) ++ rest)
 drop-list_bytes list k d rest h =
     let before : length (list_bytes (take k list)) ≡ 16 * k =
-        length-list_bytes (take k list) ∙ ap (λ n. 16 * n) (length-take-le k list (omega arith)) in
+    length-list_bytes (take k list) ∙ ap (λ n. 16 * n) (length-take-le k list (omega arith)) in
     let split : list_bytes list ≡ list_bytes (take k list) ++ list_bytes (drop k list) =
-        ap list_bytes (sym (take-append-drop k list)) ∙ list_bytes-append (take k list) (drop k list) in
+    ap list_bytes (sym (take-append-drop k list)) ∙ list_bytes-append (take k list) (drop k list) in
     let here : list_bytes (drop k list) ≡ pair_bytes (get_or list k d) ++ list_bytes (drop (k + 1) list) =
-        ap list_bytes (drop_more list k d h) ∙ list_bytes-cons (get_or list k d) (drop (k + 1) list) in
+    ap list_bytes (drop_more list k d h) ∙ list_bytes-cons (get_or list k d) (drop (k + 1) list) in
     ap (λ (bs : List ℕ). drop (16 * k) (bs ++ rest)) split
     ∙ ap (drop (16 * k)) (append_assoc (list_bytes (take k list)) (list_bytes (drop k list)) rest)
     ∙ drop_at (list_bytes (take k list)) (list_bytes (drop k list) ++ rest) (16 * k) before
@@ -67,13 +67,13 @@ pub IsListAt-written : (sector : List ℕ) (at : ℕ) (list : List Extent) (rest
 IsListAt-written sector at list rest h room fits offsets =
     let none : Extent = record { offset = 0; size = 0 } in
     let end =
-        drop_next sector at (list_bytes list) (replicate 16 0 ++ rest) (at + 16 * length list) h (omega (arith, length-list_bytes list)) in
+    drop_next sector at (list_bytes list) (replicate 16 0 ++ rest) (at + 16 * length list) h (omega (arith, length-list_bytes list)) in
     record {
       within = room;
       pairs = λ k l.
           let here = sym (drop-drop (16 * k) at sector) ∙ ap (drop (16 * k)) h ∙ drop-list_bytes list k none (replicate 16 0 ++ rest) l in
           slice_get-get_or list k none l ∙ ap Some
-              (sym (extent_at-written sector (at + 16 * k) (get_or list k none) _ here (fits k none l)));
+          (sym (extent_at-written sector (at + 16 * k) (get_or list k none) _ here (fits k none l)));
       offsets = offsets;
       ended = ap (little_number 8) end;
     }

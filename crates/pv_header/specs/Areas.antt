@@ -1,6 +1,6 @@
 -- Where the areas of a physical volume may lie on a disk.
-use Rattle.std.specs.Prelude.{◌≡◌, ℕ, ◌+◌, ◌%◌, Bool, not, ◌||◌, ◌&&◌, ◌==◌, nat_lt, if◌then◌else◌, min, max, Option, None, List, [], ◌∷◌,
-    ◌++◌, map, filter, find, unwrap_or}
+use Rattle.std.specs.Prelude.{◌≡◌, ℕ, ◌+◌, ◌%◌, Bool, not, ◌||◌, ◌&&◌, ◌==◌, nat_lt, if◌then◌else◌, min, max, Option, None, List, [], ◌∷◌}
+use Rattle.std.specs.Prelude.{◌++◌, map, filter, find, unwrap_or}
 use Rattle.std.specs.List.{reduce}
 use Rattle.pv_header.specs.declared.extent_list.Extent.{Extent}
 

@@ -4,8 +4,8 @@ use Rattle.lvm_id.specs.LvmId.{IsId, IsFirstMisfit, fits_plain}
 use Rattle.pv_header.specs.declared.extent_list.Extent.{Extent}
 use Rattle.pv_header.specs.declared.header.PvHeader.{PvHeader}
 use Rattle.pv_header.specs.declared.refusal.PvRefusal.{PvRefusal}
-use Rattle.pv_header.specs.declared.refusal.PvRefusal.TheVariants.{NoMemory, BadId, ListUnended, AreaOutside, AreaShape, AreasOverlap,
-    Bootloader}
+use Rattle.pv_header.specs.declared.refusal.PvRefusal.TheVariants.{NoMemory, BadId, ListUnended, AreaOutside, AreaShape, AreasOverlap}
+use Rattle.pv_header.specs.declared.refusal.PvRefusal.TheVariants.{Bootloader}
 use Rattle.pv_header.specs.Areas.{is_outside, is_misshapen, first_overlap, CanLie}
 use Rattle.pv_header.specs.Extents.{IsListAt, IsUnended}
 use Rattle.pv_header.specs.PvHeader.{IsPvHeader, after_list}
@@ -67,4 +67,4 @@ Refuses sector disk_bytes (Bootloader offset) =
     × CanLie header.data_areas header.areas disk_bytes
 Refuses sector disk_bytes refusal =
     (header : PvHeader) × (bootloader : List Extent) × IsPvHeader sector header bootloader
-        × RefusesAreas header.data_areas header.areas disk_bytes refusal
+    × RefusesAreas header.data_areas header.areas disk_bytes refusal

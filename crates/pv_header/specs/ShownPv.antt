@@ -3,8 +3,8 @@ use Rattle.std.specs.Prelude.{ℕ, List, [], ◌∷◌, codes}
 use Rattle.sector_base.specs.Shown.{Value}
 use Rattle.sector_base.specs.Shown.Value.{number}
 use Rattle.pv_header.specs.declared.refusal.PvRefusal.{PvRefusal}
-use Rattle.pv_header.specs.declared.refusal.PvRefusal.TheVariants.{NoMemory, BadId, ListUnended, AreaOutside, AreaShape, AreasOverlap,
-    Bootloader}
+use Rattle.pv_header.specs.declared.refusal.PvRefusal.TheVariants.{NoMemory, BadId, ListUnended, AreaOutside, AreaShape, AreasOverlap}
+use Rattle.pv_header.specs.declared.refusal.PvRefusal.TheVariants.{Bootloader}
 
 -- its kind, and its values in the order of its fields
 abbrev pub shown_pv : PvRefusal → List ℕ × List Value

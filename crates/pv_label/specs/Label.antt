@@ -26,10 +26,10 @@ IsRefused sector number (BadSum at) =
     BeginsLikeLabel sector × (field 8 sector 8 ≡ number) × (at ≡ number) × (field 4 sector 16 ≢ checksum lvm_crc_start (drop 20 sector))
 IsRefused sector number (BadOffset said) =
     BeginsLikeLabel sector × (field 8 sector 8 ≡ number) × (field 4 sector 16 ≡ checksum lvm_crc_start (drop 20 sector))
-        × (field 4 sector 20 ≡ said) × (said ≢ 32)
+    × (field 4 sector 20 ≡ said) × (said ≢ 32)
 IsRefused sector number BadType =
     BeginsLikeLabel sector × (field 8 sector 8 ≡ number) × (field 4 sector 16 ≡ checksum lvm_crc_start (drop 20 sector))
-        × (field 4 sector 20 ≡ 32)
+    × (field 4 sector 20 ≡ 32)
     × (take 8 (drop 24 sector) ≢ codes "LVM2 001")
 
 -- the sector of this number
@@ -47,7 +47,7 @@ abbrev pub IsFirstRefusal : List (List ℕ) → ℕ → LabelRefusal → Type 0
 IsFirstRefusal sectors count NoLabel = (k : ℕ) → k < count → ¬ BeginsLikeLabel (sector_at sectors k)
 IsFirstRefusal sectors count refusal =
     (number : ℕ) × (number < count) × BeginsLikeLabel (sector_at sectors number)
-        × ((k : ℕ) → k < number → ¬ BeginsLikeLabel (sector_at sectors k))
+    × ((k : ℕ) → k < number → ¬ BeginsLikeLabel (sector_at sectors k))
     × IsRefused (sector_at sectors number) number refusal
 
 -- no sector of the four is a label, and this is why

@@ -11,4 +11,4 @@ summed_bytes contents = little_bytes 4 32 ++ (codes "LVM2 001" ++ drop 32 conten
 abbrev pub with_label : List ℕ → ℕ → List ℕ
 with_label contents number =
     codes "LABELONE" ++ (little_bytes 8 number
-        ++ (little_bytes 4 (checksum lvm_crc_start (summed_bytes contents)) ++ summed_bytes contents))
+    ++ (little_bytes 4 (checksum lvm_crc_start (summed_bytes contents)) ++ summed_bytes contents))

@@ -1,6 +1,6 @@
 -- pvcreate(8): the rows of its refusals, and its change.
-use Rattle.std.specs.Prelude.{ℕ, ◌*◌, ◌||◌, ◌==◌, Bool, false, nat_lt, if◌then◌else◌, List, [], ◌∷◌, Option, None, Some, unwrap_or,
-    slice_get}
+use Rattle.std.specs.Prelude.{ℕ, ◌*◌, ◌||◌, ◌==◌, Bool, false, nat_lt, if◌then◌else◌, List, [], ◌∷◌, Option, None, Some, unwrap_or}
+use Rattle.std.specs.Prelude.{slice_get}
 use Rattle.std.specs.Option.{option_and_then, option_map_or}
 use Rattle.std.specs.FinSet as set
 use Rattle.command_table.specs.Options.{number_named}
@@ -83,10 +83,16 @@ new_label id copies number disk = record { disk = number; sector = label_sector 
 abbrev pub new_labels : GroupState → List ℕ → List ℕ → ℕ → List NewLabel
 new_labels state id name copies =
     option_map_or (λ number. option_map_or (λ disk. new_label id copies number disk ∷ []) (slice_get state.disks number) [])
-        (number_named state.names name) []
+    (number_named state.names name) []
 
 -- the group stays, and one label is written
 abbrev pub pvcreate_change : GroupState → List ℕ → List ℕ → ℕ → Change
 pvcreate_change state id name copies =
-    record { group = None; zero = []; labels = new_labels state id name copies; taken = set.empty; cleared = set.empty;
-        disk_of = state.disk_of }
+    record {
+      group = None;
+      zero = [];
+      labels = new_labels state id name copies;
+      taken = set.empty;
+      cleared = set.empty;
+      disk_of = state.disk_of;
+    }

@@ -5,11 +5,11 @@ ghost use Rattle.group_plan.specs.Judging.{Judges, first_refusal, stands_on_disk
 ghost use Rattle.group_plan.specs.State.{IsState};
 ghost use Rattle.pv_plans.specs.Pvcreate.{disk_rows, group_has, is_listed, label_sector, new_areas, new_header, new_label, pvcreate_change, pvcreate_rows};
 
-use group_plan::{copied_disks, copied_text};
-use group_plan::has_id;
-use group_plan::{set_of, stands_on_disk};
-use group_plan::{Change, GroupState, Labels, NewLabel, PlanRefusal, Spans};
 use disk_contents::PvFound;
+use group_plan::{
+    Change, GroupState, Labels, NewLabel, PlanRefusal, Spans, copied_disks, copied_text, has_id,
+    set_of, stands_on_disk,
+};
 use line_answers::OpRefusal;
 use lvm_id::LvmId;
 use pv_header::{Extent, Extents, PvHeader};

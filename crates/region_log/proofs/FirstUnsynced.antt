@@ -1,6 +1,6 @@
 -- The first Unsynced region, as a search and as writes change it.
-use Rattle.std.proofs.Common.{◌≡◌, ◌≤◌, ◌<◌, ℕ, zero, suc, ◌+◌, min, true, false, not, List, [], ◌∷◌, length, get_or, set, replicate, refl,
-    arith}
+use Rattle.std.proofs.Common.{◌≡◌, ◌≤◌, ◌<◌, ℕ, zero, suc, ◌+◌, min, true, false, not, List, [], ◌∷◌, length, get_or, set, replicate, refl}
+use Rattle.std.proofs.Common.{arith}
 use Rattle.std.specs.List.{position_or_len}
 use Rattle.std.proofs.lemmas.List.Sums.{prefix_len-le-length}
 use Rattle.region_log.specs.declared.region.Region.{Region}

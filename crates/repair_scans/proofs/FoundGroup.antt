@@ -4,8 +4,8 @@ use Rattle.std.proofs.lemmas.Option.{same_Some}
 use Rattle.disk_model.specs.Steps.{Image}
 use Rattle.meta_model.specs.Standing.{HasTree}
 use Rattle.meta_model.specs.declared.group.Group.{Group}
-use Rattle.scan_rules.specs.Decision.{Conflict, DuplicatePv, FoundGroup, NoCopy, NoGroup, PvShape, Reading, ScanAnswer, TwoGroups,
-    Unsupported, decide_scan}
+use Rattle.scan_rules.specs.Decision.{Conflict, DuplicatePv, FoundGroup, NoCopy, NoGroup, PvShape, Reading, ScanAnswer, TwoGroups}
+use Rattle.scan_rules.specs.Decision.{Unsupported, decide_scan}
 use Rattle.volume_rules.specs.Rules.{IsAccepted}
 use Rattle.vg_found.specs.declared.found.Found.{Found}
 use Rattle.vg_scan.specs.Scans.{IsFoundBy, IsScanOf}
@@ -21,7 +21,7 @@ by_answer readings found copies group there (FoundGroup held stale strays missin
     let parts : IsFoundWith readings held stale strays missing = found_parts readings held stale strays missing is in
     let copy : IsCopyOf held.text held.group held.passed = best_copy_has IsItsCopy readings copies held parts.best_is in
     subst (λ (g : Group). IsAccepted g × HasTree g) (same_Some held.group group (sym by.0 ∙ there))
-        (copy.accepted, copy_tree held.text held.group held.passed copy)
+    (copy.accepted, copy_tree held.text held.group held.passed copy)
 by_answer readings found copies group there NoGroup is by =
     absurd (let e : ◌≡◌ {A = Option Group} None (Some group) = sym by.0 ∙ there in cc)
 by_answer readings found copies group there (DuplicatePv a b) is by = absurd by
@@ -35,7 +35,7 @@ pub found_group : (base : Image) (sizes : List ℕ) (found : Found) → IsScanOf
     → IsAccepted group × HasTree group
 found_group base sizes found scan group there =
     by_answer scan.readings found (copies_are base found.unread 0 found.disks scan.readings scan.are.each) group there
-        (decide_scan scan.readings) refl scan.answer
+    (decide_scan scan.readings) refl scan.answer
 
 pub found_accepted : (base : Image) (sizes : List ℕ) (found : Found) → IsScanOf base sizes found → (group : Group)
     → found.group ≡ Some group → IsAccepted group

@@ -1,6 +1,6 @@
 -- An area of a disk by its number: two numbers are two areas, so what is stale is known by its place.
-use Rattle.std.proofs.Common.{◌≡◌, ◌<◌, ◌≤◌, ℕ, zero, suc, ◌+◌, Bool, true, false, cond, List, [], ◌∷◌, ◌++◌, Option, Some, None, inl, inr,
-    ⊎_elim, refl, sym, ap, subst, ◌∙◌, arith}
+use Rattle.std.proofs.Common.{◌≡◌, ◌<◌, ◌≤◌, ℕ, zero, suc, ◌+◌, Bool, true, false, cond, List, [], ◌∷◌, ◌++◌, Option, Some, None, inl, inr}
+use Rattle.std.proofs.Common.{⊎_elim, refl, sym, ap, subst, ◌∙◌, arith}
 use Rattle.std.specs.Prelude.{All, AllPairs, filter_map, slice_get}
 use Rattle.std.specs.List.{cons_option}
 use Rattle.std.proofs.lemmas.Bool.{cases_lt}
@@ -46,7 +46,7 @@ module _ {X Y : Type 0} (f : X → Option Y) where
     pairs_kept (z ∷ xs) pairs i zero x y a b before at_i at_j is_a is_b = absurd (omega (arith, before))
     pairs_kept (z ∷ xs) pairs zero (suc j) x y a b before at_i at_j is_a is_b =
         let own : AllPairs R (a ∷ filter_map f xs) =
-            subst (λ (o : Option Y). AllPairs R (cons_option o (filter_map f xs))) (ap f (same_Some z x at_i) ∙ is_a) pairs in
+        subst (λ (o : Option Y). AllPairs R (cons_option o (filter_map f xs))) (ap f (same_Some z x at_i) ∙ is_a) pairs in
         all_in (R a) (filter_map f xs) b (kept_in xs j y b at_j is_b) (pairs_first R a (filter_map f xs) own)
     pairs_kept (z ∷ xs) pairs (suc i) (suc j) x y a b before at_i at_j is_a is_b =
         pairs_kept xs (pairs_rest (f z) (filter_map f xs) pairs) i j x y a b (omega (arith, before)) at_i at_j is_a is_b
@@ -68,13 +68,13 @@ pairs_on : (R : Area × Option Locn → Area × Option Locn → Type 0) (pv : �
 pairs_on R pv [] pairs k disk there = absurd cc
 pairs_on R pv (first ∷ disks) pairs zero disk there =
     let own : AllPairs R (filter_map (held_area pv) (areas_on first.contents)) =
-        pairs_front R (filter_map (held_area pv) (areas_on first.contents)) (held_areas (pv + 1) disks) pairs in
+    pairs_front R (filter_map (held_area pv) (areas_on first.contents)) (held_areas (pv + 1) disks) pairs in
     subst (λ (d : Disk). AllPairs R (filter_map (held_area (pv + 0)) (areas_on d.contents))) (same_Some first disk there)
     (subst (λ (n : ℕ). AllPairs R (filter_map (held_area n) (areas_on first.contents))) (omega arith) own)
 pairs_on R pv (first ∷ disks) pairs (suc k) disk there =
     subst (λ (n : ℕ). AllPairs R (filter_map (held_area n) (areas_on disk.contents))) (omega arith)
     (pairs_on R (pv + 1) disks (pairs_back R (filter_map (held_area pv) (areas_on first.contents)) (held_areas (pv + 1) disks) pairs) k disk
-        there)
+    there)
 
 -- ---- stale areas
 
@@ -98,10 +98,18 @@ stale_at : (found : Found) (stale : Area × Option Locn) → In (stale_areas fou
 stale_at found stale is =
     let d : Numbered found.disks (λ disk. In (stale_on found.stale disk) stale) = in_flat (stale_on found.stale) found.disks stale is in
     let a : Numbered (areas_on d.element.contents) (λ area. stale_in found.stale d.number area ≡ Some stale) =
-        in_kept (stale_in found.stale d.number) (areas_on d.element.contents) stale d.holds in
+    in_kept (stale_in found.stale d.number) (areas_on d.element.contents) stale d.holds in
     let both = if_among (is_among found.stale d.number a.number) (held_area d.number a.element) stale a.holds in
-    record { pv = d.number; disk = d.element; there = d.got; number = a.number; area = a.element; at = a.got; among = both.0;
-        held = both.1 }
+    record {
+      pv = d.number;
+      disk = d.element;
+      there = d.got;
+      number = a.number;
+      area = a.element;
+      at = a.got;
+      among = both.0;
+      held = both.1;
+    }
 
 module _ (found : Found) (shape : HasShape found) (pv : ℕ) (disk : Disk) (there : slice_get found.disks pv ≡ Some disk) where
   abbrev areas : List AreaFound
@@ -112,9 +120,9 @@ module _ (found : Found) (shape : HasShape found) (pv : ℕ) (disk : Disk) (ther
       → slice_get areas n ≡ Some area → held_area pv area ≡ Some held → P held
   of_all P all n area held at is =
       let each : All (λ f. (x : Area × Option Locn) → held_area (0 + pv) f ≡ Some x → P x) areas =
-          of_held P 0 found.disks (subst (All P) shape.areas all) pv disk there in
+      of_held P 0 found.disks (subst (All P) shape.areas all) pv disk there in
       all_at (λ f. (x : Area × Option Locn) → held_area (0 + pv) f ≡ Some x → P x) areas n area at each held
-          (ap (λ (m : ℕ). held_area m area) (let e : 0 + pv ≡ pv = omega arith in e) ∙ is)
+      (ap (λ (m : ℕ). held_area m area) (let e : 0 + pv ≡ pv = omega arith in e) ∙ is)
 
   apart_here : (a b : Area × Option Locn) → a.0.pv ≡ b.0.pv → a.0.start ≡ b.0.start → CanTake a → CanTake b → LieApart a b → ⊥
   apart_here a b same_pv same_start take_a take_b (inl other) = other same_pv
@@ -127,20 +135,20 @@ module _ (found : Found) (shape : HasShape found) (pv : ℕ) (disk : Disk) (ther
   one_number i j x y a b at_i at_j is_a is_b same_start =
       let pairs : AllPairs LieApart (filter_map (held_area pv) areas) =
       subst (λ (n : ℕ). AllPairs LieApart (filter_map (held_area n) areas)) (omega arith)
-          (pairs_on LieApart 0 found.disks (subst (AllPairs LieApart) shape.areas shape.apart) pv disk there)
+      (pairs_on LieApart 0 found.disks (subst (AllPairs LieApart) shape.areas shape.apart) pv disk there)
       in
       let take_a : CanTake a = of_all CanTake shape.take i x a at_i is_a in
       let take_b : CanTake b = of_all CanTake shape.take j y b at_j is_b in
       let same_pv : a.0.pv ≡ b.0.pv =
-          ap (λ (o : Area). o.pv) (entry_kept (area_on pv x.area) x.entry a is_a)
-              ∙ ap (λ (o : Area). o.pv) (sym (entry_kept (area_on pv y.area) y.entry b is_b)) in
+      ap (λ (o : Area). o.pv) (entry_kept (area_on pv x.area) x.entry a is_a)
+      ∙ ap (λ (o : Area). o.pv) (sym (entry_kept (area_on pv y.area) y.entry b is_b)) in
       ⊎_elim
       (λ (below : i < j). absurd (apart_here a b same_pv same_start take_a take_b
-          (pairs_kept (held_area pv) LieApart areas pairs i j x y a b below at_i at_j is_a is_b)))
+      (pairs_kept (held_area pv) LieApart areas pairs i j x y a b below at_i at_j is_a is_b)))
       (λ (from : j ≤ i).
       ⊎_elim
       (λ (above : j < i). absurd (apart_here b a (sym same_pv) (sym same_start) take_b take_a
-          (pairs_kept (held_area pv) LieApart areas pairs j i y x b a above at_j at_i is_b is_a)))
+      (pairs_kept (held_area pv) LieApart areas pairs j i y x b a above at_j at_i is_b is_a)))
       (λ (upto : i ≤ j). omega (arith, from, upto))
       (cases_lt j i))
       (cases_lt i j)
@@ -151,7 +159,7 @@ module _ (found : Found) (shape : HasShape found) (pv : ℕ) (disk : Disk) (ther
   of_stale P all n area held at among is =
       let own : stale_in found.stale pv (n, area) ≡ Some held = ap (λ (b : Bool). cond b (held_area pv area) None) among ∙ is in
       all_in P (stale_areas found) held (flat_has (stale_on found.stale) found.disks held pv disk there
-          (kept_has (stale_in found.stale pv) areas held n area at own)) all
+      (kept_has (stale_in found.stale pv) areas held n area at own)) all
 
   -- an area at the place of a stale one is among them
   pub stale_number : (stale : Area × Option Locn) → In (stale_areas found) stale → stale.0.pv ≡ pv
@@ -164,6 +172,6 @@ module _ (found : Found) (shape : HasShape found) (pv : ℕ) (disk : Disk) (ther
       let same : s.disk ≡ disk = same_Some s.disk disk (sym s.there ∙ ap (slice_get found.disks) on ∙ there) in
       let number : s.number ≡ n =
       one_number s.number n s.area area stale held (ap (λ (d : Disk). slice_get (areas_on d.contents) s.number) (sym same) ∙ s.at) at
-          (ap (λ (m : ℕ). held_area m s.area) (sym on) ∙ s.held) is_held same_start
+      (ap (λ (m : ℕ). held_area m s.area) (sym on) ∙ s.held) is_held same_start
       in
       ap (is_among found.stale pv) (sym number) ∙ ap (λ (m : ℕ). is_among found.stale m s.number) (sym on) ∙ s.among

@@ -1,6 +1,6 @@
 -- The header of a stale area once a repair is done: it publishes the text.
-use Rattle.std.proofs.Common.{◌≡◌, ◌≤◌, ◌<◌, ℕ, zero, suc, ◌/◌, true, List, [], ◌∷◌, ◌++◌, length, map, get_or, Option, inl, inr, ⊎_elim,
-    sym, ap, ◌∙◌, arith}
+use Rattle.std.proofs.Common.{◌≡◌, ◌≤◌, ◌<◌, ℕ, zero, suc, ◌/◌, true, List, [], ◌∷◌, ◌++◌, length, map, get_or, Option, inl, inr, ⊎_elim}
+use Rattle.std.proofs.Common.{sym, ap, ◌∙◌, arith}
 use Rattle.std.proofs.lemmas.Bool.{or_left, or_right, true≢false}
 use Rattle.std.proofs.lemmas.List.Elements.{filter_passes}
 use Rattle.std.specs.FinSet.{contains}
@@ -53,12 +53,12 @@ module _ (text : List ℕ) where
   publish_at [] d k within = absurd (omega (arith, within))
   publish_at (a ∷ areas) d zero within =
       or_left (covers (header_span a.0) a.0.pv (a.0.start / 512))
-          (writes_at (map write_work (publish_of (map (area_writes text) areas))) a.0.pv (a.0.start / 512))
-          (one_covers a.0.pv (a.0.start / 512))
+      (writes_at (map write_work (publish_of (map (area_writes text) areas))) a.0.pv (a.0.start / 512))
+      (one_covers a.0.pv (a.0.start / 512))
   publish_at (a ∷ areas) d (suc k) within =
       or_right (covers (header_span a.0) (get_or areas k d).0.pv ((get_or areas k d).0.start / 512))
-          (writes_at (map write_work (publish_of (map (area_writes text) areas))) (get_or areas k d).0.pv
-          ((get_or areas k d).0.start / 512))
+      (writes_at (map write_work (publish_of (map (area_writes text) areas))) (get_or areas k d).0.pv
+      ((get_or areas k d).0.start / 512))
       (publish_at areas d k (omega (arith, within)))
 
   -- each header is as it publishes the text
@@ -75,7 +75,7 @@ module _ (text : List ℕ) where
       let b : Area × Option Locn = get_or areas w.0 d in
       let same : b ≡ a =
       one_area areas held.take held.apart d w.0 k a.0.pv (a.0.start / 512) w.1 within
-          (header_covers b.0 a.0.pv (a.0.start / 512) (held.take w.0 d w.1).0 w.2)
+      (header_covers b.0 a.0.pv (a.0.start / 512) (held.take w.0 d w.1).0 w.2)
       (header_covers a.0 a.0.pv (a.0.start / 512) (held.take k d within).0 (one_covers a.0.pv (a.0.start / 512)))
       in
       w.3 ∙ ap (λ (c : Area × Option Locn). header_bytes (header_after text c)) same)
@@ -87,7 +87,7 @@ module _ (text : List ℕ) where
   texts_published [] base held k d within = absurd (omega (arith, within))
   texts_published (a ∷ areas) base held k d within =
       published (a ∷ areas) (with_writes (headers_of (map (area_writes text) (a ∷ areas)))
-          (with_writes (texts_of (map (area_writes text) (a ∷ areas))) base)) held k d within
+      (with_writes (texts_of (map (area_writes text) (a ∷ areas))) base)) held k d within
 
 -- ---- the repair
 
@@ -119,9 +119,9 @@ module _ (base : Image) (sizes : List ℕ) (found : Found) (p : CanRepair base s
       (λ by.
       let value : List ℕ = with_batches clears second pv sector in
       let w : IsClearWrite (stray_areas found) pv sector value =
-          clear_write (stray_areas found) pv sector value (any_if (map clear_put (stray_areas found)) pv sector value by) in
+      clear_write (stray_areas found) pv sector value (any_if (map clear_put (stray_areas found)) pv sector value by) in
       absurd (true≢false (sym (filter_passes (lies_on found.strays) found.areas w.number no_area w.among)
-          ∙ ap (contains found.strays) w.disk ∙ stale_elsewhere found (strays_apart base sizes found p.scan) k d within)))
+      ∙ ap (contains found.strays) w.disk ∙ stale_elsewhere found (strays_apart base sizes found p.scan) k d within)))
       (batches_or clears second pv sector)
       in
       let labelled : with_batches label_batches texts pv sector ≡ texts pv sector =
@@ -129,15 +129,15 @@ module _ (base : Image) (sizes : List ℕ) (found : Found) (p : CanRepair base s
       (λ same. same)
       (λ by.
       let w =
-          label_where (stray_labels found) (some_label base sizes found p) pv sector (with_batches label_batches texts pv sector)
-              (any_if (map label_put (stray_labels found)) pv sector (with_batches label_batches texts pv sector) by) in
+      label_where (stray_labels found) (some_label base sizes found p) pv sector (with_batches label_batches texts pv sector)
+      (any_if (map label_put (stray_labels found)) pv sector (with_batches label_batches texts pv sector) by) in
       let low : (get_or (stray_labels found) w.0 (some_label base sizes found p)).sector < 4 =
-          (labels_can found p.shape w.0 (some_label base sizes found p) w.1).sector_below in
+      (labels_can found p.shape w.0 (some_label base sizes found p) w.1).sector_below in
       absurd (omega (arith, far, low, w.3)))
       (batches_or label_batches texts pv sector)
       in
       ap (λ (i : Image). i pv sector) (batches_append (text_batches (text_of found) stale) (label_batches ++ clears) base
-          ∙ batches_append label_batches clears texts) ∙ cleared ∙ labelled
+      ∙ batches_append label_batches clears texts) ∙ cleared ∙ labelled
 
   -- the header of each stale area is as it publishes the text
   pub header_published : (k : ℕ) (d : Area × Option Locn) → k < length stale

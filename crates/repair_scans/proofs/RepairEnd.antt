@@ -9,8 +9,8 @@ use Rattle.disk_batch.specs.InTurn.{HasFirstBatches, Put, with_batches}
 use Rattle.disk_model.specs.Steps.{Image}
 use Rattle.meta_model.specs.PassedOver.{passed_over}
 use Rattle.meta_model.specs.declared.group.Group.{Group}
-use Rattle.scan_rules.specs.Decision.{AreaReading, Conflict, Copy, DuplicatePv, FoundGroup, Held, NoCopy, NoGroup, PvShape, Reading,
-    ScanAnswer, TwoGroups, Unsupported, decide_scan, gives}
+use Rattle.scan_rules.specs.Decision.{AreaReading, Conflict, Copy, DuplicatePv, FoundGroup, Held, NoCopy, NoGroup, PvShape, Reading}
+use Rattle.scan_rules.specs.Decision.{ScanAnswer, TwoGroups, Unsupported, decide_scan, gives}
 use Rattle.scan_rules.specs.Found.{missing_of}
 use Rattle.scan_rules.specs.Laws.{IsStale, IsStray}
 use Rattle.scan_rules.proofs.Repairs.{stale_exact, strays_exact}
@@ -41,13 +41,13 @@ use Rattle.repair_scans.proofs.RepairedReadings.{no_member, none_stale, none_str
 abbrev pub OneReading : Type 0
 OneReading =
     (image : Image) (sizes : List ℕ) (unread : set.FinSet nat_cmp) (ds es : List Disk) (xs ys : List Reading)
-        → AreReadings image sizes unread ds xs → AreReadings image sizes unread es ys → xs ≡ ys
+    → AreReadings image sizes unread ds xs → AreReadings image sizes unread es ys → xs ≡ ys
 
 -- a text has one list of keys that are passed over
 one_passed : (text other : List ℕ) (a b : Group) (p q : List (List ℕ)) → other ≡ text → IsCopyOf text a p → IsCopyOf other b q → p ≡ q
 one_passed text other a b p q same is is' =
     let tree : is.tree ≡ is'.tree =
-        one_tree text is.tree is'.tree is.is_text (subst (λ (t : List ℕ). IsTextOf t is'.tree) same is'.is_text) in
+    one_tree text is.tree is'.tree is.is_text (subst (λ (t : List ℕ). IsTextOf t is'.tree) same is'.is_text) in
     is.passed_is ∙ ap passed_over tree ∙ sym is'.passed_is
 
 module _ (one_reading : OneReading) (base : Image) (sizes : List ℕ) (found : Found) (p : CanRepair base sizes found) where
@@ -86,7 +86,7 @@ module _ (one_reading : OneReading) (base : Image) (sizes : List ℕ) (found : F
     same_readings : there.read ≡ after
     same_readings =
         one_reading last sizes found.unread there.there (repaired_of found).disks there.read after
-            (record { sizes_is = there.sizes_is ∙ p.scan.are.sizes_is; each = there.are }) are
+        (record { sizes_is = there.sizes_is ∙ p.scan.are.sizes_is; each = there.are }) are
 
     decides : decide_scan after ≡ FoundGroup answer.held answer.stale answer.strays answer.missing
     decides = ap decide_scan (sym same_readings) ∙ answer.is
@@ -102,7 +102,7 @@ module _ (one_reading : OneReading) (base : Image) (sizes : List ℕ) (found : F
     are_stale : (disk area : ℕ) → Contains found.stale (disk, area) ↔ IsStale held.group held.text readings disk area
     are_stale disk area =
         subst (λ (l : List (ℕ × ℕ)). Contains l (disk, area) ↔ IsStale held.group held.text readings disk area) (sym by.3)
-            (stale_exact readings held stale strays missing is disk area)
+        (stale_exact readings held stale strays missing is disk area)
 
     are_strays : (disk : ℕ) → Contains strays disk ↔ IsStray held.group readings disk
     are_strays = strays_exact readings held stale strays missing is
@@ -112,29 +112,29 @@ module _ (one_reading : OneReading) (base : Image) (sizes : List ℕ) (found : F
         no_member answer.stale
         (λ area has.
         let s : IsStale answer.held.group answer.held.text after area.0 area.1 =
-            (stale_exact after answer.held answer.stale answer.strays answer.missing decides area.0 area.1).0 has in
+        (stale_exact after answer.held answer.stale answer.strays answer.missing decides area.0 area.1).0 has in
         none_stale found.stale found.strays new held.group held.text readings gives_new are_stale strays by.4 are_strays area.0 area.1
         (subst (λ (t : List ℕ). IsStale held.group t after area.0 area.1) answer.text_is
-            (subst (λ (g : Group). IsStale g answer.held.text after area.0 area.1) answer.group_is s)))
+        (subst (λ (g : Group). IsStale g answer.held.text after area.0 area.1) answer.group_is s)))
 
     strays_none : answer.strays ≡ []
     strays_none =
         no_member answer.strays
         (λ disk has.
         let s : IsStray answer.held.group after disk =
-            (strays_exact after answer.held answer.stale answer.strays answer.missing decides disk).0 has in
+        (strays_exact after answer.held answer.stale answer.strays answer.missing decides disk).0 has in
         none_stray found.stale found.strays new held.group held.text readings gives_new are_stale strays by.4 are_strays disk
-            (subst (λ (g : Group). IsStray g after disk) answer.group_is s))
+        (subst (λ (g : Group). IsStray g after disk) answer.group_is s))
 
     missing_none : answer.missing ≡ []
     missing_none =
         sym parts.missing_are ∙ ap (λ (g : Group). missing_of there.read g.pvs) answer.group_is
-            ∙ none_away base sizes found p held stale strays missing is by last whole
+        ∙ none_away base sizes found p held stale strays missing is by last whole
 
     passed_same : held.passed ≡ answer.held.passed
     passed_same =
         one_passed (text_of found) answer.held.text held.group answer.held.group held.passed answer.held.passed
-            (answer.text_is ∙ sym text_same) own_copy
+        (answer.text_is ∙ sym text_same) own_copy
         (best_copy_has IsItsCopy there.read (copies_are last found.unread 0 there.there there.read there.are) answer.held parts.best_is)
 
     of_group : IsScanOf last sizes (repaired_of found)
@@ -160,7 +160,7 @@ module _ (one_reading : OneReading) (base : Image) (sizes : List ℕ) (found : F
   of_none by =
       let nothing = leaves_all found p.shape by.3 by.4 in
       subst (λ (batches : List (List Put)). IsScanOf (with_batches batches base) sizes (repaired_of found)) (sym nothing.0)
-          (subst (λ (f : Found). IsScanOf base sizes f) (sym nothing.1) p.scan)
+      (subst (λ (f : Found). IsScanOf base sizes f) (sym nothing.1) p.scan)
 
   by_answer : (a : ScanAnswer) → decide_scan readings ≡ a → IsFoundBy a found → IsScanOf last sizes (repaired_of found)
   by_answer (FoundGroup held stale strays missing) is by = of_group held stale strays missing is by

@@ -1,6 +1,6 @@
 -- What a scan finds on the way of a repair.
-use Rattle.std.proofs.Common.{◌≡◌, ℕ, zero, suc, ◌+◌, Bool, true, false, not, ◌&&◌, List, [], ◌∷◌, Option, Some, None, inl, inr, ⊎_elim,
-    refl, sym, ap, subst, ◌∙◌, arith}
+use Rattle.std.proofs.Common.{◌≡◌, ℕ, zero, suc, ◌+◌, Bool, true, false, not, ◌&&◌, List, [], ◌∷◌, Option, Some, None, inl, inr, ⊎_elim}
+use Rattle.std.proofs.Common.{refl, sym, ap, subst, ◌∙◌, arith}
 use Rattle.std.specs.Prelude.{filter_map, option_map, slice_get, unwrap_or}
 use Rattle.std.specs.FinSet as set
 use Rattle.std.specs.List.{Contains, cons_option, list_any}
@@ -13,9 +13,9 @@ use Rattle.disk_batch.proofs.FrontBatches.{none_front}
 use Rattle.disk_model.specs.Steps.{Image, IsSame}
 use Rattle.meta_model.specs.declared.group.Group.{Group}
 use Rattle.pv_header.specs.declared.header.PvHeader.{PvHeader}
-use Rattle.scan_rules.specs.Decision.{Area, AreaReading, Conflict, Copy, DuplicatePv, Found as PvOf, FoundGroup, GivesNoLater,
-    HasShape as IsShaped, Held, NoCopy, NoGroup, PvShape, Reading, SamePv, ScanAnswer, TwoGroups, Unsupported, decide_scan, gives, holds,
-    is_held, is_listed, lists}
+use Rattle.scan_rules.specs.Decision.{Area, AreaReading, Conflict, Copy, DuplicatePv, Found as PvOf, FoundGroup, GivesNoLater}
+use Rattle.scan_rules.specs.Decision.{HasShape as IsShaped, Held, NoCopy, NoGroup, PvShape, Reading, SamePv, ScanAnswer, TwoGroups}
+use Rattle.scan_rules.specs.Decision.{Unsupported, decide_scan, gives, holds, is_held, is_listed, lists}
 use Rattle.scan_rules.specs.Found.{missing_of}
 use Rattle.scan_rules.specs.Laws.{IsStray}
 use Rattle.scan_rules.proofs.Repairs.{strays_exact}
@@ -32,8 +32,8 @@ use Rattle.vg_repair.specs.Stale.{text_of}
 use Rattle.vg_repair.proofs.Nothing.{leaves_all}
 use Rattle.repair_scans.specs.Laws.{CanRepair, FindsAgain}
 use Rattle.image_scans.specs.Versions.{Version}
-use Rattle.image_scans.proofs.Again.{AreasAgain, DisksAgain, Finds, GivesAgain, PvAgain, again_give, again_headers, finds_newest,
-    missing_same}
+use Rattle.image_scans.proofs.Again.{AreasAgain, DisksAgain, Finds, GivesAgain, PvAgain, again_give, again_headers, finds_newest}
+use Rattle.image_scans.proofs.Again.{missing_same}
 use Rattle.image_scans.proofs.CommitScans.{disks_by_ids, none_unread}
 use Rattle.image_scans.proofs.Decided.{IsFoundWith, found_parts}
 use Rattle.image_scans.proofs.DiskAgain.{AllAgain, DiskAgain, all_again}
@@ -61,11 +61,11 @@ module _ (group : Group) (text : List ℕ) (passed : List (List ℕ)) where
   one_still id listed (Some r) b as' bs (inl same) later any =
       subst (λ (o : Option AreaReading). list_any (gives text) (cons_option o bs) ≡ true) (sym same)
       (⊎_elim (λ here. or_left (gives text r) (list_any (gives text) bs) here)
-          (λ rest. or_right (gives text r) (list_any (gives text) bs) (later rest))
-          (or_cases (gives text r) (list_any (gives text) as') any))
+      (λ rest. or_right (gives text r) (list_any (gives text) bs) (later rest))
+      (or_cases (gives text r) (list_any (gives text) as') any))
   one_still id listed (Some r) b as' bs (inr (inl made)) later any =
       subst (λ (o : Option AreaReading). list_any (gives text) (cons_option o bs) ≡ true) (sym made.0)
-          (or_left (gives text new) (list_any (gives text) bs) (same_bytes_to text text refl))
+      (or_left (gives text new) (list_any (gives text) bs) (same_bytes_to text text refl))
   one_still id listed (Some r) b as' bs (inr (inr none)) later any =
       subst (λ (o : Option AreaReading). list_any (gives text) (cons_option o bs) ≡ true) (sym none.0)
       (⊎_elim
@@ -83,7 +83,7 @@ module _ (group : Group) (text : List ℕ) (passed : List (List ℕ)) where
   areas_still id listed (a ∷ as') [] again any = absurd again
   areas_still id listed (a ∷ as') (b ∷ bs) again any =
       one_still id listed a.reading b.reading (filter_map (λ (x : Area). x.reading) as') (filter_map (λ (x : Area). x.reading) bs) again.2
-          (λ rest. areas_still id listed as' bs again.3 rest) any
+      (λ rest. areas_still id listed as' bs again.3 rest) any
 
   pv_still : (s t : ℕ) (a b : Option PvOf) → PvAgain (λ id. true) lost new a b
       → (is_listed group (record { sectors = s; pv = a }) && holds text (record { sectors = s; pv = a })) ≡ true
@@ -94,7 +94,7 @@ module _ (group : Group) (text : List ℕ) (passed : List (List ℕ)) where
   pv_still s t (Some a) (Some b) again any =
       let parts = and_parts (lists group a.id) (list_any (gives text) (filter_map (λ (x : Area). x.reading) a.areas)) any in
       ap (λ (x : Bool). x && list_any (gives text) (filter_map (λ (y : Area). y.reading) b.areas))
-          (ap (lists group) (sym again.0) ∙ parts.0) ∙ areas_still a.id parts.0 a.areas b.areas again.1 parts.1
+      (ap (lists group) (sym again.0) ∙ parts.0) ∙ areas_still a.id parts.0 a.areas b.areas again.1 parts.1
 
   held_still : (as' bs : List Reading) → DisksAgain (λ id. true) lost new as' bs → is_held group text as' ≡ true
       → is_held group text bs ≡ true
@@ -114,9 +114,12 @@ reading_at : (image : Image) (unread : set.FinSet nat_cmp) (first : ℕ) (disks 
     → (reading : Reading) × (slice_get readings k ≡ Some reading) × IsDiskReading (first + k) (image (first + k)) disk reading
 reading_at image unread first [] readings are k disk there = absurd cc
 reading_at image unread first (d ∷ disks) [] are k disk there = absurd are
-reading_at image unread first (d ∷ disks) (reading ∷ readings) are zero disk there =
-    (reading, refl, subst (λ (n : ℕ). IsDiskReading n (image n) disk reading) (omega arith)
-        (subst (λ (x : Disk). IsDiskReading first (image first) x reading) (same_Some d disk there) are.1))
+reading_at image unread first (d ∷ disks) (reading ∷ readings) are zero disk there = (
+  reading,
+  refl,
+  subst (λ (n : ℕ). IsDiskReading n (image n) disk reading) (omega arith)
+      (subst (λ (x : Disk). IsDiskReading first (image first) x reading) (same_Some d disk there) are.1),
+)
 reading_at image unread first (d ∷ disks) (reading ∷ readings) are (suc k) disk there =
     let r = reading_at image unread (first + 1) disks readings are.2 k disk there in
     (r.0, r.1, subst (λ (n : ℕ). IsDiskReading n (image n) disk r.0) (omega arith) r.2)
@@ -145,8 +148,8 @@ module _ (base : Image) (sizes : List ℕ) (found : Found) (p : CanRepair base s
       let read : IsDiskReading pv (base pv) disk r.0 = subst (λ (n : ℕ). IsDiskReading n (base n) disk r.0) (omega arith) r.2 in
       let own : r.0.pv ≡ Some s.pv = sym (ap (λ (o : Option Reading). option_and_then (λ (x : Reading). x.pv) o) r.1) ∙ s.on_disk in
       let id : s.pv.id ≡ header.id =
-          same_id header (header_on disk.contents) s.pv r.0.pv has own
-              (pv_shaped pv disk.sectors (base pv) disk.contents r.0.pv read.contents read.pv_is) in
+      same_id header (header_on disk.contents) s.pv r.0.pv has own
+      (pv_shaped pv disk.sectors (base pv) disk.contents r.0.pv read.contents read.pv_is) in
       ap (lists held.group) (sym id) ∙ s.is_unlisted
 
   -- ---- a group was found
@@ -184,25 +187,25 @@ module _ (base : Image) (sizes : List ℕ) (found : Found) (p : CanRepair base s
         let plain : 0 + k ≡ k = omega arith in
         subst (λ (n : ℕ). DiskAgain n (image n) (λ id. true) (may_be_lost held.group text) made disk reading) (sym plain)
         (each_again base sizes found p held.group (unlisted held stale strays missing is by.4) image h k disk at_disk held.passed copy
-            reading (subst (λ (n : ℕ). IsDiskReading n (base n) disk reading) plain read)))
+        reading (subst (λ (n : ℕ). IsDiskReading n (base n) disk reading) plain read)))
 
     given : DisksGive (λ disk. GivesNoLater held.group held.text) again.read
     given =
         again_give (GivesNoLater held.group held.text) made (refl, inl (refl, text_is)) tt (λ id. true) (may_be_lost held.group text)
-            readings again.read again.again
+        readings again.read again.again
         (none_later_given readings held stale strays missing is copies)
 
     shape : IsShaped held.group again.read
     shape =
         same_shape held.group readings again.read
-            (again_headers (λ id. true) (may_be_lost held.group text) made readings again.read again.again)
+        (again_headers (λ id. true) (may_be_lost held.group text) made readings again.read again.again)
         (record { apart = parts.apart; placed = parts.placed })
 
     still_held : is_held held.group held.text again.read ≡ true
     still_held =
         subst (λ (t : List ℕ). is_held held.group t again.read ≡ true) text_is
         (held_still held.group text held.passed readings again.read again.again
-            (subst (λ (t : List ℕ). is_held held.group t readings ≡ true) (sym text_is) parts.is_held_is))
+        (subst (λ (t : List ℕ). is_held held.group t readings ≡ true) (sym text_is) parts.is_held_is))
 
     -- the same group and text are found again
     pub finds : Finds again.read held.group held.text
@@ -226,13 +229,13 @@ module _ (base : Image) (sizes : List ℕ) (found : Found) (p : CanRepair base s
     pub none_away : missing_of again.read held.group.pvs ≡ []
     none_away =
         sym (missing_same readings again.read held.group.pvs
-            (again_headers (λ id. true) (may_be_lost held.group text) made readings again.read again.again)) ∙ parts.missing_are ∙ sym by.5
-            ∙ p.whole.there
+        (again_headers (λ id. true) (may_be_lost held.group text) made readings again.read again.again)) ∙ parts.missing_are ∙ sym by.5
+        ∙ p.whole.there
 
     found_text : FindsAgain sizes image found
     found_text =
         let own : IsFoundWith again.read finds.held finds.stale finds.strays finds.missing =
-            found_parts again.read finds.held finds.stale finds.strays finds.missing finds.is in
+        found_parts again.read finds.held finds.stale finds.strays finds.missing finds.is in
         let version : Group → Version = λ g. record { group = g; disk_of = disks_of g again.there } in
         record {
           finds = record {
@@ -248,8 +251,8 @@ module _ (base : Image) (sizes : List ℕ) (found : Found) (p : CanRepair base s
             whole = sym own.missing_are ∙ ap (λ (g : Group). missing_of again.read g.pvs) finds.group_is ∙ none_away;
             version_is =
                 ap (λ (g : Group). Some (version g)) finds.group_is
-                    ∙ ap (λ (l : List ℕ). Some (record { group = held.group; disk_of = l }))
-                    (disks_by_ids held.group found.disks again.there again.ids)
+                ∙ ap (λ (l : List ℕ). Some (record { group = held.group; disk_of = l }))
+                (disks_by_ids held.group found.disks again.there again.ids)
                 ∙ sym (ap (λ (o : Option Group). option_map (λ (g : Group). record { group = g; disk_of = disks_of g found.disks }) o)
                 by.0);
           };
@@ -263,8 +266,16 @@ module _ (base : Image) (sizes : List ℕ) (found : Found) (p : CanRepair base s
       let nothing : repair_batches found ≡ [] = (leaves_all found p.shape by.3 by.4).0 in
       let same : IsSame image base = none_front base image (subst (λ (l : List (List Put)). HasFirstBatches l base image) nothing h) in
       subst (λ (i : Image). FindsAgain sizes i found) (λ i pv sector. sym (same pv sector) i)
-      (record { finds = record { found = found; scan = p.scan; left = λ pv within. none_unread found p.whole pv; whole = p.whole.there;
-          version_is = refl }; text = refl })
+      (record {
+        finds = record {
+          found = found;
+          scan = p.scan;
+          left = λ pv within. none_unread found p.whole pv;
+          whole = p.whole.there;
+          version_is = refl;
+        };
+        text = refl;
+      })
 
   by_answer : (answer : ScanAnswer) → decide_scan readings ≡ answer → IsFoundBy answer found → (image : Image)
       → HasFirstBatches (repair_batches found) base image → FindsAgain sizes image found

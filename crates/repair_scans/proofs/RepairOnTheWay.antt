@@ -1,6 +1,6 @@
 -- An image on the way of a repair: each disk reads again, but for areas that give the text that was found, or nothing.
-use Rattle.std.proofs.Common.{◌≡◌, ◌≤◌, ◌<◌, ◌⊎◌, ℕ, zero, suc, ◌+◌, ◌*◌, ◌/◌, ◌==◌, ◌&&◌, ◌||◌, not, Bool, true, false, List, [], ◌∷◌,
-    length, get_or, map, Option, Some, None, inl, inr, ⊎_elim, refl, sym, ap, subst, ◌∙◌, arith}
+use Rattle.std.proofs.Common.{◌≡◌, ◌≤◌, ◌<◌, ◌⊎◌, ℕ, zero, suc, ◌+◌, ◌*◌, ◌/◌, ◌==◌, ◌&&◌, ◌||◌, not, Bool, true, false, List, [], ◌∷◌}
+use Rattle.std.proofs.Common.{length, get_or, map, Option, Some, None, inl, inr, ⊎_elim, refl, sym, ap, subst, ◌∙◌, arith}
 use Rattle.std.specs.Prelude.{All, slice_get}
 use Rattle.std.specs.FinSet as set
 use Rattle.std.specs.List.{list_any}
@@ -84,19 +84,27 @@ find_place (b ∷ areas) a any = step (λ later. find_place areas a later) (or_c
         → HasPlaceIn (b ∷ areas) a
     step rest (inl here) =
         let parts = and_parts (a.0.pv == b.0.pv) (a.0.start == b.0.start) here in
-        record { number = 0; among = omega arith; same_pv = sym (eqb-true a.0.pv b.0.pv parts.0);
-            same_start = sym (eqb-true a.0.start b.0.start parts.1) }
+        record {
+          number = 0;
+          among = omega arith;
+          same_pv = sym (eqb-true a.0.pv b.0.pv parts.0);
+          same_start = sym (eqb-true a.0.start b.0.start parts.1);
+        }
     step rest (inr later) =
-        let r : HasPlaceIn areas a = rest later in record { number = suc r.number; among = omega (arith, r.among); same_pv = r.same_pv;
-            same_start = r.same_start }
+        let r : HasPlaceIn areas a = rest later in record {
+          number = suc r.number;
+          among = omega (arith, r.among);
+          same_pv = r.same_pv;
+          same_start = r.same_start;
+        }
 
 no_place : (areas : List (Area × Option Locn)) (a : Area × Option Locn) → list_any (is_place a) areas ≡ false → (k : ℕ) → k < length areas
     → (get_or areas k no_area).0.pv ≡ a.0.pv → (get_or areas k no_area).0.start ≡ a.0.start → ⊥
 no_place [] a none k within pv start = omega (arith, within)
 no_place (b ∷ areas) a none zero within pv start =
     true≢false (sym (or_left (is_place a b) (list_any (is_place a) areas)
-        (and_from (a.0.pv == b.0.pv) (a.0.start == b.0.start) (eq-eqb a.0.pv b.0.pv (sym pv)) (eq-eqb a.0.start b.0.start (sym start))))
-        ∙ none)
+    (and_from (a.0.pv == b.0.pv) (a.0.start == b.0.start) (eq-eqb a.0.pv b.0.pv (sym pv)) (eq-eqb a.0.start b.0.start (sym start))))
+    ∙ none)
 no_place (b ∷ areas) a none (suc k) within pv start =
     no_place areas a (later (is_place a b) (list_any (is_place a) areas) none) k (omega (arith, within)) pv start
   where
@@ -151,7 +159,7 @@ module _ (base : Image) (sizes : List ℕ) (found : Found) (p : CanRepair base s
   pub shown : ShowsEntries found.areas base
   shown =
       subst (λ (l : List (Area × Option Locn)). ShowsEntries l base) (sym p.scan.areas)
-          (entries_shown base found.unread 0 found.disks p.scan.readings p.scan.are.each)
+      (entries_shown base found.unread 0 found.disks p.scan.readings p.scan.are.each)
 
   -- each disk is one
   pub are_disks : (pv : ℕ) (disk : Disk) → slice_get found.disks pv ≡ Some disk → IsDisk pv disk
@@ -227,17 +235,17 @@ module _ (base : Image) (sizes : List ℕ) (found : Found) (p : CanRepair base s
       let first : Image = with_batches (batch_if (map label_put labels)) texts in
       let there : first label.disk label.sector ≡ label_bytes label =
       ap (λ (i : Image). i label.disk label.sector) (with_if (map label_put labels) texts)
-          ∙ labels_there labels texts (labels_differ found p.shape) k d within
+      ∙ labels_there labels texts (labels_differ found p.shape) k d within
       in
       ap (λ (i : Image). i label.disk label.sector)
       (batches_append (text_batches text stale) (clear_batches found.strays found.disks found.areas) base
-          ∙ batches_append (batch_if (map label_put labels)) (batch_if (map clear_put cleared)) texts)
+      ∙ batches_append (batch_if (map label_put labels)) (batch_if (map clear_put cleared)) texts)
       ∙ ⊎_elim
       (λ same. same ∙ there)
       (λ by.
       let value : List ℕ = with_batches (batch_if (map clear_put cleared)) first label.disk label.sector in
       let w : IsClearWrite cleared label.disk label.sector value =
-          clear_write cleared label.disk label.sector value (any_if (map clear_put cleared) label.disk label.sector value by) in
+      clear_write cleared label.disk label.sector value (any_if (map clear_put cleared) label.disk label.sector value by) in
       absurd (omega (arith, low, clear_far label.disk label.sector value w)))
       (batches_or (batch_if (map clear_put cleared)) first label.disk label.sector)
 
@@ -276,7 +284,7 @@ module _ (base : Image) (sizes : List ℕ) (found : Found) (p : CanRepair base s
           let on : IsLabelOn found.strays found.disks (get_or labels w.0 some_label) = labels_on w.0 some_label w.1 in
           let same : disk ≡ on.0 = same_Some disk on.0 (sym there ∙ ap (slice_get found.disks) (sym w.2) ∙ on.2) in
           absurd (let e : ◌≡◌ {A = Option (ℕ × PvHeader)} None (Some ((get_or labels w.0 some_label).sector, on.1)) = sym none
-              ∙ ap (λ (d : Disk). option_and_then pv_in d.contents) same ∙ on.3 in cc))
+          ∙ ap (λ (d : Disk). option_and_then pv_in d.contents) same ∙ on.3 in cc))
           (near pv sector low)
 
       module _ (label : ℕ) (header : PvHeader) (areas : List AreaFound) (is : disk.contents ≡ Some (Whole label header areas))
@@ -292,7 +300,7 @@ module _ (base : Image) (sizes : List ℕ) (found : Found) (p : CanRepair base s
             let on : IsLabelOn found.strays found.disks new = labels_on w.0 some_label w.1 in
             let same : disk ≡ on.0 = same_Some disk on.0 (sym there ∙ ap (slice_get found.disks) (sym w.2) ∙ on.2) in
             let both : ◌≡◌ {A = Option (ℕ × PvHeader)} (Some (label, header)) (Some (new.sector, on.1)) =
-                sym (ap (option_and_then pv_in) is) ∙ ap (λ (d : Disk). option_and_then pv_in d.contents) same ∙ on.3 in
+            sym (ap (option_and_then pv_in) is) ∙ ap (λ (d : Disk). option_and_then pv_in d.contents) same ∙ on.3 in
             let pair : (label, header) ≡ (new.sector, on.1) = same_Some (label, header) (new.sector, on.1) both in
             let at : label ≡ new.sector = ap (λ (x : ℕ × PvHeader). x.0) pair in (
               new,
@@ -310,7 +318,7 @@ module _ (base : Image) (sizes : List ℕ) (found : Found) (p : CanRepair base s
         label_stands = record {
           before =
               λ k less. ⊎_elim (λ same. same) (λ by. absurd (omega (arith, less, (of_label k (image pv k) by).1)))
-                  (near pv k (omega (arith, less, low)));
+              (near pv k (omega (arith, less, low)));
           is =
               ⊎_elim
               (λ same. inl same)
@@ -342,11 +350,11 @@ module _ (base : Image) (sizes : List ℕ) (found : Found) (p : CanRepair base s
               let take : CanTake b = All-filter (lies_on found.strays) CanTake found.areas p.shape.take clear.number no_area clear.among in
               let met : held_area pv area ≡ Some b =
               area_met found.disks are_disks pv disk there label header areas is k d within b
-                  (cleared_on_disks clear.number no_area clear.among) clear.disk sector (omega (arith, clear.at))
-                  (omega (arith, clear.at, take.0.has_ring)) (omega arith) (omega (arith, placed.some)) in
+              (cleared_on_disks clear.number no_area clear.among) clear.disk sector (omega (arith, clear.at))
+              (omega (arith, clear.at, take.0.has_ring)) (omega arith) (omega (arith, placed.some)) in
               let stray : set.contains found.strays pv ≡ true =
-                  ap (set.contains found.strays) (sym clear.disk)
-                      ∙ filter_passes (lies_on found.strays) found.areas clear.number no_area clear.among in
+              ap (set.contains found.strays) (sym clear.disk)
+              ∙ filter_passes (lies_on found.strays) found.areas clear.number no_area clear.among in
               (b, met, take, clear.is, all_lost group text header.id (unlisted pv disk header there (ap header_on is) stray))
 
           -- its header was cleared, or has another value on the way
@@ -358,7 +366,7 @@ module _ (base : Image) (sizes : List ℕ) (found : Found) (p : CanRepair base s
               (λ by.
               ⊎_elim
               (λ texts. inr (inr (header_met found.disks are_disks text stale stale_on_disks stale_rooms pv disk there label header areas is
-                  k d within (image pv sector) texts)))
+              k d within (image pv sector) texts)))
               (λ other.
               ⊎_elim
               (λ at.
@@ -386,11 +394,11 @@ module _ (base : Image) (sizes : List ℕ) (found : Found) (p : CanRepair base s
               let s : Area × Option Locn = get_or stale texts.number no_area in
               let met : held_area pv area ≡ Some s =
               area_met found.disks are_disks pv disk there label header areas is k d within s
-                  (stale_on_disks texts.number no_area texts.among) texts.disk sector texts.from texts.to (omega (arith, from, starts))
-                  (omega (arith, to, starts, sized)) in
+              (stale_on_disks texts.number no_area texts.among) texts.disk sector texts.from texts.to (omega (arith, from, starts))
+              (omega (arith, to, starts, sized)) in
               let same : b ≡ s = same_Some b s (sym is_held ∙ met) in
               absurd (no_place stale b none texts.number texts.among (ap (λ (a : Area × Option Locn). a.0.pv) (sym same))
-                  (ap (λ (a : Area × Option Locn). a.0.start) (sym same))))
+              (ap (λ (a : Area × Option Locn). a.0.start) (sym same))))
               (λ other.
               ⊎_elim
               (λ at.
@@ -402,8 +410,8 @@ module _ (base : Image) (sizes : List ℕ) (found : Found) (p : CanRepair base s
               let take : CanTake c = All-filter (lies_on found.strays) CanTake found.areas p.shape.take clear.number no_area clear.among in
               let met : held_area pv area ≡ Some c =
               area_met found.disks are_disks pv disk there label header areas is k d within c
-                  (cleared_on_disks clear.number no_area clear.among) clear.disk sector (omega (arith, clear.at))
-                  (omega (arith, clear.at, take.0.has_ring)) (omega (arith, from, starts)) (omega (arith, to, starts, sized)) in
+              (cleared_on_disks clear.number no_area clear.among) clear.disk sector (omega (arith, clear.at))
+              (omega (arith, clear.at, take.0.has_ring)) (omega (arith, from, starts)) (omega (arith, to, starts, sized)) in
               let same : b ≡ c = same_Some b c (sym is_held ∙ met) in
               absurd (omega (arith, from, clear.at, ap (λ (a : Area × Option Locn). a.0.start) same)))
               other)
@@ -423,11 +431,11 @@ module _ (base : Image) (sizes : List ℕ) (found : Found) (p : CanRepair base s
               let s : Area × Option Locn = get_or stale texts.number no_area in
               let met : held_area pv area ≡ Some s =
               area_met found.disks are_disks pv disk there label header areas is k d within s
-                  (stale_on_disks texts.number no_area texts.among) texts.disk sector texts.from texts.to (omega arith)
-                  (omega (arith, placed.some)) in
+              (stale_on_disks texts.number no_area texts.among) texts.disk sector texts.from texts.to (omega arith)
+              (omega (arith, placed.some)) in
               let same : b ≡ s = same_Some b s (sym is_held ∙ met) in
               absurd (no_place stale b none texts.number texts.among (ap (λ (a : Area × Option Locn). a.0.pv) (sym same))
-                  (ap (λ (a : Area × Option Locn). a.0.start) (sym same))))
+              (ap (λ (a : Area × Option Locn). a.0.start) (sym same))))
               (λ other.
               ⊎_elim
               (λ at.
@@ -448,9 +456,9 @@ module _ (base : Image) (sizes : List ℕ) (found : Found) (p : CanRepair base s
               let take : CanTake s = (stale_held found p.shape).take r.number no_area r.among in
               let met : held_area pv area ≡ Some s =
               area_met found.disks are_disks pv disk there label header areas is k d within s (stale_on_disks r.number no_area r.among)
-                  (r.same_pv ∙ ap (λ (a : Area). a.pv) own) (area.area.offset / 512)
+              (r.same_pv ∙ ap (λ (a : Area). a.pv) own) (area.area.offset / 512)
               (omega (arith, r.same_start, starts)) (omega (arith, r.same_start, starts, take.0.has_ring)) (omega arith)
-                  (omega (arith, placed.some)) in
+              (omega (arith, placed.some)) in
               subst (IsKeptOrNew text base image) (same_Some s b (sym met ∙ is_held)) (kept.stale r.number no_area r.among)
 
           -- what the base shows of it
@@ -462,10 +470,10 @@ module _ (base : Image) (sizes : List ℕ) (found : Found) (p : CanRepair base s
               let sized = base_sized found.areas base p.shape.take in
               let shows = base_shows found.areas base shown in
               let all : All IsShown (held_areas 0 found.disks) =
-                  subst (All IsShown) p.shape.areas (λ j e in_list. (p.shape.take j e in_list, sized j e in_list, shows j e in_list)) in
+              subst (All IsShown) p.shape.areas (λ j e in_list. (p.shape.take j e in_list, sized j e in_list, shows j e in_list)) in
               let here : All (λ f. (x : Area × Option Locn) → held_area (0 + pv) f ≡ Some x → IsShown x) areas =
               subst (λ (c : Option PvFound). All (λ f. (x : Area × Option Locn) → held_area (0 + pv) f ≡ Some x → IsShown x) (areas_on c))
-                  is (of_held IsShown 0 found.disks all pv disk there)
+              is (of_held IsShown 0 found.disks all pv disk there)
               in
               here k d within b (ap (λ (n : ℕ). held_area n area) (omega arith) ∙ is_held)
 
@@ -489,8 +497,10 @@ module _ (base : Image) (sizes : List ℕ) (found : Found) (p : CanRepair base s
           known_by None is_held =
               ⊎_elim
               (λ clear. inr clear)
-              (λ has. inl ((λ b some. absurd (let e : ◌≡◌ {A = Option (Area × Option Locn)} None (Some b) = sym is_held ∙ some in cc)),
-                  has))
+              (λ has. inl (
+                (λ b some. absurd (let e : ◌≡◌ {A = Option (Area × Option Locn)} None (Some b) = sym is_held ∙ some in cc)),
+                has,
+              ))
               header_value
           known_by (Some b) is_held =
               ⊎_elim
@@ -527,9 +537,9 @@ module _ (base : Image) (sizes : List ℕ) (found : Found) (p : CanRepair base s
             → DiskAgain pv (image pv) (λ id. true) lost (Copy group text passed) disk reading
         with_header passed copy reading read =
             subst (λ (n : ℕ). DiskAgain pv (image pv) (λ id. true) lost (Copy group text passed) disk
-                (record { sectors = n; pv = reading.pv })) (sym read.sectors_is)
+            (record { sectors = n; pv = reading.pv })) (sym read.sectors_is)
             (disk_again text group passed copy (λ id. true) lost pv base image disk.sectors disk.contents reading.pv read.contents
-                read.pv_is (fine_pv group text reading.pv) label header areas is label_stands
+            read.pv_is (fine_pv group text reading.pv) label header areas is label_stands
             (recursion_from_All (IsKnown text pv base image true (lost header.id)) areas (λ k d within. known k d within)))
 
       -- without a header nothing of the disk's first sectors is written
@@ -566,8 +576,11 @@ module _ (base : Image) (sizes : List ℕ) (found : Found) (p : CanRepair base s
         unread = λ is. is;
         unread_there = λ is. is;
         is =
-            record { contents = without_header disk.contents refl none reading read.contents; sectors_is = read.sectors_is;
-                pv_is = bare_pv disk.contents none reading.pv read.pv_is };
+            record {
+              contents = without_header disk.contents refl none reading read.contents;
+              sectors_is = read.sectors_is;
+              pv_is = bare_pv disk.contents none reading.pv read.pv_is;
+            };
         same_sectors = refl;
         again = pv_same (λ id. true) lost (Copy group text passed) reading.pv;
         ids = λ id. refl;

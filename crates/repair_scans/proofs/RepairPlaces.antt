@@ -44,7 +44,7 @@ module _ (base : Image) (sizes : List ℕ) (found : Found) (p : CanRepair base s
   none_away : missing_of (shapes found.disks) group.pvs ≡ []
   none_away =
       sym (subst (λ (o : Option Group). IfSome o (λ g. found.missing ≡ missing_of (shapes found.disks) g.pvs)) is_group p.shape.missing)
-          ∙ p.whole.there
+      ∙ p.whole.there
 
   are_disks : (pv : ℕ) (disk : Disk) → slice_get found.disks pv ≡ Some disk → IsDisk pv disk
   are_disks pv disk there = (p.shape.disks pv disk there).0
@@ -63,7 +63,7 @@ module _ (base : Image) (sizes : List ℕ) (found : Found) (p : CanRepair base s
     outside a is_held =
         false_from_ne_true (covers (area_span a.0) number at.sector)
         (λ inside. let t = covers_tells (area_span a.0) number at.sector inside in beside_areas found.disks are_disks number at.sector on a
-            is_held t.0 t.1 t.2)
+        is_held t.0 t.1 t.2)
 
     no_header : (a : Area × Option Locn) → IsHeldOn found.disks a → CanTake a → covers (header_span a.0) number at.sector ≡ false
     no_header a is_held take =
@@ -76,11 +76,11 @@ module _ (base : Image) (sizes : List ℕ) (found : Found) (p : CanRepair base s
     other = record {
       stale =
           stale_all found p.shape (λ (a : Area × Option Locn). covers (area_span a.0) number at.sector ≡ false)
-              (λ k d within. outside (get_or found.areas k d) (held k d within));
+          (λ k d within. outside (get_or found.areas k d) (held k d within));
       labels =
           λ k d within. inr (λ same. let low : (get_or (stray_labels found) k d).sector
-              < 4 = (labels_can found p.shape k d within).sector_below in let behind : 8
-              ≤ at.sector = on.beside.behind in omega (arith, low, same, behind));
+          < 4 = (labels_can found p.shape k d within).sector_below in let behind : 8
+          ≤ at.sector = on.beside.behind in omega (arith, low, same, behind));
       headers =
           All-filter (lies_on found.strays) (λ (a : Area × Option Locn). covers (header_span a.0) number at.sector ≡ false) found.areas
           (λ k d within. no_header (get_or found.areas k d) (held k d within) (p.shape.take k d within));

@@ -1,6 +1,6 @@
 -- An area once a repair is done: it is found and reads as the repair hands it on.
-use Rattle.std.proofs.Common.{◌≡◌, ◌≤◌, ◌<◌, ℕ, ◌+◌, ◌/◌, Bool, true, false, cond, List, length, get_or, Option, Some, None, refl, sym, ap,
-    subst, ◌∙◌, arith}
+use Rattle.std.proofs.Common.{◌≡◌, ◌≤◌, ◌<◌, ℕ, ◌+◌, ◌/◌, Bool, true, false, cond, List, length, get_or, Option, Some, None, refl, sym, ap}
+use Rattle.std.proofs.Common.{subst, ◌∙◌, arith}
 use Rattle.std.specs.Prelude.{All, slice_get}
 use Rattle.std.specs.FinSet.{contains}
 use Rattle.std.specs.Option.{option_map_or}
@@ -68,7 +68,7 @@ none_given sector_at area (RefusedFor refusal) reading is given = absurd cc
 module _ (base : Image) (sizes : List ℕ) (found : Found) (p : CanRepair base sizes found) (group : Group) (passed : List (List ℕ))
     (copy : IsCopyOf (text_of found) group passed) (pv : ℕ) (disk : Disk) (there : slice_get found.disks pv ≡ Some disk)
     (label : ℕ) (header : PvHeader) (areas : List AreaFound) (is : disk.contents ≡ Some (Whole label header areas)) (n : ℕ) (d : AreaFound)
-        (within : n < length areas) where
+    (within : n < length areas) where
   abbrev text : List ℕ
   text = text_of found
 
@@ -106,17 +106,17 @@ module _ (base : Image) (sizes : List ℕ) (found : Found) (p : CanRepair base s
       → IsThere (with_entry area None) (Some HoldsNone)
   emptied held is_held stray =
       let each : All (λ (a : Area × Option Locn). lies_on found.strays a ≡ true → IsEmpty last a) found.areas =
-          each_of_filtered (IsEmpty last) (lies_on found.strays) found.areas right.headers in
+      each_of_filtered (IsEmpty last) (lies_on found.strays) found.areas right.headers in
       let same : held.0 ≡ own = own_area held is_held in
       let lies : lies_on found.strays held ≡ true = ap (λ (a : Area). contains found.strays a.pv) same ∙ stray in
       let empty : IsEmpty last held =
       of_all found p.shape pv disk there (λ (a : Area × Option Locn). lies_on found.strays a ≡ true → IsEmpty last a) each n area held
-          (area_at base sizes found p pv disk there label header areas is n d within) is_held lies
+      (area_at base sizes found p pv disk there label header areas is n d within) is_held lies
       in
       let first : sectors_of own last 0 ≡ last pv sector = ap (last pv) (omega arith) in
       let read : IsHeader (last pv sector) (header_of own None None) =
       subst (λ (s : List ℕ). IsHeader s (header_of own None None)) first
-          (subst (λ (a : Area). IsHeader (sectors_of a last 0) (header_of a None None)) same empty)
+      (subst (λ (a : Area). IsHeader (sectors_of a last 0) (header_of a None None)) same empty)
       in
       (((read, refl, refl), entry_nothing (last pv sector) area.area.offset area.area.size (header_of own None None) read refl refl), refl)
 
@@ -131,22 +131,21 @@ module _ (base : Image) (sizes : List ℕ) (found : Found) (p : CanRepair base s
       let take : CanTake held = of_stale found p.shape pv disk there CanTake (stale_held found p.shape).take n area held at old is_held in
       let fits : need (length text + 1) ≤ room held.0.size held.1 =
       of_stale found p.shape pv disk there (λ (a : Area × Option Locn). need (length text + 1) ≤ room a.0.size a.1)
-          (stale_rooms base sizes found p) n area held at old is_held
+      (stale_rooms base sizes found p) n area held at old is_held
       in
       let value : last held.0.pv (held.0.start / 512) ≡ header_bytes (header_after text held) =
       of_stale found p.shape pv disk there (λ (a : Area × Option Locn). last a.0.pv (a.0.start / 512) ≡ header_bytes (header_after text a))
-          (λ k e inside. header_published base sizes found p k e inside) n area held at old is_held
+      (λ k e inside. header_published base sizes found p k e inside) n area held at old is_held
       in
       let shows : ShowsBy (new_reading text) last held =
-          of_stale found p.shape pv disk there (ShowsBy (new_reading text) last) right.stale n area held at old is_held in
+      of_stale found p.shape pv disk there (ShowsBy (new_reading text) last) right.stale n area held at old is_held in
       let written : IsHeader (last held.0.pv (held.0.start / 512)) (header_after text held) =
       subst (λ (s : List ℕ). IsHeader s (header_after text held)) (sym value) (after_read text held take fits)
       in
       let read : IsHeader (last pv sector) (header_of own (Some locn) None) =
-          subst (λ (a : Area). IsHeader (last a.pv (a.start / 512)) (header_of a (Some locn) None)) same written in
+      subst (λ (a : Area). IsHeader (last a.pv (a.start / 512)) (header_of a (Some locn) None)) same written in
       let bytes : stored_bytes (last pv) own locn ≡ stored text =
-          ap (λ (a : Area). stored_bytes (last a.pv) a locn) (sym same) ∙ shows.ring in
-      (
+      ap (λ (a : Area). stored_bytes (last a.pv) a locn) (sym same) ∙ shows.ring in (
         ((read, refl, refl), entry_text (last pv sector) (header_of own (Some locn) None) locn read refl refl),
         (new, refl, stored_copy text group passed held (stored_bytes (last pv) own locn) copy bytes),
       )
@@ -160,7 +159,7 @@ module _ (base : Image) (sizes : List ℕ) (found : Found) (p : CanRepair base s
     same_sector : IsOther → last pv sector ≡ base pv sector
     same_sector other =
         sectors_kept base sizes found p pv disk there label header areas is n d within other sector (omega arith)
-            (omega (arith, placed.some))
+        (omega (arith, placed.some))
 
     -- a text has its bytes
     same_text : IsOther → (locn : Locn) → held_area pv area ≡ Some (own, Some locn)
@@ -171,16 +170,16 @@ module _ (base : Image) (sizes : List ℕ) (found : Found) (p : CanRepair base s
         let take : CanTake held = of_all found p.shape pv disk there CanTake p.shape.take n area held at is_held in
         let sized : IsSized own (Some locn) (text_in base held) =
         of_all found p.shape pv disk there (λ (a : Area × Option Locn). IsSized a.0 a.1 (text_in base a))
-            (base_sized found.areas base p.shape.take) n area held at is_held
+        (base_sized found.areas base p.shape.take) n area held at is_held
         in
         let was : ShowsBy (old_reading (text_in base)) base held =
         of_all found p.shape pv disk there (ShowsBy (old_reading (text_in base)) base)
-            (base_shows found.areas base (shown base sizes found p)) n area held at is_held
+        (base_shows found.areas base (shown base sizes found p)) n area held at is_held
         in
         let stays : ShowsBy (old_reading (text_in base)) last held =
         shows_alike (old_reading (text_in base)) held base last take.0 sized
         (λ k inside. sectors_kept base sizes found p pv disk there label header areas is n d within other (sector + k) (omega arith)
-            (omega (arith, inside))) was
+        (omega (arith, inside))) was
         in
         stays.ring
 
@@ -198,8 +197,10 @@ module _ (base : Image) (sizes : List ℕ) (found : Found) (p : CanRepair base s
     kept : IsOther → IsThere area before.reading
     kept other =
         let same : base pv sector ≡ last pv sector = sym (same_sector other) in (
-          (subst (λ (s : List ℕ). IsMdaFound s area.area area.header) same stood.0,
-              subst (λ (s : List ℕ). IsEntry s area.area.offset area.area.size area.entry) same stood.1),
+          (
+            subst (λ (s : List ℕ). IsMdaFound s area.area area.header) same stood.0,
+            subst (λ (s : List ℕ). IsEntry s area.area.offset area.area.size area.entry) same stood.1,
+          ),
           given_kept other area.entry refl reads.given,
         )
 
@@ -225,7 +226,7 @@ module _ (base : Image) (sizes : List ℕ) (found : Found) (p : CanRepair base s
     by_held (Some held) is_held =
         let r = some_given (base pv) own area.entry held before.reading is_held reads.given in
         subst (IsThere (repaired_held found.stale found.strays text pv (n, area) held))
-            (ap (given_after (contains found.strays pv) (is_among found.stale pv n) new) (sym r.1))
+        (ap (given_after (contains found.strays pv) (is_among found.stale pv n) new) (sym r.1))
         (by_flags held is_held r.0 r.1 (contains found.strays pv) (is_among found.stale pv n) refl refl)
 
     abbrev then : AreaFound
@@ -238,6 +239,9 @@ module _ (base : Image) (sizes : List ℕ) (found : Found) (p : CanRepair base s
         let all : IsThere then given = by_held (held_area pv area) refl in
         let place : then.area ≡ area.area = area_kept found.stale found.strays text pv n area in (
           all.0,
-          record { start_is = reads.start_is ∙ ap (λ e. e.offset / 512) (sym place);
-              sectors_is = reads.sectors_is ∙ ap (λ e. e.size / 512) (sym place); given = all.1 },
+          record {
+            start_is = reads.start_is ∙ ap (λ e. e.offset / 512) (sym place);
+            sectors_is = reads.sectors_is ∙ ap (λ e. e.size / 512) (sym place);
+            given = all.1;
+          },
         )

@@ -1,6 +1,6 @@
 -- The disks once a repair is done: they stand and read as the repair hands them on.
-use Rattle.std.proofs.Common.{◌≡◌, ◌↔◌, ℕ, suc, ◌+◌, Bool, true, false, cond, List, [], ◌∷◌, get_or, map, Option, Some, None, refl, sym, ap,
-    subst, ◌∙◌, arith}
+use Rattle.std.proofs.Common.{◌≡◌, ◌↔◌, ℕ, suc, ◌+◌, Bool, true, false, cond, List, [], ◌∷◌, get_or, map, Option, Some, None, refl, sym, ap}
+use Rattle.std.proofs.Common.{subst, ◌∙◌, arith}
 use Rattle.std.specs.Prelude.{option_map, slice_get}
 use Rattle.std.specs.FinSet as set
 use Rattle.std.specs.List.{AllByRecursion as Each, enumerate_from}
@@ -38,7 +38,7 @@ use Rattle.repair_scans.proofs.RepairedReadings.{area_after, pv_after, reading_a
 module _ (base : Image) (sizes : List ℕ) (found : Found) (p : CanRepair base sizes found) (group : Group) (passed : List (List ℕ))
     (copy : IsCopyOf (text_of found) group passed)
     (unlisted : (pv : ℕ) (disk : Disk) (header : PvHeader) → slice_get found.disks pv ≡ Some disk → header_on disk.contents ≡ Some header
-        → set.contains found.strays pv ≡ true → lists group header.id ≡ false) where
+    → set.contains found.strays pv ≡ true → lists group header.id ≡ false) where
   abbrev last : Image
   last = with_batches (repair_batches found) base
 
@@ -78,8 +78,8 @@ module _ (base : Image) (sizes : List ℕ) (found : Found) (p : CanRepair base s
     areas_then first (area ∷ areas) (one ∷ before) stand reads each =
         let here : IsArea first area one = subst (λ (n : ℕ). IsArea n area one) (omega arith) (each 0 area one refl stand.0 reads.0) in
         let later =
-            areas_then (first + 1) areas before stand.1 reads.1
-                (λ n a o at stood read. subst (λ (m : ℕ). IsArea m a o) (omega arith) (each (suc n) a o at stood read)) in
+        areas_then (first + 1) areas before stand.1 reads.1
+        (λ n a o at stood read. subst (λ (m : ℕ). IsArea m a o) (omega arith) (each (suc n) a o at stood read)) in
         ((here.0, later.0), (here.1, later.1))
 
     module _ (disk : Disk) (there : slice_get found.disks pv ≡ Some disk) where
@@ -94,7 +94,7 @@ module _ (base : Image) (sizes : List ℕ) (found : Found) (p : CanRepair base s
             let same : get_or areas n area ≡ area = get_or_from_slice_get areas n area area at in
             subst (λ (a : AreaFound). IsArea n a one) same
             (area_repaired base sizes found p group passed copy pv disk there label header areas is n area
-                (slice_get_within areas n area at) one (subst (IsAreaFound (base pv)) (sym same) stands)
+            (slice_get_within areas n area at) one (subst (IsAreaFound (base pv)) (sym same) stands)
             (subst (λ (a : AreaFound). IsAreaReading pv (base pv) a one) (sym same) read))
 
         same_areas : (stray : Bool) → header.areas ≡ (cond stray (unused header) header).areas
@@ -120,10 +120,16 @@ module _ (base : Image) (sizes : List ℕ) (found : Found) (p : CanRepair base s
             let labelled = label_repaired base sizes found p group unlisted pv disk there label header areas is stood in
             let order : map (λ (a : AreaFound). a.area) list ≡ map (λ (a : AreaFound). a.area) areas =
             mapped_same area_then (λ (a : AreaFound). a.area) (λ (a : AreaFound). a.area)
-                (λ n area. area_kept found.stale found.strays (text_of found) pv n area) 0 areas
+            (λ n area. area_kept found.stale found.strays (text_of found) pv n area) 0 areas
             in (
-              (labelled.0, labelled.1, record { in_order = order ∙ stood.2.in_order ∙ same_areas (set.contains found.strays pv);
-                  each = All-from_recursion (IsAreaFound (last pv)) list both.0 }),
+              (
+                labelled.0,
+                labelled.1,
+                record {
+                  in_order = order ∙ stood.2.in_order ∙ same_areas (set.contains found.strays pv);
+                  each = All-from_recursion (IsAreaFound (last pv)) list both.0;
+                },
+              ),
               (id_is ∙ same_id (set.contains found.strays pv), both.1),
             )
 
@@ -132,8 +138,8 @@ module _ (base : Image) (sizes : List ℕ) (found : Found) (p : CanRepair base s
       abbrev Stands : Option PvFound → Option PvOf → Type 0
       Stands contents read =
           IsContents (last pv) disk.sectors (option_map (contents_then pv) contents)
-              × IsPvReading pv (last pv) (option_map (contents_then pv) contents)
-              (option_map (pv_after found.stale found.strays new pv) read)
+          × IsPvReading pv (last pv) (option_map (contents_then pv) contents)
+          (option_map (pv_after found.stale found.strays new pv) read)
 
       without : (contents : Option PvFound) → disk.contents ≡ contents → option_and_then pv_in contents ≡ None → (reading : Reading)
           → IsContents (base pv) disk.sectors contents → IsContents (last pv) disk.sectors contents
@@ -184,8 +190,8 @@ module _ (base : Image) (sizes : List ℕ) (found : Found) (p : CanRepair base s
   disks_repaired = record {
     sizes_is =
         mapped_same disk_then (λ (disk : Disk). disk.sectors) (λ (disk : Disk). disk.sectors) (λ k disk. refl) 0 found.disks
-            ∙ p.scan.are.sizes_is;
+        ∙ p.scan.are.sizes_is;
     each =
         disks_from 0 found.disks p.scan.readings p.scan.are.each
-            (λ k disk there. subst (λ (n : ℕ). slice_get found.disks n ≡ Some disk) (omega arith) there);
+        (λ k disk there. subst (λ (n : ℕ). slice_get found.disks n ≡ Some disk) (omega arith) there);
   }

@@ -1,6 +1,6 @@
 -- The label of a disk once a repair is done: a stray's header is in use no more, and another is as it was.
-use Rattle.std.proofs.Common.{◌≡◌, ◌<◌, ℕ, ◌*◌, Bool, true, false, cond, List, get_or, Option, Some, None, ⊎_elim, refl, sym, ap, subst,
-    ◌∙◌}
+use Rattle.std.proofs.Common.{◌≡◌, ◌<◌, ℕ, ◌*◌, Bool, true, false, cond, List, get_or, Option, Some, None, ⊎_elim, refl, sym, ap, subst}
+use Rattle.std.proofs.Common.{◌∙◌}
 use Rattle.std.specs.Prelude.{All, option_map, slice_get}
 use Rattle.std.specs.FinSet.{contains}
 use Rattle.std.specs.Option.{option_and_then}
@@ -43,29 +43,29 @@ label_of_stray : (found : Found) (number : ℕ) (stray : Bool) (o : Option (ℕ 
 label_of_stray found number true None label is has = absurd cc
 label_of_stray found number true (Some pv) label is has =
     ap (λ (l : NewLabel). contains found.strays l.disk)
-        (sym (same_Some (record { disk = number; sector = pv.0; header = unused pv.1 }) label has)) ∙ is
+    (sym (same_Some (record { disk = number; sector = pv.0; header = unused pv.1 }) label has)) ∙ is
 label_of_stray found number false o label is has = absurd cc
 
 labels_on_strays : (found : Found) → All (λ (label : NewLabel). contains found.strays label.disk ≡ true) (stray_labels found)
 labels_on_strays found k d within =
     let label : NewLabel = get_or (stray_labels found) k d in
     let at : Numbered found.disks (λ disk. unused_label found.strays disk ≡ Some label) =
-        in_kept (unused_label found.strays) found.disks label (in_at (stray_labels found) k d within) in
+    in_kept (unused_label found.strays) found.disks label (in_at (stray_labels found) k d within) in
     label_of_stray found at.number (contains found.strays at.number) (option_and_then pv_in at.element.contents) label refl at.holds
 
 module _ (base : Image) (sizes : List ℕ) (found : Found) (p : CanRepair base sizes found) (group : Group)
     (unlisted : (pv : ℕ) (disk : Disk) (header : PvHeader) → slice_get found.disks pv ≡ Some disk → header_on disk.contents ≡ Some header
-        → contains found.strays pv ≡ true → lists group header.id ≡ false) (pv : ℕ) (disk : Disk)
-        (there : slice_get found.disks pv ≡ Some disk)
+    → contains found.strays pv ≡ true → lists group header.id ≡ false) (pv : ℕ) (disk : Disk)
+    (there : slice_get found.disks pv ≡ Some disk)
     (label : ℕ) (header : PvHeader) (areas : List AreaFound) (is : disk.contents ≡ Some (Whole label header areas))
-        (stood : IsFound (base pv) disk.sectors (Whole label header areas)) where
+    (stood : IsFound (base pv) disk.sectors (Whole label header areas)) where
   abbrev last : Image
   last = with_batches (repair_batches found) base
 
   before_kept : (k : ℕ) → k < label → last pv k ≡ base pv k
   before_kept =
       (label_stands base sizes found p group unlisted last (all_written (repair_batches found) base) pv disk there label header areas is
-          stood.0.among).before
+      stood.0.among).before
 
   sector_kept : contains found.strays pv ≡ false → last pv label ≡ base pv label
   sector_kept other =
@@ -83,12 +83,12 @@ module _ (base : Image) (sizes : List ℕ) (found : Found) (p : CanRepair base s
   has_unused stray =
       let own : unused_label found.strays (pv, disk) ≡ Some unused_new =
       ap (λ (b : Bool). cond b (option_map (λ (found : ℕ × PvHeader). record { disk = pv; sector = found.0; header = unused found.1 })
-          (option_and_then pv_in disk.contents)) None) stray
+      (option_and_then pv_in disk.contents)) None) stray
       ∙ ap (λ (c : Option PvFound). option_map (λ (found : ℕ × PvHeader). record { disk = pv; sector = found.0; header = unused found.1 })
       (option_and_then pv_in c)) is
       in
       all_in (HasLabel last) (stray_labels found) unused_new (kept_has (unused_label found.strays) found.disks unused_new pv disk there own)
-          (p.keeps.right base (shown base sizes found p)).labels
+      (p.keeps.right base (shown base sizes found p)).labels
 
   abbrev IsRead : Bool → Type 0
   IsRead stray = IsFirstLabel (first_four (last pv)) label × Reads (last pv label) (disk.sectors * 512) (cond stray (unused header) header)
@@ -103,8 +103,7 @@ module _ (base : Image) (sizes : List ℕ) (found : Found) (p : CanRepair base s
   by_stray false other =
       let same : base pv label ≡ last pv label = sym (sector_kept other) in
       let own : IsLabel (base pv label) label =
-          subst (λ (s : List ℕ). IsLabel s label) (of_four (base pv) label stood.0.among) stood.0.label in
-      (
+      subst (λ (s : List ℕ). IsLabel s label) (of_four (base pv) label stood.0.among) stood.0.label in (
         label_again (base pv) (last pv) label before_kept (subst (λ (s : List ℕ). IsLabel s label) same own) stood.0,
         subst (λ (s : List ℕ). Reads s (disk.sectors * 512) header) same stood.1,
       )

@@ -1,6 +1,6 @@
 -- How disks read once a repair is done, and that nothing is stale there and no disk a stray.
-use Rattle.std.proofs.Common.{◌≡◌, ◌↔◌, ◌==◌, ◌&&◌, ℕ, Bool, true, false, cond, List, [], ◌∷◌, map, Option, Some, None, inl, inr, ⊎_elim,
-    refl, sym, ap, ◌∙◌}
+use Rattle.std.proofs.Common.{◌≡◌, ◌↔◌, ◌==◌, ◌&&◌, ℕ, Bool, true, false, cond, List, [], ◌∷◌, map, Option, Some, None, inl, inr, ⊎_elim}
+use Rattle.std.proofs.Common.{refl, sym, ap, ◌∙◌}
 use Rattle.std.specs.Prelude.{nat_eq, option_map, slice_get}
 use Rattle.std.specs.FinSet as set
 use Rattle.std.specs.List.{Contains, enumerate_from, list_any}
@@ -35,7 +35,7 @@ in_among [] disk area is = absurd is
 in_among (one ∷ stale) disk area (inl here) =
     or_left ((one.0 == disk) && (one.1 == area)) (is_among stale disk area)
     (and_from (one.0 == disk) (one.1 == area) (eq-eqb one.0 disk (ap (λ (a : ℕ × ℕ). a.0) here))
-        (eq-eqb one.1 area (ap (λ (a : ℕ × ℕ). a.1) here)))
+    (eq-eqb one.1 area (ap (λ (a : ℕ × ℕ). a.1) here)))
 in_among (one ∷ stale) disk area (inr later) =
     or_right ((one.0 == disk) && (one.1 == area)) (is_among stale disk area) (in_among stale disk area later)
 
@@ -55,8 +55,11 @@ module _ (stale : List (ℕ × ℕ)) (strays : set.FinSet nat_cmp) (new : AreaRe
   -- an area of this disk, by its number
   abbrev pub area_after : ℕ → ℕ × Area → Area
   area_after disk area =
-      record { start = area.1.start; sectors = area.1.sectors;
-          reading = given_after (set.contains strays disk) (is_among stale disk area.0) new area.1.reading }
+      record {
+        start = area.1.start;
+        sectors = area.1.sectors;
+        reading = given_after (set.contains strays disk) (is_among stale disk area.0) new area.1.reading;
+      }
 
   -- the physical volume of this disk
   abbrev pub pv_after : ℕ → PvOf → PvOf
@@ -89,8 +92,11 @@ module _ (stale : List (ℕ × ℕ)) (strays : set.FinSet nat_cmp) (new : AreaRe
           → option_map (pv_after disk) o ≡ Some pv → WasOn readings disk pv
       with_pv reading at None is maps = absurd cc
       with_pv reading at (Some before) is maps =
-          record { before = before; there = ap (λ (o : Option Reading). option_and_then (λ (r : Reading). r.pv) o) at ∙ is;
-              is = same_Some (pv_after disk before) pv maps }
+          record {
+            before = before;
+            there = ap (λ (o : Option Reading). option_and_then (λ (r : Reading). r.pv) o) at ∙ is;
+            is = same_Some (pv_after disk before) pv maps;
+          }
 
       by : (o : Option Reading) → slice_get (readings_after readings) disk ≡ o → option_and_then (λ (r : Reading). r.pv) o ≡ Some pv
           → WasOn readings disk pv
@@ -131,7 +137,7 @@ module _ (stale : List (ℕ × ℕ)) (strays : set.FinSet nat_cmp) (new : AreaRe
   module _ (group : Group) (text : List ℕ) (readings : List Reading) (gives_new : gives text new ≡ true)
       (are_stale : (disk area : ℕ) → Contains stale (disk, area) ↔ IsStale group text readings disk area)
       (numbers : List ℕ) (strays_is : strays ≡ set.from_list numbers)
-          (are_strays : (disk : ℕ) → Contains numbers disk ↔ IsStray group readings disk) where
+      (are_strays : (disk : ℕ) → Contains numbers disk ↔ IsStray group readings disk) where
     is_stray : (disk : ℕ) → set.contains strays disk ≡ true → IsStray group readings disk
     is_stray disk has =
         (are_strays disk).0 (in_set numbers disk (ap (λ (s : set.FinSet nat_cmp). set.contains s disk) (sym strays_is) ∙ has))
@@ -139,7 +145,7 @@ module _ (stale : List (ℕ × ℕ)) (strays : set.FinSet nat_cmp) (new : AreaRe
     has_stray : (disk : ℕ) → IsStray group readings disk → set.contains strays disk ≡ true
     has_stray disk is =
         ap (λ (s : set.FinSet nat_cmp). set.contains s disk) strays_is ∙ set.contains-from_list_nat numbers disk
-            ∙ any_in numbers disk (in_list numbers disk ((are_strays disk).1 is))
+        ∙ any_in numbers disk (in_list numbers disk ((are_strays disk).1 is))
 
     is_old : (disk area : ℕ) → is_among stale disk area ≡ true → IsStale group text readings disk area
     is_old disk area among = (are_stale disk area).0 (has_member stale (disk, area) (among_in stale disk area among))
@@ -173,8 +179,14 @@ module _ (stale : List (ℕ × ℕ)) (strays : set.FinSet nat_cmp) (new : AreaRe
         by false stray true among is = true≢false (sym gives_new ∙ ap (gives text) is ∙ s.differs)
         by false stray false among is =
             true≢false
-            (sym (has_old disk area (record { pv = w.before; given = g.before; on_disk = w.there; is_listed = listed; in_area = g.there;
-                differs = ap (gives text) is ∙ s.differs }))
+            (sym (has_old disk area (record {
+              pv = w.before;
+              given = g.before;
+              on_disk = w.there;
+              is_listed = listed;
+              in_area = g.there;
+              differs = ap (gives text) is ∙ s.differs;
+            }))
             ∙ among)
 
     -- and no disk that isn't listed gives anything
@@ -197,11 +209,18 @@ module _ (stale : List (ℕ × ℕ)) (strays : set.FinSet nat_cmp) (new : AreaRe
         by false stray true among is =
             let t : IsStale group text readings disk s.area = is_old disk s.area among in
             true≢false (sym t.is_listed ∙ ap (λ (pv : PvOf). lists group pv.id) (same_Some t.pv w.before (sym t.on_disk ∙ w.there))
-                ∙ not_listed)
+            ∙ not_listed)
         by false stray false among is =
             true≢false
-            (sym (has_stray disk (record { pv = w.before; area = s.area; given = g.before; on_disk = w.there; is_unlisted = not_listed;
-                in_area = g.there; is_there = ap is_something is ∙ s.is_there }))
+            (sym (has_stray disk (record {
+              pv = w.before;
+              area = s.area;
+              given = g.before;
+              on_disk = w.there;
+              is_unlisted = not_listed;
+              in_area = g.there;
+              is_there = ap is_something is ∙ s.is_there;
+            }))
             ∙ stray)
 
 -- a list that has no member

@@ -20,7 +20,7 @@ by_group : (found : Found) (o : Option Group)
 by_group found None = refl
 by_group found (Some group) =
     ap (λ (l : List ℕ). Some (record { group = group; disk_of = l }))
-        (disks_kept found.stale found.strays (text_of found) group found.disks)
+    (disks_kept found.stale found.strays (text_of found) group found.disks)
 
 pub version_kept : (found : Found) → version_in (repaired_of found) ≡ version_in found
 version_kept found = by_group found found.group

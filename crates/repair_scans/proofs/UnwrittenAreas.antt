@@ -64,27 +64,27 @@ module _ (base : Image) (sizes : List ℕ) (found : Found) (p : CanRepair base s
       let s : Area × Option Locn = get_or (stale_areas found) texts.number no_area in
       let met : held_area pv area ≡ Some s =
       area_met found.disks (are_disks base sizes found p) pv disk there label header areas is n d within s
-          (stale_on_disks base sizes found p texts.number no_area texts.among) texts.disk sector texts.from texts.to from to
+      (stale_on_disks base sizes found p texts.number no_area texts.among) texts.disk sector texts.from texts.to from to
       in
       absurd (true≢false (sym (stale_number found p.shape pv disk there s (in_at (stale_areas found) texts.number no_area texts.among)
-          texts.disk n area s area_at met refl) ∙ (unwritten s met).1)))
+      texts.disk n area s area_at met refl) ∙ (unwritten s met).1)))
       (λ other.
       ⊎_elim
       (λ at.
       let w = label_where (stray_labels found) (some_label base sizes found p) pv sector (last pv sector) at in
       let low : (get_or (stray_labels found) w.0 (some_label base sizes found p)).sector < 4 =
-          (labels_can found p.shape w.0 (some_label base sizes found p) w.1).sector_below in
+      (labels_can found p.shape w.0 (some_label base sizes found p) w.1).sector_below in
       absurd (omega (arith, low, w.3, placed.far, from)))
       (λ clear.
       let c : Area × Option Locn = get_or (stray_areas found) clear.number no_area in
       let take : CanTake c = All-filter (lies_on found.strays) CanTake found.areas p.shape.take clear.number no_area clear.among in
       let met : held_area pv area ≡ Some c =
       area_met found.disks (are_disks base sizes found p) pv disk there label header areas is n d within c
-          (cleared_on_disks base sizes found p clear.number no_area clear.among) clear.disk sector (omega (arith, clear.at))
-          (omega (arith, clear.at, take.0.has_ring)) from to
+      (cleared_on_disks base sizes found p clear.number no_area clear.among) clear.disk sector (omega (arith, clear.at))
+      (omega (arith, clear.at, take.0.has_ring)) from to
       in
       absurd (true≢false (sym (filter_passes (lies_on found.strays) found.areas clear.number no_area clear.among)
-          ∙ ap (contains found.strays) clear.disk ∙ (unwritten c met).0)))
+      ∙ ap (contains found.strays) clear.disk ∙ (unwritten c met).0)))
       other)
       (writes base sizes found p pv sector (last pv sector) by))
       (batches_or (repair_batches found) base pv sector)

@@ -39,19 +39,19 @@ ScansFindStraysApart = (base : Image) (sizes : List ℕ) (found : Found) → IsS
 abbrev pub RepairsScan : Type 0
 RepairsScan =
     (base image : Image) (sizes : List ℕ) (found : Found) → CanRepair base sizes found → HasFirstBatches (repair_batches found) base image
-        → FindsAgain sizes image found
+    → FindsAgain sizes image found
 
 -- once all is written, what a scan finds is what a repair hands on
 abbrev pub RepairedScans : Type 0
 RepairedScans =
     (base : Image) (sizes : List ℕ) (found : Found) → CanRepair base sizes found
-        → IsScanOf (with_batches (repair_batches found) base) sizes (repaired_of found)
+    → IsScanOf (with_batches (repair_batches found) base) sizes (repaired_of found)
 
 -- in every image on the way each primary place of a volume of the group that was found has what it has in the base
 abbrev pub RepairKeepsPlaces : Type 0
 RepairKeepsPlaces =
     (base image : Image) (sizes : List ℕ) (found : Found) (group : Group) → CanRepair base sizes found → found.group ≡ Some group
-        → HasFirstBatches (repair_batches found) base image
+    → HasFirstBatches (repair_batches found) base image
     → (lv sector : ℕ) (at : At) → primary group lv sector ≡ Some at → at_place image found.disk_of at ≡ at_place base found.disk_of at
 
 -- what is found once a repair is done has the version that was found

@@ -1,6 +1,6 @@
 -- The answer that the tests give one after another is that of the readings.
-use Rattle.std.proofs.Common.{◌≡◌, ℕ, ◌<◌, Bool, true, false, not, ◌&&◌, cond, List, [], ◌∷◌, length, Option, Some, None, refl, sym, ap,
-    subst, ◌∙◌}
+use Rattle.std.proofs.Common.{◌≡◌, ℕ, ◌<◌, Bool, true, false, not, ◌&&◌, cond, List, [], ◌∷◌, length, Option, Some, None, refl, sym, ap}
+use Rattle.std.proofs.Common.{subst, ◌∙◌}
 use Rattle.std.specs.Prelude.{option_map, unwrap_or, find, slice_get, ◌==◌}
 use Rattle.std.specs.Option.{option_and_then}
 use Rattle.std.proofs.lemmas.Option.{same_Some, slice_get_within}
@@ -11,11 +11,12 @@ use Rattle.scan_rules.specs.declared.readings.DiskRead.{DiskRead}
 use Rattle.std.specs.FinSet as set
 use Rattle.scan_rules.specs.declared.decision.Decided.{Decided}
 use Rattle.scan_rules.specs.declared.decision.ScanRefusal.{ScanRefusal}
-use Rattle.scan_rules.specs.Answers.{Denies, IsDecided, IsRefusedBy, answer_for, answer_with, answer_without, denial, denies_copy,
-    first_answer, shape_denial}
-use Rattle.scan_rules.specs.Decision.{Conflict, DuplicatePv, Held, NoCopy, NoGroup, PvShape, Reading, ScanAnswer, Unsupported, best,
-    conflict, copies, decide_scan, duplicates, first_duplicate, first_misplaced, found, found_with, ids_from, is_held, misshapen,
-    misshapen_by, no_copy, refusals, same_bytes, sum_agrees, two_groups, unsupported}
+use Rattle.scan_rules.specs.Answers.{Denies, IsDecided, IsRefusedBy, answer_for, answer_with, answer_without, denial, denies_copy}
+use Rattle.scan_rules.specs.Answers.{first_answer, shape_denial}
+use Rattle.scan_rules.specs.Decision.{Conflict, DuplicatePv, Held, NoCopy, NoGroup, PvShape, Reading, ScanAnswer, Unsupported, best}
+use Rattle.scan_rules.specs.Decision.{conflict, copies, decide_scan, duplicates, first_duplicate, first_misplaced, found, found_with}
+use Rattle.scan_rules.specs.Decision.{ids_from, is_held, misshapen, misshapen_by, no_copy, refusals, same_bytes, sum_agrees, two_groups}
+use Rattle.scan_rules.specs.Decision.{unsupported}
 use Rattle.scan_rules.specs.Flat.{IsThat, all_held, held_copy, held_of, held_on, refused_on, strays_on}
 use Rattle.scan_rules.specs.Found.{missing_of, stale_on}
 use Rattle.scan_rules.specs.Readings.{AllAreOf, readings_of}
@@ -25,7 +26,7 @@ use Rattle.scan_rules.proofs.FlatLists.{copies_are, ids_are, misplaced_are, miss
 abbrev tests_of : List Held → List (ℕ × CopyRefusal) → List Reading → ScanAnswer
 tests_of cs rs disks =
     unwrap_or (no_copy cs rs) (unwrap_or (unsupported cs rs)
-        (unwrap_or (two_groups cs) (unwrap_or (conflict cs) (unwrap_or (misshapen cs disks) (found cs disks)))))
+    (unwrap_or (two_groups cs) (unwrap_or (conflict cs) (unwrap_or (misshapen cs disks) (found cs disks)))))
 
 in_tests : (disks : List Reading) → decide_scan disks ≡ unwrap_or (duplicates disks) (tests_of (copies disks) (refusals disks) disks)
 unfolding decide_scan
@@ -62,13 +63,13 @@ pub is_duplicate : (all : List GroupCopy) (disks : List DiskRead) (pair : ℕ ×
     → decide_scan (readings_of all disks) ≡ DuplicatePv pair.0 pair.1
 is_duplicate all disks pair is =
     flat_tests all disks ∙ ap (λ (p : Option (ℕ × ℕ)). with_duplicates p
-        (tests_of (all_held all (held_on 0 disks)) (refused_on 0 disks) (readings_of all disks))) is
+    (tests_of (all_held all (held_on 0 disks)) (refused_on 0 disks) (readings_of all disks))) is
 
 past_duplicates : (all : List GroupCopy) (disks : List DiskRead) → first_duplicate (ids_from 0 (readings_of [] disks)) ≡ None
     → decide_scan (readings_of all disks) ≡ tests_of (all_held all (held_on 0 disks)) (refused_on 0 disks) (readings_of all disks)
 past_duplicates all disks none =
     flat_tests all disks ∙ ap (λ (p : Option (ℕ × ℕ)). with_duplicates p
-        (tests_of (all_held all (held_on 0 disks)) (refused_on 0 disks) (readings_of all disks))) none
+    (tests_of (all_held all (held_on 0 disks)) (refused_on 0 disks) (readings_of all disks))) none
 
 -- without a copy
 without : (cs : List Held) (rs : List (ℕ × CopyRefusal)) (disks : List Reading) → best cs ≡ None
@@ -109,7 +110,7 @@ tests_with cs rs disks o =
     unwrap_or (option_map (λ (r : ℕ × CopyRefusal). Unsupported r.0) (find (λ (r : ℕ × CopyRefusal). sum_agrees r.1) rs))
     (unwrap_or (two_groups cs)
     (unwrap_or (option_and_then (λ (b : Held). option_map (λ (d : Held). Conflict b.disk d.disk b.group.seqno)
-        (find (λ (d : Held). d.group.seqno == b.group.seqno && not (same_bytes d.text b.text)) cs)) o)
+    (find (λ (d : Held). d.group.seqno == b.group.seqno && not (same_bytes d.text b.text)) cs)) o)
     (unwrap_or (option_and_then (λ (b : Held). misshapen_by b disks) o) (unwrap_or (option_map (found_with disks) o) NoGroup))))
 
 with_best : (cs : List Held) (rs : List (ℕ × CopyRefusal)) (disks : List Reading) (b : Held) → best cs ≡ Some b
@@ -135,7 +136,7 @@ denied all disks held disk copy =
     let c : Option ScanAnswer = option_map (λ (d : Held). Conflict disk d.disk copy.group.seqno) (find (denies_copy copy) cs) in
     let m : Option ScanAnswer = misshapen_by (held_copy disk copy) (readings_of all disks) in
     let shape : m ≡ shape_denial disk (first_misplaced copy.group (readings_of [] disks))
-        (is_held copy.group copy.text (readings_of all disks)) =
+    (is_held copy.group copy.text (readings_of all disks)) =
     shape_is disk (first_misplaced copy.group (readings_of all disks)) (is_held copy.group copy.text (readings_of all disks))
     ∙ ap (λ (o : Option ℕ). shape_denial disk o (is_held copy.group copy.text (readings_of all disks)))
     (misplaced_are all copy.group disks) in
@@ -212,9 +213,12 @@ decided_for all disks held chosen copy decided got none are is stale strays miss
     answer_of_copy all disks held chosen copy got
     ∙ ap (λ (d : Option ScanAnswer). unwrap_or d (found_with (readings_of all disks) (held_copy chosen.disk copy)))
     (not_denied (denial all disks held chosen.disk copy) none) in
-    subst (λ (a : ScanAnswer). IsDecided a decided) (sym answer)
-    (is, stale, strays ∙ ap (λ (l : List ℕ). set.from_list l) (sym (strays_are all copy.group 0 disks are.1)),
-        missing ∙ sym (missing_are all disks copy.group.pvs))
+    subst (λ (a : ScanAnswer). IsDecided a decided) (sym answer) (
+      is,
+      stale,
+      strays ∙ ap (λ (l : List ℕ). set.from_list l) (sym (strays_are all copy.group 0 disks are.1)),
+      missing ∙ sym (missing_are all disks copy.group.pvs),
+    )
 
 -- where there is no copy
 pub without_refused : (refused : ℕ × CopyRefusal) (rs : List (ℕ × CopyRefusal))

@@ -1,6 +1,6 @@
 -- The flat lists of what was read are those of the readings.
-use Rattle.std.proofs.Common.{◌≡◌, ℕ, zero, suc, ◌+◌, ◌<◌, Bool, true, false, not, ◌&&◌, ◌||◌, cond, List, [], ◌∷◌, ◌++◌, length, Option,
-    Some, None, refl, sym, ap, subst, ◌∙◌, arith}
+use Rattle.std.proofs.Common.{◌≡◌, ℕ, zero, suc, ◌+◌, ◌<◌, Bool, true, false, not, ◌&&◌, ◌||◌, cond, List, [], ◌∷◌, ◌++◌, length, Option}
+use Rattle.std.proofs.Common.{Some, None, refl, sym, ap, subst, ◌∙◌, arith}
 use Rattle.std.specs.Prelude.{option_map, unwrap_or, find, filter, filter_map, map, slice_get}
 use Rattle.std.specs.Option.{option_and_then}
 use Rattle.std.specs.List.{AllByRecursion, cons_option, list_any, enumerate_from}
@@ -16,13 +16,14 @@ use Rattle.scan_rules.specs.declared.readings.AreaGives.TheVariants.{Nothing, Co
 use Rattle.scan_rules.specs.declared.readings.AreaRead.{AreaRead}
 use Rattle.scan_rules.specs.declared.readings.PvRead.{PvRead}
 use Rattle.scan_rules.specs.declared.readings.DiskRead.{DiskRead}
-use Rattle.scan_rules.specs.Decision.{AreaReading, HoldsNone, Area, Found, Held, Reading, SameAreas, SameHeaders, SamePv, copies_from,
-    copy_of, first_misplaced, has_id, ids_from, is_listed, is_something, lists, readings_in, refusal_of, refusals_from, same_bytes}
-use Rattle.scan_rules.specs.Flat.{all_held, areas_on, held_by, held_copy, held_in, held_of, held_on, holds_something, is_given, is_stray,
-    refused_by, refused_in, refused_on, strays_on}
+use Rattle.scan_rules.specs.Decision.{AreaReading, HoldsNone, Area, Found, Held, Reading, SameAreas, SameHeaders, SamePv, copies_from}
+use Rattle.scan_rules.specs.Decision.{copy_of, first_misplaced, has_id, ids_from, is_listed, is_something, lists, readings_in, refusal_of}
+use Rattle.scan_rules.specs.Decision.{refusals_from, same_bytes}
+use Rattle.scan_rules.specs.Flat.{all_held, areas_on, held_by, held_copy, held_in, held_of, held_on, holds_something, is_given, is_stray}
+use Rattle.scan_rules.specs.Flat.{refused_by, refused_in, refused_on, strays_on}
 use Rattle.scan_rules.specs.Found.{missing_of}
-use Rattle.scan_rules.specs.Readings.{AreasAreOf, DiskIsOf, GivesAtMost, GivesOneOf, area_of, copied, found_of, gives_of, given_by,
-    reading_of, readings_of}
+use Rattle.scan_rules.specs.Readings.{AreasAreOf, DiskIsOf, GivesAtMost, GivesOneOf, area_of, copied, found_of, gives_of, given_by}
+use Rattle.scan_rules.specs.Readings.{reading_of, readings_of}
 use Rattle.scan_rules.proofs.SameShape.{find_same, ids_same}
 
 -- what the areas of a disk give
@@ -60,7 +61,7 @@ pub copies_are : (copies : List GroupCopy) (disk : ℕ) (disks : List DiskRead)
 copies_are copies disk [] = refl
 copies_are copies disk (read ∷ disks) =
     ap (λ (rs : List AreaReading). filter_map (copy_of disk) rs ++ copies_from (disk + 1) (readings_of copies disks))
-        (areas_given copies read)
+    (areas_given copies read)
     ∙ ap (λ (l : List Held). l ++ copies_from (disk + 1) (readings_of copies disks)) (copies_given copies disk (areas_on read))
     ∙ ap (λ (l : List Held). all_held copies (filter_map (held_in disk) (areas_on read)) ++ l) (copies_are copies (disk + 1) disks)
     ∙ sym (filter_map-append (held_of copies) (filter_map (held_in disk) (areas_on read)) (held_on (disk + 1) disks))
@@ -79,7 +80,7 @@ next_refusal copies disk (Some Nothing) rs hs same = same
 next_refusal copies disk (Some (RefusedFor why)) rs hs same = ap (λ (l : List (ℕ × CopyRefusal)). (disk, why) ∷ l) same
 next_refusal copies disk (Some (Numbered number)) rs hs same =
     ap (λ (o : Option (ℕ × CopyRefusal)). cons_option o (filter_map (refusal_of disk) rs)) (none_refused disk (slice_get copies number))
-        ∙ same
+    ∙ same
 
 refusals_given : (copies : List GroupCopy) (disk : ℕ) (areas : List AreaRead)
     → filter_map (refusal_of disk) (given_by copies areas) ≡ filter_map (refused_in disk) areas
@@ -92,7 +93,7 @@ pub refusals_are : (copies : List GroupCopy) (disk : ℕ) (disks : List DiskRead
 refusals_are copies disk [] = refl
 refusals_are copies disk (read ∷ disks) =
     ap (λ (rs : List AreaReading). filter_map (refusal_of disk) rs ++ refusals_from (disk + 1) (readings_of copies disks))
-        (areas_given copies read)
+    (areas_given copies read)
     ∙ ap (λ (l : List (ℕ × CopyRefusal)). l ++ refusals_from (disk + 1) (readings_of copies disks))
     (refusals_given copies disk (areas_on read))
     ∙ ap (λ (l : List (ℕ × CopyRefusal)). filter_map (refused_in disk) (areas_on read) ++ l) (refusals_are copies (disk + 1) disks)
@@ -170,10 +171,10 @@ pub strays_are : (copies : List GroupCopy) (group : Group) (first : ℕ) (disks 
 strays_are copies group first [] are = refl
 strays_are copies group first (disk ∷ disks) are =
     let later : List ℕ =
-        filter_map (λ (d : ℕ × Reading). cond (not (is_listed group d.1) && list_any is_something (readings_in d.1)) (Some d.0) None)
-            (enumerate_from (first + 1) (readings_of copies disks)) in
+    filter_map (λ (d : ℕ × Reading). cond (not (is_listed group d.1) && list_any is_something (readings_in d.1)) (Some d.0) None)
+    (enumerate_from (first + 1) (readings_of copies disks)) in
     ap (λ (b : Bool). cons_option (cond (not b && list_any is_something (readings_in (reading_of copies disk))) (Some first) None) later)
-        (listed_is copies group disk)
+    (listed_is copies group disk)
     ∙ ap (λ (b : Bool). cons_option (cond (not (is_listed group (reading_of [] disk)) && b) (Some first) None) later)
     (something_on copies disk are.0)
     ∙ stray_if (is_stray group disk) first later (strays_on group (first + 1) disks) (strays_are copies group (first + 1) disks are.1)

@@ -64,7 +64,7 @@ found_by id first (disk ∷ disks) = of disk.pv (found_by id (first + 1) disks) 
   of None later = later
   of (Some pv) later =
       ap is_some (get_put (disks_by_id ids) pv.id first id
-          ∙ ap (λ (b : Bool). cond b (Some first) (map.get (disks_by_id ids) id)) (pointwise-same_bytes pv.id id))
+      ∙ ap (λ (b : Bool). cond b (Some first) (map.get (disks_by_id ids) id)) (pointwise-same_bytes pv.id id))
       ∙ put (same_bytes pv.id id) later
 
 -- so the missing ones are those without a number

@@ -48,7 +48,7 @@ pub picks_greater : (copies : List GroupCopy) (one : HeldCopy) (other : Option H
     → IsThat copies other (best rest) → IsThat copies (greater_of copies one other) (best (cons_option (held_of copies one) rest))
 picks_greater copies one other rest that =
     ap (λ (s : Option ℕ). option_map (held_of copies) (chosen one other s (option_and_then (seqno_in copies) other)))
-        (held_seqno one.disk (slice_get copies one.number))
+    (held_seqno one.disk (slice_get copies one.number))
     ∙ ap (λ (f : HeldCopy → Option ℕ). option_map (held_of copies)
     (chosen one other (seqno_of_held (held_of copies one)) (option_and_then f other)))
     (λ i (x : HeldCopy). held_seqno x.disk (slice_get copies x.number) i)

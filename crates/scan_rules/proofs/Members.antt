@@ -1,6 +1,6 @@
 -- Members of lists that are made from numbered ones.
-use Rattle.std.proofs.Common.{◌≡◌, ℕ, zero, suc, ◌+◌, ◌<◌, ◌⊎◌, Bool, true, false, cond, List, [], ◌∷◌, ◌++◌, length, Option, Some, None,
-    inl, inr, ⊎_elim, refl, sym, ap, subst, ◌∙◌, arith}
+use Rattle.std.proofs.Common.{◌≡◌, ℕ, zero, suc, ◌+◌, ◌<◌, ◌⊎◌, Bool, true, false, cond, List, [], ◌∷◌, ◌++◌, length, Option, Some, None}
+use Rattle.std.proofs.Common.{inl, inr, ⊎_elim, refl, sym, ap, subst, ◌∙◌, arith}
 use Rattle.std.specs.Prelude.{filter_map, map, slice_get, slice_index_or}
 use Rattle.std.specs.List.{Contains, cons_option, enumerate_from, filter, flat_map}
 use Rattle.std.proofs.lemmas.Bool.{false≢true}
@@ -64,7 +64,7 @@ in_flat_from : {X Y : Type 0} (f : ℕ × X → List Y) (first : ℕ) (xs : List
 in_flat_from f first [] y is = absurd is
 in_flat_from f first (x ∷ xs) y is =
     ⊎_elim (λ here. at_first first x xs (λ d. In (f d) y) here)
-        (λ later. at_later first x xs (λ d. In (f d) y) (in_flat_from f (first + 1) xs y later))
+    (λ later. at_later first x xs (λ d. In (f d) y) (in_flat_from f (first + 1) xs y later))
     (in_either (f (first, x)) (flat_map f (enumerate_from (first + 1) xs)) y is)
 
 flat_has_from : {X Y : Type 0} (f : ℕ × X → List Y) (first : ℕ) (xs : List X) (y : Y) (number : ℕ) (x : X) → slice_get xs number ≡ Some x
@@ -74,11 +74,11 @@ flat_has_from f first [] y number x got is = cc
 flat_has_from f first (z ∷ xs) y zero x got is =
     in_left (f (first, z)) (flat_map f (enumerate_from (first + 1) xs)) y
     (subst (λ w. In (f (first, w)) y) (sym (same_Some z x got))
-        (subst (λ (n : ℕ). In (f (n, x)) y) (let e : first + 0 ≡ first = omega arith in e) is))
+    (subst (λ (n : ℕ). In (f (n, x)) y) (let e : first + 0 ≡ first = omega arith in e) is))
 flat_has_from f first (z ∷ xs) y (suc number) x got is =
     in_right (f (first, z)) (flat_map f (enumerate_from (first + 1) xs)) y
     (flat_has_from f (first + 1) xs y number x got
-        (subst (λ (n : ℕ). In (f (n, x)) y) (let e : first + suc number ≡ first + 1 + number = omega arith in e) is))
+    (subst (λ (n : ℕ). In (f (n, x)) y) (let e : first + suc number ≡ first + 1 + number = omega arith in e) is))
 
 -- an element at which this holds, with its number
 pub record Numbered {X : Type 0} (xs : List X) (P : ℕ × X → Type 0) : Type 0 where
@@ -131,7 +131,7 @@ pub kept_has : {X Y : Type 0} (h : ℕ × X → Option Y) (xs : List X) (y : Y) 
     → In (filter_map h (enumerate_from 0 xs)) y
 kept_has h xs y number x got is =
     subst (λ l. In l y) (sym (each_flat h (enumerate_from 0 xs)))
-        (flat_has (λ d. cons_option (h d) []) xs y number x got (one_has (h (number, x)) y is))
+    (flat_has (λ d. cons_option (h d) []) xs y number x got (one_has (h (number, x)) y is))
 
 -- members of what those that pass a test stand for
 pub record Passing {X Y : Type 0} (g : X → Y) (test : X → Bool) (xs : List X) (y : Y) : Type 0 where
@@ -157,7 +157,7 @@ pub passing_has : {X Y : Type 0} (g : X → Y) (test : X → Bool) (xs : List X)
 passing_has g test [] x is passes = absurd is
 passing_has g test (z ∷ xs) x (inl here) passes =
     subst (λ w. In (map g (filter test (w ∷ xs))) (g x)) (sym here)
-        (subst (λ (b : Bool). In (map g (cond b (x ∷ filter test xs) (filter test xs))) (g x)) (sym passes) (inl refl))
+    (subst (λ (b : Bool). In (map g (cond b (x ∷ filter test xs) (filter test xs))) (g x)) (sym passes) (inl refl))
 passing_has g test (z ∷ xs) x (inr later) passes = of (test z) (passing_has g test xs x later passes) where
   of : (b : Bool) → In (map g (filter test xs)) (g x) → In (map g (cond b (z ∷ filter test xs) (filter test xs))) (g x)
   of true is = inr is

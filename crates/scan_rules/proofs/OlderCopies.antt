@@ -11,8 +11,8 @@ use Rattle.scan_rules.specs.declared.readings.PvRead.{PvRead}
 use Rattle.scan_rules.specs.declared.readings.DiskRead.{DiskRead}
 use Rattle.scan_rules.specs.Decision.{HoldsNone}
 use Rattle.scan_rules.specs.Found.{FewAreasOn, HasFewAreas}
-use Rattle.scan_rules.specs.Readings.{AllAreOf, AreasAreOf, DiskIsOf, GivesAtMost, area_of, copied, found_of, gives_of, reading_of,
-    readings_of}
+use Rattle.scan_rules.specs.Readings.{AllAreOf, AreasAreOf, DiskIsOf, GivesAtMost, area_of, copied, found_of, gives_of, reading_of}
+use Rattle.scan_rules.specs.Readings.{readings_of}
 
 older_copy : (copies : List GroupCopy) (more : GroupCopy) (number : ℕ) → number < length copies
     → slice_get (copies ++ more ∷ []) number ≡ slice_get copies number
@@ -34,7 +34,7 @@ older_areas : (copies : List GroupCopy) (more : GroupCopy) (areas : List AreaRea
 older_areas copies more [] within = refl
 older_areas copies more (area ∷ areas) within =
     λ i. record { start = area.start; sectors = area.sectors; reading = older_gives copies more area.gives within.0 i }
-        ∷ older_areas copies more areas within.1 i
+    ∷ older_areas copies more areas within.1 i
 
 older_pv : (copies : List GroupCopy) (more : GroupCopy) (pv : Option PvRead) → AreasAreOf (length copies) pv
     → option_map (found_of (copies ++ more ∷ [])) pv ≡ option_map (found_of copies) pv

@@ -1,6 +1,6 @@
 -- At most one physical volume of a group has an id, so the first that has it decides.
-use Rattle.std.proofs.Common.{◌≡◌, ◌≢◌, ℕ, suc, ◌<◌, Bool, true, false, ◌&&◌, ◌||◌, cond, List, [], ◌∷◌, ◌++◌, length, Some, refl, sym, ap,
-    subst, ◌∙◌, arith}
+use Rattle.std.proofs.Common.{◌≡◌, ◌≢◌, ℕ, suc, ◌<◌, Bool, true, false, ◌&&◌, ◌||◌, cond, List, [], ◌∷◌, ◌++◌, length, Some, refl, sym, ap}
+use Rattle.std.proofs.Common.{subst, ◌∙◌, arith}
 use Rattle.std.specs.Prelude.{AllPairs, find, map, option_map, slice_index_or, unwrap_or}
 use Rattle.std.specs.List.{AllByRecursion, list_any}
 use Rattle.meta_model.specs.declared.group.Group.{Group}
@@ -37,7 +37,7 @@ all_differ (pv ∷ pvs) rest pairs = (
 pvs_differ : (group : Group) → IdsDiffer group → Differ group.pvs
 pvs_differ group pairs =
     all_differ group.pvs (map (λ (lv : List ℕ × Lv). lv.1.id) group.lvs)
-        (λ i j d less within. pairs (suc i) (suc j) d (omega (arith, less)) (omega (arith, within)))
+    (λ i j d less within. pairs (suc i) (suc j) d (omega (arith, less)) (omega (arith, within)))
 
 -- the physical volumes with an id for which this holds
 abbrev IsSo : List ℕ → (Pv → Bool) → List ℕ × Pv → Bool
@@ -57,7 +57,7 @@ first_so : (id : List ℕ) (test : Pv → Bool) (pvs : List (List ℕ × Pv)) �
 first_so id test [] differ = refl
 first_so id test (pv ∷ pvs) differ =
     ap (λ (b : Bool). unwrap_or (option_map test (option_map (λ (x : List ℕ × Pv). x.1) (cond b (Some pv) (find (has_id id) pvs)))) false)
-        (pointwise-same_bytes pv.1.id id)
+    (pointwise-same_bytes pv.1.id id)
     ∙ by (same_bytes pv.1.id id) refl (first_so id test pvs differ.1)
   where
     alone : (b later : Bool) → later ≡ false → b ≡ (b || later)
@@ -70,7 +70,7 @@ first_so id test (pv ∷ pvs) differ =
     by true same later =
         alone (test pv.1) (list_any (IsSo id test) pvs)
         (none_so id test pvs (subst (λ (x : List ℕ). AllByRecursion (λ (other : List ℕ × Pv). x ≢ other.1.id) pvs)
-            (same_bytes_tells pv.1.id id same) differ.0))
+        (same_bytes_tells pv.1.id id same) differ.0))
     by false other later = later
 
 pub first_decides : (group : Group) (id : List ℕ) (test : Pv → Bool) → IdsDiffer group

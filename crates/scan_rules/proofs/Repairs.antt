@@ -1,6 +1,6 @@
 -- The lists of a group that was found, member by member.
-use Rattle.std.proofs.Common.{◌≡◌, ◌≢◌, ◌↔◌, ℕ, zero, suc, ◌+◌, ◌⊎◌, Bool, true, false, not, ◌&&◌, ◌||◌, cond, List, [], ◌∷◌, Option, Some,
-    None, inl, inr, ⊎_elim, refl, sym, ap, subst, ◌∙◌, arith}
+use Rattle.std.proofs.Common.{◌≡◌, ◌≢◌, ◌↔◌, ℕ, zero, suc, ◌+◌, ◌⊎◌, Bool, true, false, not, ◌&&◌, ◌||◌, cond, List, [], ◌∷◌, Option, Some}
+use Rattle.std.proofs.Common.{None, inl, inr, ⊎_elim, refl, sym, ap, subst, ◌∙◌, arith}
 use Rattle.std.specs.Prelude.{◌==◌, filter_map, find, map, option_map, slice_get, unwrap_or}
 use Rattle.std.specs.Option.{option_and_then}
 use Rattle.std.specs.List.{Contains, cons_option, enumerate_from, filter, list_any}
@@ -9,14 +9,14 @@ use Rattle.std.proofs.lemmas.Option.{same_Some}
 use Rattle.meta_model.specs.declared.group.Group.{Group}
 use Rattle.meta_model.specs.declared.pv.Pv.{Pv}
 use Rattle.scan_rules.specs.declared.copy_refusal.CopyRefusal.{CopyRefusal}
-use Rattle.scan_rules.specs.Decision.{Area, AreaReading, Conflict, DuplicatePv, Found, FoundGroup, Held, NoCopy, NoGroup, PvShape, Reading,
-    ScanAnswer, TwoGroups, Unsupported, best, conflict, copies, decide_scan, duplicates, first_misplaced, found, found_with, gives, has_id,
-    is_held, is_listed, is_something, lists, misshapen, misshapen_by, no_copy, readings_in, refusals, same_bytes, stale_in, sum_agrees,
-    two_groups, unsupported}
+use Rattle.scan_rules.specs.Decision.{Area, AreaReading, Conflict, DuplicatePv, Found, FoundGroup, Held, NoCopy, NoGroup, PvShape, Reading}
+use Rattle.scan_rules.specs.Decision.{ScanAnswer, TwoGroups, Unsupported, best, conflict, copies, decide_scan, duplicates, first_misplaced}
+use Rattle.scan_rules.specs.Decision.{found, found_with, gives, has_id, is_held, is_listed, is_something, lists, misshapen, misshapen_by}
+use Rattle.scan_rules.specs.Decision.{no_copy, readings_in, refusals, same_bytes, stale_in, sum_agrees, two_groups, unsupported}
 use Rattle.scan_rules.specs.Found.{is_missing, stale_if, stale_of, stale_on}
 use Rattle.scan_rules.specs.Laws.{IsMissing, IsStale, IsStray, given_in, pv_on}
-use Rattle.scan_rules.proofs.Members.{In, Numbered, Passing, flat_has, has_member, in_flat, in_kept, in_list, in_passing, kept_has,
-    passing_has}
+use Rattle.scan_rules.proofs.Members.{In, Numbered, Passing, flat_has, has_member, in_flat, in_kept, in_list, in_passing, kept_has}
+use Rattle.scan_rules.proofs.Members.{passing_has}
 use Rattle.scan_rules.proofs.Scanning.{same_bytes_tells, same_bytes_to}
 
 -- no test before the last finds a group
@@ -82,9 +82,9 @@ two_groups_not (c ∷ cs) =
 conflict_not : (cs : List Held) → NotFound (conflict cs)
 conflict_not cs =
     chained (λ (b : Held). option_map (λ (d : Held). Conflict b.disk d.disk b.group.seqno)
-        (find (λ (d : Held). d.group.seqno == b.group.seqno && not (same_bytes d.text b.text)) cs)) (best cs) (λ b.
+    (find (λ (d : Held). d.group.seqno == b.group.seqno && not (same_bytes d.text b.text)) cs)) (best cs) (λ b.
     mapped (λ (d : Held). Conflict b.disk d.disk b.group.seqno)
-        (find (λ (d : Held). d.group.seqno == b.group.seqno && not (same_bytes d.text b.text)) cs) (λ d. tt))
+    (find (λ (d : Held). d.group.seqno == b.group.seqno && not (same_bytes d.text b.text)) cs) (λ d. tt))
 
 shape_not : (misplaced : Option ℕ) (held : Bool) (disk : ℕ)
     → NotFound (unwrap_or (option_map (λ (d : ℕ). Some (PvShape d)) misplaced) (cond held None (Some (PvShape disk))))
@@ -95,7 +95,7 @@ shape_not (Some d) held disk = tt
 misshapen_not : (cs : List Held) (disks : List Reading) → NotFound (misshapen cs disks)
 misshapen_not cs disks =
     chained (λ (b : Held). misshapen_by b disks) (best cs)
-        (λ b. shape_not (first_misplaced b.group disks) (is_held b.group b.text disks) b.disk)
+    (λ b. shape_not (first_misplaced b.group disks) (is_held b.group b.text disks) b.disk)
 
 of_best : (disks : List Reading) (o : Option Held) (l : Lists) → lists_of (unwrap_or (option_map (found_with disks) o) NoGroup) ≡ Some l
     → lists_of (found_with disks l.0) ≡ Some l
@@ -210,12 +210,18 @@ pub is_stale : (group : Group) (text : List ℕ) (disks : List Reading) (disk ar
     → IsStale group text disks disk area
 is_stale group text disks disk area has =
     let at : Numbered disks (λ d. In (stale_of group text d) (disk, area)) =
-        in_flat (stale_of group text) disks (disk, area) (in_list (stale_on group text 0 disks) (disk, area) has) in
+    in_flat (stale_of group text) disks (disk, area) (in_list (stale_on group text 0 disks) (disk, area) has) in
     let s : StaleArea group text at.element.pv at.number (disk, area) =
-        stale_on_pv group text at.number at.element.pv (disk, area) at.holds in
+    stale_on_pv group text at.number at.element.pv (disk, area) at.holds in
     subst (λ (p : ℕ × ℕ). IsStale group text disks p.0 p.1) s.same
-    (record { pv = s.pv; given = s.given; on_disk = on_disk disks at.number at.element s.pv at.got s.is; is_listed = s.is_listed;
-        in_area = s.in_area; differs = s.differs })
+    (record {
+      pv = s.pv;
+      given = s.given;
+      on_disk = on_disk disks at.number at.element s.pv at.got s.is;
+      is_listed = s.is_listed;
+      in_area = s.in_area;
+      differs = s.differs;
+    })
 
 pub stale_has : (group : Group) (text : List ℕ) (disks : List Reading) (disk area : ℕ) → IsStale group text disks disk area
     → Contains (stale_on group text 0 disks) (disk, area)
@@ -227,7 +233,7 @@ stale_has group text disks disk area s =
     ∙ ap (λ (b : Bool). cond b None (Some (disk, area))) s.differs in
     let inside : In (cond (listed_pv group (Some s.pv)) (stale_pv text disk (Some s.pv)) []) (disk, area) =
     subst (λ (b : Bool). In (cond b (stale_pv text disk (Some s.pv)) []) (disk, area)) (sym s.is_listed)
-        (kept_has (stale_if text disk) s.pv.areas (disk, area) area a.at a.got one) in
+    (kept_has (stale_if text disk) s.pv.areas (disk, area) area a.at a.got one) in
     has_member (stale_on group text 0 disks) (disk, area)
     (flat_has (stale_of group text) disks (disk, area) disk d.reading d.got
     (subst (λ (o : Option Found). In (cond (listed_pv group o) (stale_pv text disk o) []) (disk, area)) (sym d.is) inside))
@@ -312,7 +318,7 @@ stray_one false disk found is = cc
 pub is_stray_disk : (group : Group) (disks : List Reading) (disk : ℕ) → Contains (strays_of group disks) disk → IsStray group disks disk
 is_stray_disk group disks disk has =
     let at : Numbered disks (λ d. stray_if group d ≡ Some disk) =
-        in_kept (stray_if group) disks disk (in_list (strays_of group disks) disk has) in
+    in_kept (stray_if group) disks disk (in_list (strays_of group disks) disk has) in
     let one = stray_one (not (is_listed group at.element) && list_any is_something (readings_in at.element)) at.number disk at.holds in
     let s : StrayPv group at.element.pv = stray_pv group at.element.pv one.0 in
     subst (λ (n : ℕ). IsStray group disks n) one.1
@@ -340,8 +346,7 @@ pub strays_exact : (disks : List Reading) (held : Held) (stale : List (ℕ × �
     → (disk : ℕ) → Contains strays disk ↔ IsStray held.group disks disk
 strays_exact disks held stale strays missing is disk =
     let same : strays_of held.group disks ≡ strays =
-        ap (λ (o : Option Lists). unwrap_or (option_map (λ (l : Lists). l.1.1.0) o) []) (found_lists disks held stale strays missing is) in
-    (
+    ap (λ (o : Option Lists). unwrap_or (option_map (λ (l : Lists). l.1.1.0) o) []) (found_lists disks held stale strays missing is) in (
       λ has. is_stray_disk held.group disks disk (subst (λ (l : List ℕ). Contains l disk) (sym same) has),
       λ s. subst (λ (l : List ℕ). Contains l disk) same (stray_has held.group disks disk s),
     )
@@ -362,7 +367,7 @@ away id [] none disk pv got = cc
 away id (d ∷ disks) none zero pv got =
     let parts = or_parts (has_id id d) (list_any (has_id id) disks) none in
     let differ : same_bytes pv.id id ≡ false =
-        sym (ap (λ (o : Option Found). unwrap_or (option_map (λ (x : Found). same_bytes x.id id) o) false) got) ∙ parts.0 in
+    sym (ap (λ (o : Option Found). unwrap_or (option_map (λ (x : Found). same_bytes x.id id) o) false) got) ∙ parts.0 in
     λ same. false≢true (sym differ ∙ same_bytes_to pv.id id same)
 away id (d ∷ disks) none (suc disk) pv got = away id disks (or_parts (has_id id d) (list_any (has_id id) disks) none).1 disk pv got
 
@@ -385,7 +390,7 @@ is_missing_id group disks id has =
       has_id = p.stands_for;
       is_away =
           ⊎_elim (λ flagged. inl flagged) (λ none. inr
-              (subst (IsAway disks) p.stands_for (away p.element.1.id disks (not_is (list_any (has_id p.element.1.id) disks) none))))
+          (subst (IsAway disks) p.stands_for (away p.element.1.id disks (not_is (list_any (has_id p.element.1.id) disks) none))))
           (or_cases p.element.1.missing (not (list_any (has_id p.element.1.id) disks)) p.passes);
     }
 
@@ -394,18 +399,17 @@ missing_has group disks id m =
     let passes : is_missing disks m.entry ≡ true =
     ⊎_elim (λ flagged. ap (λ (b : Bool). b || not (list_any (has_id m.entry.1.id) disks)) flagged)
     (λ none. ap (λ (b : Bool). m.entry.1.missing || not b) (none_has_id m.entry.1.id disks (subst (IsAway disks) (sym m.has_id) none))
-        ∙ or_true m.entry.1.missing) m.is_away in
+    ∙ or_true m.entry.1.missing) m.is_away in
     has_member (missing_from group disks) id
     (subst (In (missing_from group disks)) m.has_id
-        (passing_has (λ (pv : List ℕ × Pv). pv.1.id) (is_missing disks) group.pvs m.entry (in_list group.pvs m.entry m.in_group) passes))
+    (passing_has (λ (pv : List ℕ × Pv). pv.1.id) (is_missing disks) group.pvs m.entry (in_list group.pvs m.entry m.in_group) passes))
 
 pub missing_exact : (disks : List Reading) (held : Held) (stale : List (ℕ × ℕ)) (strays : List ℕ) (missing : List (List ℕ))
     → decide_scan disks ≡ FoundGroup held stale strays missing
     → (id : List ℕ) → Contains missing id ↔ IsMissing held.group disks id
 missing_exact disks held stale strays missing is id =
     let same : missing_from held.group disks ≡ missing =
-        ap (λ (o : Option Lists). unwrap_or (option_map (λ (l : Lists). l.1.1.1) o) []) (found_lists disks held stale strays missing is) in
-    (
+    ap (λ (o : Option Lists). unwrap_or (option_map (λ (l : Lists). l.1.1.1) o) []) (found_lists disks held stale strays missing is) in (
       λ has. is_missing_id held.group disks id (subst (λ (l : List (List ℕ)). Contains l id) (sym same) has),
       λ m. subst (λ (l : List (List ℕ)). Contains l id) same (missing_has held.group disks id m),
     )

@@ -1,13 +1,13 @@
 -- Whether volumes lie on their disks is decided by the headers.
-use Rattle.std.proofs.Common.{◌≡◌, ℕ, ◌+◌, ◌*◌, Bool, true, false, ◌&&◌, ◌||◌, nat_lt, cond, List, [], ◌∷◌, Option, Some, None, refl, sym,
-    ap, ◌∙◌}
+use Rattle.std.proofs.Common.{◌≡◌, ℕ, ◌+◌, ◌*◌, Bool, true, false, ◌&&◌, ◌||◌, nat_lt, cond, List, [], ◌∷◌, Option, Some, None, refl, sym}
+use Rattle.std.proofs.Common.{ap, ◌∙◌}
 use Rattle.std.specs.Prelude.{option_map, unwrap_or, find}
 use Rattle.std.specs.List.{list_any, enumerate_from}
 use Rattle.std.proofs.lemmas.Bool.{false≢true}
 use Rattle.meta_model.specs.declared.group.Group.{Group}
 use Rattle.meta_model.specs.declared.pv.Pv.{Pv}
-use Rattle.scan_rules.specs.Decision.{Area, Found, Reading, same_bytes, ids_from, first_duplicate, meets_area, has_misplaced, HasShape,
-    SameAreas, SamePv, SameHeaders}
+use Rattle.scan_rules.specs.Decision.{Area, Found, Reading, same_bytes, ids_from, first_duplicate, meets_area, has_misplaced, HasShape}
+use Rattle.scan_rules.specs.Decision.{SameAreas, SamePv, SameHeaders}
 
 any_same : {X : Type 0} (f g : X → Bool) (xs : List X) → ((x : X) → f x ≡ g x) → list_any f xs ≡ list_any g xs
 any_same f g [] same = refl
@@ -21,9 +21,9 @@ meets_same start end (a ∷ as') [] same = absurd same
 meets_same start end (a ∷ as') (b ∷ bs) same =
     let one : meets_area start end a ≡ meets_area start end b =
     ap (λ (s : ℕ). nat_lt start (s + a.sectors) && nat_lt s end) same.0
-        ∙ ap (λ (c : ℕ). nat_lt start (b.start + c) && nat_lt b.start end) same.1 in
+    ∙ ap (λ (c : ℕ). nat_lt start (b.start + c) && nat_lt b.start end) same.1 in
     ap (λ (t : Bool). t || list_any (meets_area start end) as') one
-        ∙ ap (λ (t : Bool). meets_area start end b || t) (meets_same start end as' bs same.2)
+    ∙ ap (λ (t : Bool). meets_area start end b || t) (meets_same start end as' bs same.2)
 
 -- one physical volume of the group on a disk
 abbrev bad : Group → ℕ → List ℕ → List Area → List ℕ × Pv → Bool
@@ -65,7 +65,7 @@ find_same group n [] (b ∷ bs) same = absurd same
 find_same group n (a ∷ as') [] same = absurd same
 find_same group n (a ∷ as') (b ∷ bs) same =
     step (has_misplaced group a) (has_misplaced group b) (of_pv group a.sectors b.sectors a.pv b.pv same.0 same.1)
-        (find_same group (n + 1) as' bs same.2)
+    (find_same group (n + 1) as' bs same.2)
   where
     later : List Reading → Option (ℕ × Reading)
     later l = find (λ (d : ℕ × Reading). has_misplaced group d.1) (enumerate_from (n + 1) l)

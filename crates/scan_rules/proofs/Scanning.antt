@@ -1,6 +1,6 @@
 -- A scan finds the greatest version that a listed physical volume holds.
-use Rattle.std.proofs.Common.{◌≡◌, ◌≢◌, ℕ, ◌+◌, ◌<◌, ◌≤◌, ◌⊎◌, Bool, true, false, not, ◌&&◌, cond, nat_le, List, [], ◌∷◌, ◌++◌, Option,
-    Some, None, inl, inr, ⊎_elim, refl, sym, ap, subst, ◌∙◌, arith}
+use Rattle.std.proofs.Common.{◌≡◌, ◌≢◌, ℕ, ◌+◌, ◌<◌, ◌≤◌, ◌⊎◌, Bool, true, false, not, ◌&&◌, cond, nat_le, List, [], ◌∷◌, ◌++◌, Option}
+use Rattle.std.proofs.Common.{Some, None, inl, inr, ⊎_elim, refl, sym, ap, subst, ◌∙◌, arith}
 use Rattle.std.specs.Prelude.{option_map, unwrap_or, find, filter_map, ◌==◌}
 use Rattle.std.specs.Option.{option_and_then}
 use Rattle.std.specs.List.{AllByRecursion, list_any}
@@ -8,10 +8,11 @@ use Rattle.std.proofs.lemmas.Bool.{and_parts, or_cases, leb-true, le-leb, eqb-tr
 use Rattle.std.proofs.lemmas.Option.{same_Some}
 use Rattle.meta_model.specs.declared.group.Group.{Group}
 use Rattle.scan_rules.specs.declared.copy_refusal.CopyRefusal.{CopyRefusal}
-use Rattle.scan_rules.specs.Decision.{sum_agrees, AreaReading, HoldsNone, Copy, Refused, Reading, Held, ScanAnswer, DuplicatePv,
-    Unsupported, TwoGroups, Conflict, PvShape, NoGroup, same_bytes, copy_of, refusal_of, readings_in, copies_from, refusals_from, copies,
-    refusals, greater, best, is_listed, duplicates, no_copy, unsupported, two_groups, conflict, gives, holds, first_misplaced, is_held,
-    misshapen_by, misshapen, found, found_with, decide_scan, group_found, GivesNoLater, EachArea, GivesVersion, HasShape}
+use Rattle.scan_rules.specs.Decision.{sum_agrees, AreaReading, HoldsNone, Copy, Refused, Reading, Held, ScanAnswer, DuplicatePv}
+use Rattle.scan_rules.specs.Decision.{Unsupported, TwoGroups, Conflict, PvShape, NoGroup, same_bytes, copy_of, refusal_of, readings_in}
+use Rattle.scan_rules.specs.Decision.{copies_from, refusals_from, copies, refusals, greater, best, is_listed, duplicates, no_copy}
+use Rattle.scan_rules.specs.Decision.{unsupported, two_groups, conflict, gives, holds, first_misplaced, is_held, misshapen_by, misshapen}
+use Rattle.scan_rules.specs.Decision.{found, found_with, decide_scan, group_found, GivesNoLater, EachArea, GivesVersion, HasShape}
 
 pub same_bytes_to : (xs ys : List ℕ) → xs ≡ ys → same_bytes xs ys ≡ true
 same_bytes_to xs ys same = subst (λ (l : List ℕ). same_bytes xs l ≡ true) same (itself xs) where
@@ -126,7 +127,7 @@ one_group group text (c ∷ cs) all =
     ap (λ (o : Option Held). option_map (λ (d : Held). TwoGroups c.group.id d.group.id) o)
     (find_none (λ (d : Held). not (same_bytes d.group.id c.group.id)) cs
     (all_weaker (IsNoLater group text) (λ d. not (same_bytes d.group.id c.group.id) ≡ false) cs
-        (λ d is. ap not (same_bytes_to d.group.id c.group.id (is.0 ∙ sym all.0.0))) all.1))
+    (λ d is. ap not (same_bytes_to d.group.id c.group.id (is.0 ∙ sym all.0.0))) all.1))
 
 -- no two of the greatest differ
 and_false : (b : Bool) → (b && false) ≡ false
@@ -141,11 +142,11 @@ agrees : (group : Group) (text : List ℕ) (b c : Held) → Is group text b → 
     → (c.group.seqno == b.group.seqno && not (same_bytes c.text b.text)) ≡ false
 agrees group text b c it (id, inl is) =
     ap (λ (t : Bool). c.group.seqno == b.group.seqno && not t) (same_bytes_to c.text b.text (is.1 ∙ sym it.1))
-        ∙ and_false (c.group.seqno == b.group.seqno)
+    ∙ and_false (c.group.seqno == b.group.seqno)
 agrees group text b c it (id, inr earlier) =
     let e = ap (λ (g : Group). g.seqno) it.0 in
     let differ : (c.group.seqno == b.group.seqno) ≡ false =
-        is_false (c.group.seqno == b.group.seqno) (λ same. let h = eqb-true c.group.seqno b.group.seqno same in absurd (omega arith)) in
+    is_false (c.group.seqno == b.group.seqno) (λ same. let h = eqb-true c.group.seqno b.group.seqno same in absurd (omega arith)) in
     ap (λ (t : Bool). t && not (same_bytes c.text b.text)) differ
 
 no_conflict : (group : Group) (text : List ℕ) (cs : List Held) → AllByRecursion (IsNoLater group text) cs → BestIs group text cs
@@ -153,12 +154,12 @@ no_conflict : (group : Group) (text : List ℕ) (cs : List Held) → AllByRecurs
 no_conflict group text cs all b =
     let of_best : Option Held → Option ScanAnswer =
     λ o. option_and_then (λ (x : Held). option_map (λ (d : Held). Conflict x.disk d.disk x.group.seqno)
-        (find (λ (d : Held). d.group.seqno == x.group.seqno && not (same_bytes d.text x.text)) cs)) o in
+    (find (λ (d : Held). d.group.seqno == x.group.seqno && not (same_bytes d.text x.text)) cs)) o in
     ap of_best b.1
     ∙ ap (λ (o : Option Held). option_map (λ (d : Held). Conflict b.0.disk d.disk b.0.group.seqno) o)
     (find_none (λ (d : Held). d.group.seqno == b.0.group.seqno && not (same_bytes d.text b.0.text)) cs
     (all_weaker (IsNoLater group text) (λ d. (d.group.seqno == b.0.group.seqno && not (same_bytes d.text b.0.text)) ≡ false) cs
-        (λ d is. agrees group text b.0 d b.2 is) all))
+    (λ d is. agrees group text b.0 d b.2 is) all))
 
 -- the copies of areas that give nothing later
 copies_no_later : (group : Group) (text : List ℕ) (disk : ℕ) (rs : List AreaReading) → AllByRecursion (GivesNoLater group text) rs
@@ -174,7 +175,7 @@ all_copies : (group : Group) (text : List ℕ) (disk : ℕ) (disks : List Readin
 all_copies group text disk [] all = tt
 all_copies group text disk (d ∷ disks) all =
     all_append (IsNoLater group text) (filter_map (copy_of disk) (readings_in d)) (copies_from (disk + 1) disks)
-        (copies_no_later group text disk (readings_in d) all.0) (all_copies group text (disk + 1) disks all.1)
+    (copies_no_later group text disk (readings_in d) all.0) (all_copies group text (disk + 1) disks all.1)
 
 -- no refused text agrees with its checksum
 refusals_agree : (group : Group) (text : List ℕ) (disk : ℕ) (rs : List AreaReading) → AllByRecursion (GivesNoLater group text) rs
@@ -189,8 +190,8 @@ all_refusals : (group : Group) (text : List ℕ) (disk : ℕ) (disks : List Read
 all_refusals group text disk [] all = tt
 all_refusals group text disk (d ∷ disks) all =
     all_append (λ (r : ℕ × CopyRefusal). sum_agrees r.1 ≡ false) (filter_map (refusal_of disk) (readings_in d))
-        (refusals_from (disk + 1) disks) (refusals_agree group text disk (readings_in d) all.0)
-        (all_refusals group text (disk + 1) disks all.1)
+    (refusals_from (disk + 1) disks) (refusals_agree group text disk (readings_in d) all.0)
+    (all_refusals group text (disk + 1) disks all.1)
 
 -- a disk that holds the text has the copy
 has_here : (group : Group) (text : List ℕ) (disk : ℕ) (other : Group) (others : List ℕ) (passed : List (List ℕ)) (rs : List AreaReading)
@@ -209,7 +210,7 @@ area_has group text disk (HoldsNone ∷ rs) all any = area_has group text disk r
 area_has group text disk (Refused why ∷ rs) all any = area_has group text disk rs all.1 any
 area_has group text disk (Copy other others passed ∷ rs) all any =
     has_here group text disk other others passed rs all.0.1 (or_cases (same_bytes others text) (list_any (gives text) rs) any)
-        (area_has group text disk rs all.1)
+    (area_has group text disk rs all.1)
 
 disks_have : (group : Group) (text : List ℕ) (disk : ℕ) (disks : List Reading) → EachArea (GivesNoLater group text) disks
     → is_held group text disks ≡ true → Has group text (copies_from disk disks)
@@ -220,7 +221,7 @@ disks_have group text disk (d ∷ disks) all any =
     has_left group text (filter_map (copy_of disk) (readings_in d)) (copies_from (disk + 1) disks)
     (area_has group text disk (readings_in d) all.0 (and_parts (is_listed group d) (holds text d) here).1))
     (λ later. has_right group text (filter_map (copy_of disk) (readings_in d)) (copies_from (disk + 1) disks)
-        (disks_have group text (disk + 1) disks all.1 later))
+    (disks_have group text (disk + 1) disks all.1 later))
     (or_cases (is_listed group d && holds text d) (is_held group text disks) any)
 
 -- where there is a copy, no test on copies and refusals refuses
@@ -233,7 +234,7 @@ unsupported_none : (cs : List Held) (rs : List (ℕ × CopyRefusal)) → AllByRe
 unsupported_none [] rs all = refl
 unsupported_none (c ∷ cs) rs all =
     ap (λ (o : Option (ℕ × CopyRefusal)). option_map (λ (r : ℕ × CopyRefusal). Unsupported r.0) o)
-        (find_none (λ (r : ℕ × CopyRefusal). sum_agrees r.1) rs all)
+    (find_none (λ (r : ℕ × CopyRefusal). sum_agrees r.1) rs all)
 
 well_shaped : (group : Group) (text : List ℕ) (cs : List Held) (disks : List Reading) → BestIs group text cs
     → first_misplaced group disks ≡ None → is_held group text disks ≡ true → misshapen cs disks ≡ None
@@ -260,7 +261,7 @@ scan_finds group text disks shape all held =
     let b : BestIs group text cs = best_is group text cs earlier has in
     let pair : Group → List ℕ → Option (Group × List ℕ) = λ g t. Some (g, t) in
     let no_duplicates : duplicates disks ≡ None =
-        ap (λ (o : Option (ℕ × ℕ)). option_map (λ (p : ℕ × ℕ). DuplicatePv p.0 p.1) o) shape.apart in
+    ap (λ (o : Option (ℕ × ℕ)). option_map (λ (p : ℕ × ℕ). DuplicatePv p.0 p.1) o) shape.apart in
     let f1 : ScanAnswer = unwrap_or (misshapen cs disks) (found cs disks) in
     let f2 : ScanAnswer = unwrap_or (conflict cs) f1 in
     let f3 : ScanAnswer = unwrap_or (two_groups cs) f2 in

@@ -6,10 +6,11 @@ use Rattle.std.specs.List.{cons_option, enumerate_from, flat_map, list_any}
 use Rattle.meta_model.specs.declared.group.Group.{Group}
 use Rattle.meta_model.specs.declared.pv.Pv.{Pv}
 use Rattle.scan_rules.specs.declared.copy_refusal.CopyRefusal.{CopyRefusal}
-use Rattle.scan_rules.specs.Decision.{Area, AreaReading, DuplicatePv, Found, FoundGroup, Held, NoGroup, PvShape, Reading, ScanAnswer, best,
-    conflict, copies, copies_from, copy_of, decide_scan, first_duplicate, first_misplaced, found_with, has_id, has_misplaced, holds,
-    ids_from, is_held, is_listed, is_something, lists, misshapen_by, no_copy, readings_in, refusal_of, refusals, refusals_from, same_bytes,
-    stale_in, two_groups, unsupported}
+use Rattle.scan_rules.specs.Decision.{Area, AreaReading, DuplicatePv, Found, FoundGroup, Held, NoGroup, PvShape, Reading, ScanAnswer, best}
+use Rattle.scan_rules.specs.Decision.{conflict, copies, copies_from, copy_of, decide_scan, first_duplicate, first_misplaced, found_with}
+use Rattle.scan_rules.specs.Decision.{has_id, has_misplaced, holds, ids_from, is_held, is_listed, is_something, lists, misshapen_by}
+use Rattle.scan_rules.specs.Decision.{no_copy, readings_in, refusal_of, refusals, refusals_from, same_bytes, stale_in, two_groups}
+use Rattle.scan_rules.specs.Decision.{unsupported}
 use Rattle.scan_rules.specs.Found.{is_this_misplaced, stale_of, stale_on}
 
 -- of any list of disks
@@ -42,7 +43,7 @@ ids_silent : (disk : Reading) → disk.pv ≡ None → (first : ℕ) (disks : Li
 ids_silent disk none first [] = ap (λ (o : Option Found). unwrap_or (option_map (λ (pv : Found). (first, pv.id) ∷ []) o) []) none
 ids_silent disk none first (d ∷ disks) =
     ap (λ (rest : List (ℕ × List ℕ)). unwrap_or (option_map (λ (pv : Found). (first, pv.id) ∷ rest) d.pv) rest)
-        (ids_silent disk none (first + 1) disks)
+    (ids_silent disk none (first + 1) disks)
 
 copies_silent : (disk : Reading) → disk.pv ≡ None → (first : ℕ) (disks : List Reading)
     → copies_from first (disks ++ disk ∷ []) ≡ copies_from first disks
@@ -63,7 +64,7 @@ unlisted group disk none = ap (λ (o : Option Found). unwrap_or (option_map (λ 
 placed_well : (group : Group) (disk : Reading) → disk.pv ≡ None → has_misplaced group disk ≡ false
 placed_well group disk none =
     ap (λ (o : Option Found). unwrap_or (option_map (λ (found : Found). list_any (is_this_misplaced group.extent_size disk found) group.pvs)
-        o) false) none
+    o) false) none
 
 misshapen_silent : (disk : Reading) → disk.pv ≡ None → (disks : List Reading) (b : Held)
     → misshapen_by b (disks ++ disk ∷ []) ≡ misshapen_by b disks
@@ -73,7 +74,7 @@ misshapen_silent disk none disks b =
     (find_silent (λ (d : ℕ × Reading). has_misplaced b.group d.1) disk (λ n. placed_well b.group disk none) 0 disks) in
     let held : is_held b.group b.text (disks ++ disk ∷ []) ≡ is_held b.group b.text disks =
     any_silent (λ (d : Reading). is_listed b.group d && holds b.text d) disk
-        (ap (λ (t : Bool). t && holds b.text disk) (unlisted b.group disk none)) disks in
+    (ap (λ (t : Bool). t && holds b.text disk) (unlisted b.group disk none)) disks in
     λ i. unwrap_or (option_map (λ (d : ℕ). Some (PvShape d)) (placed i)) (cond (held i) None (Some (PvShape b.disk)))
 
 abbrev stray_if : Group → ℕ × Reading → Option ℕ
@@ -93,15 +94,15 @@ found_silent : (disk : Reading) → disk.pv ≡ None → (disks : List Reading) 
 found_silent disk none disks b =
     let stale : stale_on b.group b.text 0 (disks ++ disk ∷ []) ≡ stale_on b.group b.text 0 disks =
     flat_silent (stale_of b.group b.text) disk (λ n. ap (λ (t : Bool). cond t (stale_in b.text (n, disk)) []) (unlisted b.group disk none))
-        0 disks in
+    0 disks in
     let strays : filter_map (stray_if b.group) (enumerate_from 0 (disks ++ disk ∷ []))
-        ≡ filter_map (stray_if b.group) (enumerate_from 0 disks) =
+    ≡ filter_map (stray_if b.group) (enumerate_from 0 disks) =
     kept_silent (stray_if b.group) disk (no_stray b.group disk none) 0 disks in
     let known : (id : List ℕ) → list_any (has_id id) (disks ++ disk ∷ []) ≡ list_any (has_id id) disks =
     λ id. any_silent (has_id id) disk (ap (λ (o : Option Found). unwrap_or (option_map (λ (pv : Found). same_bytes pv.id id) o) false) none)
-        disks in
+    disks in
     λ i. FoundGroup b (stale i) (strays i) (map (λ (pv : List ℕ × Pv). pv.1.id)
-        (filter (λ (pv : List ℕ × Pv). pv.1.missing || not (known pv.1.id i)) b.group.pvs))
+    (filter (λ (pv : List ℕ × Pv). pv.1.missing || not (known pv.1.id i)) b.group.pvs))
 
 -- the tests behind that of the duplicates
 abbrev later_tests : List Held → List (ℕ × CopyRefusal) → Option ScanAnswer → ScanAnswer → ScanAnswer
@@ -124,7 +125,7 @@ silent_changes_nothing disks disk none =
     let cs : List Held = copies_from 0 disks in
     let rs : List (ℕ × CopyRefusal) = refusals_from 0 disks in
     ap (λ (ids : List (ℕ × List ℕ)). tests (first_duplicate ids) (copies_from 0 more) (refusals_from 0 more)
-        (shape_of (copies_from 0 more) more) (last_of (copies_from 0 more) more)) (ids_silent disk none 0 disks)
+    (shape_of (copies_from 0 more) more) (last_of (copies_from 0 more) more)) (ids_silent disk none 0 disks)
     ∙ ap (λ (l : List Held). tests (first_duplicate (ids_from 0 disks)) l (refusals_from 0 more) (shape_of l more) (last_of l more))
     (copies_silent disk none 0 disks)
     ∙ ap (λ (l : List (ℕ × CopyRefusal)). tests (first_duplicate (ids_from 0 disks)) cs l (shape_of cs more) (last_of cs more))

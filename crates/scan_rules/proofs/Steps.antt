@@ -1,6 +1,6 @@
 -- One element more of each walk along readings.
-use Rattle.std.proofs.Common.{◌≡◌, ℕ, suc, ◌+◌, Bool, true, false, not, ◌||◌, cond, List, [], ◌∷◌, ◌++◌, length, drop, Option, Some, None,
-    refl, sym, ap, subst, ◌∙◌, arith, append-nil, append_assoc}
+use Rattle.std.proofs.Common.{◌≡◌, ℕ, suc, ◌+◌, Bool, true, false, not, ◌||◌, cond, List, [], ◌∷◌, ◌++◌, length, drop, Option, Some, None}
+use Rattle.std.proofs.Common.{refl, sym, ap, subst, ◌∙◌, arith, append-nil, append_assoc}
 use Rattle.std.specs.Prelude.{option_map, unwrap_or, filter, find, filter_map, map, slice_get}
 use Rattle.std.specs.Option.{option_and_then}
 use Rattle.std.specs.List.{cons_option, list_any}
@@ -18,8 +18,8 @@ use Rattle.scan_rules.specs.declared.readings.AreaRead.{AreaRead}
 use Rattle.scan_rules.specs.declared.readings.DiskRead.{DiskRead}
 use Rattle.scan_rules.specs.Answers.{denies_copy, denying_disk, unsupported_among}
 use Rattle.scan_rules.specs.Decision.{Held, TwoGroups, best, same_bytes, sum_agrees, two_groups}
-use Rattle.scan_rules.specs.Flat.{IsThat, all_held, areas_on, greater_of, held_copy, held_of, id_in, is_unsupported, is_unsupported_by,
-    other_among, other_of, refused_by, refused_in, refused_on}
+use Rattle.scan_rules.specs.Flat.{IsThat, all_held, areas_on, greater_of, held_copy, held_of, id_in, is_unsupported, is_unsupported_by}
+use Rattle.scan_rules.specs.Flat.{other_among, other_of, refused_by, refused_in, refused_on}
 use Rattle.id_index.specs.Ids.{IdNumbers}
 use Rattle.scan_rules.specs.Found.{is_missing_by, missing_by}
 use Rattle.scan_rules.proofs.Greatest.{picks_greater}
@@ -39,7 +39,7 @@ pub missing_here : (found : IdNumbers) (pvs : List (List ℕ × Pv)) (i : ℕ) (
     → is_missing_by found pv ≡ true → (before ++ pv.1.id ∷ []) ++ missing_by found (drop (i + 1) pvs) ≡ whole
 missing_here found pvs i pv before whole got is there =
     append_assoc before (pv.1.id ∷ []) (missing_by found (drop (i + 1) pvs))
-        ∙ ap (λ (l : List (List ℕ)). before ++ l) (sym (missing_next found pvs i pv true got there)) ∙ is
+    ∙ ap (λ (l : List (List ℕ)). before ++ l) (sym (missing_next found pvs i pv true got there)) ∙ is
 
 pub missing_past : (found : IdNumbers) (pvs : List (List ℕ × Pv)) (i : ℕ) (pv : List ℕ × Pv) (before whole : List (List ℕ))
     → slice_get pvs i ≡ Some pv → before ++ missing_by found (drop i pvs) ≡ whole
@@ -90,7 +90,7 @@ first_at disk None id rest is = cc
 first_at disk (Some copy) id rest is =
     let e : id ≡ copy.group.id = same_Some id copy.group.id is in
     map_twice (λ (other : List ℕ). TwoGroups copy.group.id other) (λ (d : Held). d.group.id)
-        (find (λ (d : Held). not (same_bytes d.group.id copy.group.id)) rest)
+    (find (λ (d : Held). not (same_bytes d.group.id copy.group.id)) rest)
     ∙ map_twice (λ (ids : List ℕ × List ℕ). TwoGroups ids.0 ids.1) (λ (other : List ℕ). (copy.group.id, other))
     (other_among copy.group.id rest)
     ∙ ap (λ (x : List ℕ). option_map (λ (ids : List ℕ × List ℕ). TwoGroups ids.0 ids.1)
@@ -177,10 +177,10 @@ refused_at disk (Some (RefusedFor why)) tail later then is = of (sum_agrees why)
   of : (b : Bool) → sum_agrees why ≡ b → (b || later) ≡ true → unsupported_among ((disk, why) ∷ tail) ≡ Some disk
   of true e is =
       ap (λ (t : Bool). option_map (λ (r : ℕ × CopyRefusal). r.0)
-          (cond t (Some (disk, why)) (find (λ (r : ℕ × CopyRefusal). sum_agrees r.1) tail))) e
+      (cond t (Some (disk, why)) (find (λ (r : ℕ × CopyRefusal). sum_agrees r.1) tail))) e
   of false e is =
       ap (λ (t : Bool). option_map (λ (r : ℕ × CopyRefusal). r.0)
-          (cond t (Some (disk, why)) (find (λ (r : ℕ × CopyRefusal). sum_agrees r.1) tail))) e ∙ then is
+      (cond t (Some (disk, why)) (find (λ (r : ℕ × CopyRefusal). sum_agrees r.1) tail))) e ∙ then is
 
 pub unsupported_here : (disk : ℕ) (areas : List AreaRead) (rest : List (ℕ × CopyRefusal)) → list_any is_unsupported areas ≡ true
     → unsupported_among (filter_map (refused_in disk) areas ++ rest) ≡ Some disk
@@ -210,14 +210,14 @@ accepted_at disk (Some (RefusedFor why)) xs rest later then is = of (sum_agrees 
   of true e is = absurd (false≢true (sym is))
   of false e is =
       ap (λ (t : Bool). option_map (λ (r : ℕ × CopyRefusal). r.0)
-          (cond t (Some (disk, why)) (find (λ (r : ℕ × CopyRefusal). sum_agrees r.1) (xs ++ rest)))) e ∙ then is
+      (cond t (Some (disk, why)) (find (λ (r : ℕ × CopyRefusal). sum_agrees r.1) (xs ++ rest)))) e ∙ then is
 
 pub unsupported_past : (disk : ℕ) (areas : List AreaRead) (rest : List (ℕ × CopyRefusal)) → list_any is_unsupported areas ≡ false
     → unsupported_among (filter_map (refused_in disk) areas ++ rest) ≡ unsupported_among rest
 unsupported_past disk [] rest is = refl
 unsupported_past disk (area ∷ areas) rest is =
     accepted_at disk area.gives (filter_map (refused_in disk) areas) rest (list_any is_unsupported areas) (unsupported_past disk areas rest)
-        is
+    is
 
 -- the refusals of one disk more
 pub refused_more : (first : ℕ) (disks : List DiskRead) (disk : DiskRead)
@@ -238,11 +238,11 @@ pub unsupported_step : (number : ℕ) (disks : List DiskRead) (disk : DiskRead) 
     → unsupported_among (refused_on number disks) ≡ Some number
 unsupported_step number disks disk rest is any =
     ap (λ (l : List DiskRead). unsupported_among (refused_on number l)) is
-        ∙ unsupported_here number (areas_on disk) (refused_on (number + 1) rest) any
+    ∙ unsupported_here number (areas_on disk) (refused_on (number + 1) rest) any
 
 pub supported_step : (number : ℕ) (disks : List DiskRead) (disk : DiskRead) (rest : List DiskRead) → disks ≡ disk ∷ rest
     → list_any is_unsupported (areas_on disk) ≡ false
     → unsupported_among (refused_on (number + 1) rest) ≡ unsupported_among (refused_on number disks)
 supported_step number disks disk rest is none =
     sym (ap (λ (l : List DiskRead). unsupported_among (refused_on number l)) is
-        ∙ unsupported_past number (areas_on disk) (refused_on (number + 1) rest) none)
+    ∙ unsupported_past number (areas_on disk) (refused_on (number + 1) rest) none)

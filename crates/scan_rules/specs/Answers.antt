@@ -1,9 +1,9 @@
 -- What a decision says of the answer that the readings give.
-use Rattle.std.specs.Prelude.{◌≡◌, ◌≢◌, ℕ, Bool, true, false, ◌&&◌, ◌==◌, not, Option, None, Some, List, [], find, option_map, unwrap_or,
-    slice_get}
+use Rattle.std.specs.Prelude.{◌≡◌, ◌≢◌, ℕ, Bool, true, false, ◌&&◌, ◌==◌, not, Option, None, Some, List, [], find, option_map, unwrap_or}
+use Rattle.std.specs.Prelude.{slice_get}
 use Rattle.std.specs.FinSet as set
-use Rattle.scan_rules.specs.Decision.{Held, Reading, ScanAnswer, DuplicatePv, NoCopy, Unsupported, TwoGroups, Conflict, PvShape, NoGroup,
-    FoundGroup, first_misplaced, found_with, is_held, no_copy, same_bytes, sum_agrees, two_groups}
+use Rattle.scan_rules.specs.Decision.{Held, Reading, ScanAnswer, DuplicatePv, NoCopy, Unsupported, TwoGroups, Conflict, PvShape, NoGroup}
+use Rattle.scan_rules.specs.Decision.{FoundGroup, first_misplaced, found_with, is_held, no_copy, same_bytes, sum_agrees, two_groups}
 use Rattle.scan_rules.specs.declared.held.HeldCopy.{HeldCopy}
 use Rattle.scan_rules.specs.declared.readings.DiskRead.{DiskRead}
 use Rattle.scan_rules.specs.Flat.{all_held, held_copy, refused_on}

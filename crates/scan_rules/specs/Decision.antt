@@ -1,6 +1,6 @@
 -- What a scan of disks finds: the readings of their metadata areas, and the answer that they give.
-use Rattle.std.specs.Prelude.{◌≡◌, ◌≢◌, ◌<◌, ◌⊎◌, ℕ, ◌+◌, ◌*◌, Bool, true, false, not, ◌&&◌, ◌||◌, ◌==◌, nat_le, nat_lt, if◌then◌else◌,
-    Option, None, Some, List, [], ◌∷◌, ◌++◌, map, filter, filter_map, find, option_map, unwrap_or}
+use Rattle.std.specs.Prelude.{◌≡◌, ◌≢◌, ◌<◌, ◌⊎◌, ℕ, ◌+◌, ◌*◌, Bool, true, false, not, ◌&&◌, ◌||◌, ◌==◌, nat_le, nat_lt, if◌then◌else◌}
+use Rattle.std.specs.Prelude.{Option, None, Some, List, [], ◌∷◌, ◌++◌, map, filter, filter_map, find, option_map, unwrap_or}
 use Rattle.std.specs.Option.{option_and_then}
 use Rattle.std.specs.List.{AllByRecursion, enumerate_from, flat_map, list_any}
 use Rattle.meta_model.specs.declared.group.Group.{Group}
@@ -109,7 +109,7 @@ abbrev pub first_duplicate : List (ℕ × List ℕ) → Option (ℕ × ℕ)
 first_duplicate [] = None
 first_duplicate (one ∷ more) =
     unwrap_or (option_map (λ (other : ℕ × List ℕ). Some (one.0, other.0)) (find (λ (other : ℕ × List ℕ). same_bytes one.1 other.1) more))
-        (first_duplicate more)
+    (first_duplicate more)
 
 -- the first of the copies with the greatest sequence number
 abbrev pub greater : Held → Option Held → Held
@@ -145,7 +145,7 @@ has_misplaced group disk =
     (option_map
     (λ (found : Found).
     list_any (λ (pv : List ℕ × Pv). same_bytes pv.1.id found.id
-        && is_misplaced pv.1.pe_start (pv.1.pe_start + pv.1.pe_count * group.extent_size) disk found) group.pvs)
+    && is_misplaced pv.1.pe_start (pv.1.pe_start + pv.1.pe_count * group.extent_size) disk found) group.pvs)
     disk.pv)
     false
 
@@ -178,7 +178,7 @@ conflict cs =
     option_and_then
     (λ (b : Held).
     option_map (λ (d : Held). Conflict b.disk d.disk b.group.seqno)
-        (find (λ (d : Held). d.group.seqno == b.group.seqno && not (same_bytes d.text b.text)) cs))
+    (find (λ (d : Held). d.group.seqno == b.group.seqno && not (same_bytes d.text b.text)) cs))
     (best cs)
 
 -- the disks, numbered
@@ -242,9 +242,9 @@ found_with disks b =
     FoundGroup b
     (flat_map (λ (d : ℕ × Reading). if is_listed b.group d.1 then stale_in b.text d else []) (numbered disks))
     (filter_map (λ (d : ℕ × Reading). if not (is_listed b.group d.1) && list_any is_something (readings_in d.1) then Some d.0 else None)
-        (numbered disks))
+    (numbered disks))
     (map (λ (pv : List ℕ × Pv). pv.1.id) (filter
-        (λ (pv : List ℕ × Pv). pv.1.missing || not (list_any (λ (d : Reading). has_id pv.1.id d) disks)) b.group.pvs))
+    (λ (pv : List ℕ × Pv). pv.1.missing || not (list_any (λ (d : Reading). has_id pv.1.id d) disks)) b.group.pvs))
 
 -- the group that is found, or none
 abbrev pub found : List Held → List Reading → ScanAnswer
@@ -292,7 +292,7 @@ abbrev pub GivesVersion : Group → List ℕ → Group → List ℕ → AreaRead
 GivesVersion old old_text new new_text HoldsNone = Unit {0}
 GivesVersion old old_text new new_text (Copy other others passed) =
     ((other ≡ old) × (others ≡ old_text)) ⊎ (((other ≡ new) × (others ≡ new_text))
-        ⊎ ((other.id ≡ old.id) × (other.seqno < old.seqno) × (others ≢ old_text) × (others ≢ new_text)))
+    ⊎ ((other.id ≡ old.id) × (other.seqno < old.seqno) × (others ≢ old_text) × (others ≢ new_text)))
 GivesVersion old old_text new new_text (Refused why) = ⊥
 
 -- no physical volume was found twice, and each that the group lists lies on its disk

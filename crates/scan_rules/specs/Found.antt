@@ -1,6 +1,6 @@
 -- The parts of what a scan finds, each as a list of its own.
-use Rattle.std.specs.Prelude.{ℕ, ◌+◌, ◌*◌, ◌<◌, ◌^◌, Bool, ◌&&◌, ◌||◌, not, Option, None, Some, List, [], ◌∷◌, length, map, filter,
-    filter_map, find, option_map, if◌then◌else◌}
+use Rattle.std.specs.Prelude.{ℕ, ◌+◌, ◌*◌, ◌<◌, ◌^◌, Bool, ◌&&◌, ◌||◌, not, Option, None, Some, List, [], ◌∷◌, length, map, filter}
+use Rattle.std.specs.Prelude.{filter_map, find, option_map, if◌then◌else◌}
 use Rattle.std.specs.Option.{option_and_then}
 use Rattle.std.specs.List.{enumerate_from, flat_map, list_any}
 use Rattle.std.specs.FinMap as map
@@ -9,8 +9,8 @@ use Rattle.meta_model.specs.declared.group.Group.{Group}
 use Rattle.meta_model.specs.declared.pv.Pv.{Pv}
 use Rattle.scan_rules.specs.declared.readings.DiskRead.{DiskRead}
 use Rattle.scan_rules.specs.declared.readings.PvRead.{PvRead}
-use Rattle.scan_rules.specs.Decision.{Area, AreaReading, Found, Reading, gives, has_id, has_misplaced, is_listed, is_misplaced, same_bytes,
-    stale_in}
+use Rattle.scan_rules.specs.Decision.{Area, AreaReading, Found, Reading, gives, has_id, has_misplaced, is_listed, is_misplaced, same_bytes}
+use Rattle.scan_rules.specs.Decision.{stale_in}
 
 -- whether a physical volume of the group is this one, and doesn't lie well on the disk
 abbrev pub is_this_misplaced : ℕ → Reading → Found → List ℕ × Pv → Bool

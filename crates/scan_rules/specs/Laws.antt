@@ -4,14 +4,14 @@ use Rattle.std.specs.List.{Contains}
 use Rattle.std.specs.Option.{option_and_then}
 use Rattle.meta_model.specs.declared.group.Group.{Group}
 use Rattle.meta_model.specs.declared.pv.Pv.{Pv}
-use Rattle.scan_rules.specs.Decision.{Area, AreaReading, EachArea, Found, FoundGroup, GivesVersion, HasShape, Held, Reading, SameHeaders,
-    ScanAnswer, decide_scan, gives, group_found, is_held, is_something, lists}
+use Rattle.scan_rules.specs.Decision.{Area, AreaReading, EachArea, Found, FoundGroup, GivesVersion, HasShape, Held, Reading, SameHeaders}
+use Rattle.scan_rules.specs.Decision.{ScanAnswer, decide_scan, gives, group_found, is_held, is_something, lists}
 
 -- between a version of a group and the next, the next is found where a listed volume holds it
 abbrev pub ScansFindNew : Type 0
 ScansFindNew =
     (old : Group) (old_text : List ℕ) (new : Group) (new_text : List ℕ) (disks : List Reading) → old.id ≡ new.id → old.seqno < new.seqno
-        → old_text ≢ new_text
+    → old_text ≢ new_text
     → EachArea (GivesVersion old old_text new new_text) disks → HasShape new disks → is_held new new_text disks ≡ true
     → group_found (decide_scan disks) ≡ Some (new, new_text)
 
@@ -19,7 +19,7 @@ ScansFindNew =
 abbrev pub ScansFindOld : Type 0
 ScansFindOld =
     (old : Group) (old_text : List ℕ) (new : Group) (new_text : List ℕ) (disks : List Reading) → old.id ≡ new.id → old.seqno < new.seqno
-        → old_text ≢ new_text
+    → old_text ≢ new_text
     → EachArea (GivesVersion old old_text new new_text) disks → HasShape old disks → EachArea (λ r. gives new_text r ≡ false) disks
     → is_held old old_text disks ≡ true → group_found (decide_scan disks) ≡ Some (old, old_text)
 
@@ -65,21 +65,21 @@ pub record IsMissing (group : Group) (disks : List Reading) (id : List ℕ) : Ty
 abbrev pub StaleIsExact : Type 0
 StaleIsExact =
     (disks : List Reading) (held : Held) (stale : List (ℕ × ℕ)) (strays : List ℕ) (missing : List (List ℕ))
-        → decide_scan disks ≡ FoundGroup held stale strays missing
+    → decide_scan disks ≡ FoundGroup held stale strays missing
     → (disk area : ℕ) → Contains stale (disk, area) ↔ IsStale held.group held.text disks disk area
 
 -- the strays are just these
 abbrev pub StraysAreExact : Type 0
 StraysAreExact =
     (disks : List Reading) (held : Held) (stale : List (ℕ × ℕ)) (strays : List ℕ) (missing : List (List ℕ))
-        → decide_scan disks ≡ FoundGroup held stale strays missing
+    → decide_scan disks ≡ FoundGroup held stale strays missing
     → (disk : ℕ) → Contains strays disk ↔ IsStray held.group disks disk
 
 -- the missing ids are just these
 abbrev pub MissingIsExact : Type 0
 MissingIsExact =
     (disks : List Reading) (held : Held) (stale : List (ℕ × ℕ)) (strays : List ℕ) (missing : List (List ℕ))
-        → decide_scan disks ≡ FoundGroup held stale strays missing
+    → decide_scan disks ≡ FoundGroup held stale strays missing
     → (id : List ℕ) → Contains missing id ↔ IsMissing held.group disks id
 
 -- a disk more on which no physical volume was found changes nothing

@@ -1,6 +1,6 @@
 -- The checksum of bytes, one bit at a time, is that of the state taken as a number.
-use Rattle.std.proofs.Common.{lit≤, ◌≡◌, ◌≤◌, ◌<◌, ℕ, zero, suc, ◌/◌, ◌%◌, ◌^◌, Bool, true, false, ◌==◌, cond, List, [], ◌∷◌, ◌++◌, length,
-    replicate, refl, sym, ap, ◌∙◌, arith}
+use Rattle.std.proofs.Common.{lit≤, ◌≡◌, ◌≤◌, ◌<◌, ℕ, zero, suc, ◌/◌, ◌%◌, ◌^◌, Bool, true, false, ◌==◌, cond, List, [], ◌∷◌, ◌++◌, length}
+use Rattle.std.proofs.Common.{replicate, refl, sym, ap, ◌∙◌, arith}
 use Rattle.std.specs.List.{flat_map}
 use Rattle.std.proofs.lemmas.Nat.{xor_shr, xor_mod}
 use Rattle.std.proofs.lemmas.Bool.Decides.{nat_tests}
@@ -83,7 +83,7 @@ xor_bits-swap (x ∷ xs) [] (z ∷ zs) = refl
 xor_bits-swap (x ∷ xs) (y ∷ ys) [] = refl
 xor_bits-swap (x ∷ xs) (y ∷ ys) (z ∷ zs) =
     ap (λ (t : Bool). t ∷ xor_bits (xor_bits xs ys) zs) (differs-swap x y z)
-        ∙ ap (λ (l : List Bool). differs (differs x z) y ∷ l) (xor_bits-swap xs ys zs)
+    ∙ ap (λ (l : List Bool). differs (differs x z) y ∷ l) (xor_bits-swap xs ys zs)
 
 xor_bits-push : (xs ys : List Bool) → length ys ≤ length xs → xor_bits (xs ++ false ∷ []) ys ≡ xor_bits xs ys ++ false ∷ []
 xor_bits-push [] [] le = refl
@@ -100,7 +100,7 @@ pub with_bit-xor_bits : (low input : Bool) (high inputs : List Bool) → length 
     → with_bit (xor_bits (low ∷ high) (input ∷ inputs)) false ≡ xor_bits (with_bit (low ∷ high) input) inputs
 with_bit-xor_bits low input high inputs le =
     ap (λ (t : Bool). cond t (xor_bits (xor_bits high inputs ++ false ∷ []) polynomial) (xor_bits high inputs ++ false ∷ []))
-        (differs-false (differs low input))
+    (differs-false (differs low input))
     ∙ (elim (differs low input) as (λ t. cond t (xor_bits (xor_bits high inputs ++ false ∷ []) polynomial)
     (xor_bits high inputs ++ false ∷ []) ≡ xor_bits (cond t (xor_bits (high ++ false ∷ []) polynomial) (high ++ false ∷ [])) inputs) [
       | true ↦ ap (λ (l : List Bool). xor_bits l polynomial) (sym (xor_bits-push high inputs le))
@@ -156,7 +156,7 @@ unfolding bits_of polynomial
 with_bit-number n h =
     let shifted : bits_of 31 (n / 2) ++ false ∷ [] ≡ bits_of 32 (n / 2) = sym (bits_of-suc 31 (n / 2) (omega arith)) in
     ap (λ (t : Bool). cond t (xor_bits (bits_of 31 (n / 2) ++ false ∷ []) (bits_of 32 0xEDB88320)) (bits_of 31 (n / 2) ++ false ∷ []))
-        (differs-false (n % 2 == 1))
+    (differs-false (n % 2 == 1))
     ∙ (elim (n % 2 == 1) as (λ t. cond t (xor_bits (bits_of 31 (n / 2) ++ false ∷ []) (bits_of 32 0xEDB88320))
     (bits_of 31 (n / 2) ++ false ∷ []) ≡ bits_of 32 (cond t (bit_xor (n / 2) 0xEDB88320) (n / 2))) [
       | true ↦ ap (λ (l : List Bool). xor_bits l (bits_of 32 0xEDB88320)) shifted ∙ sym (bits_of-xor 32 (n / 2) 0xEDB88320)

@@ -1,6 +1,6 @@
 -- Eight divisions at once: what they make of the lowest byte stands in a table, and the other bytes move down.
-use Rattle.std.proofs.Common.{lit≤, length-append, slice_index, ◌≡◌, ◌≤◌, ◌<◌, ℕ, zero, suc, ◌+◌, ◌*◌, ◌/◌, ◌%◌, ◌^◌, Bool, true, false,
-    ◌==◌, cond, List, [], ◌∷◌, ◌++◌, length, map, replicate, refl, sym, ap, ◌∙◌, arith}
+use Rattle.std.proofs.Common.{lit≤, length-append, slice_index, ◌≡◌, ◌≤◌, ◌<◌, ℕ, zero, suc, ◌+◌, ◌*◌, ◌/◌, ◌%◌, ◌^◌, Bool, true, false}
+use Rattle.std.proofs.Common.{◌==◌, cond, List, [], ◌∷◌, ◌++◌, length, map, replicate, refl, sym, ap, ◌∙◌, arith}
 use Rattle.std.specs.List.{range_with_len}
 use Rattle.std.proofs.lemmas.List.{length-replicate}
 use Rattle.std.proofs.lemmas.List.FromFn.{get_or-map-range_with_len}
@@ -8,8 +8,8 @@ use Rattle.std.proofs.lemmas.Nat.{xor_of_32}
 use Rattle.std.specs.Int.RustNames.{bit_xor}
 use Rattle.sector_base.specs.Checksum.{bits_of, xor_bits, with_bit, with_bits}
 use Rattle.sector_base.specs.declared.division_table.TheConstants.{DIVIDED_EIGHT}
-use Rattle.sector_base.proofs.Checksums.{bits_of-xor, xor_bits-bits_of, differs-false, with_bit-xor_bits, with_bit-number, with_bits-step,
-    length-bits_of, length-with_bit}
+use Rattle.sector_base.proofs.Checksums.{bits_of-xor, xor_bits-bits_of, differs-false, with_bit-xor_bits, with_bit-number, with_bits-step}
+use Rattle.sector_base.proofs.Checksums.{length-bits_of, length-with_bit}
 
 -- one division of a state that is a number
 abbrev pub halved : ℕ → ℕ
@@ -30,8 +30,8 @@ with_bits-behind zero state behind le = refl
 with_bits-behind (suc k) [] behind le = absurd (omega arith)
 with_bits-behind (suc k) (low ∷ high) behind le =
     ap (λ (l : List Bool). with_bits l (replicate k false))
-        (with_bit-xor_bits low false high (replicate k false ++ behind)
-        (omega (arith, length-append (replicate k false) behind, length-replicate {A = Bool} k false)))
+    (with_bit-xor_bits low false high (replicate k false ++ behind)
+    (omega (arith, length-append (replicate k false) behind, length-replicate {A = Bool} k false)))
     ∙ with_bits-behind k (with_bit (low ∷ high) false) behind (omega (arith, length-with_bit (low ∷ high) false))
 
 -- bits behind a number's end
@@ -47,7 +47,7 @@ unfolding bits_of
 bits_of-split zero m r q h =
     let none : r ≡ 0 = omega arith in
     rw none (ap (λ (n : ℕ). bits_of (0 + m) n) (omega arith) ∙ ap (λ (n : ℕ). bits_of n q) (omega arith) ∙ sym (zeros-xor_bits m q)
-        ∙ ap (λ (n : ℕ). xor_bits (bits_of n 0) (bits_of m q)) (omega arith))
+    ∙ ap (λ (n : ℕ). xor_bits (bits_of n 0) (bits_of m q)) (omega arith))
 bits_of-split (suc k) m r q h =
     let next : suc k + m ≡ suc (k + m) = omega arith in
     let twice : 2 ^ suc k ≡ 2 * 2 ^ k = omega arith in
@@ -77,8 +77,8 @@ with_bits-eight : (n : ℕ) → n < 2 ^ 32 → with_bits (bits_of 32 n) (replica
 with_bits-eight n h =
     let start = bits_of 32 n in
     (halved-more 7 start _ (halved-more 6 start _
-        (halved-more 5 start _ (halved-more 4 start _
-        (halved-more 3 start _ (halved-more 2 start _ (halved-more 1 start _ (halved-more 0 start n (h, refl))))))))).1
+    (halved-more 5 start _ (halved-more 4 start _
+    (halved-more 3 start _ (halved-more 2 start _ (halved-more 1 start _ (halved-more 0 start n (h, refl))))))))).1
 
 -- eight divisions of the state, by the table
 pub with_bits-table : (state : ℕ) → state < 2 ^ 32
@@ -88,7 +88,7 @@ with_bits-table state h =
     let high = state / 256 in
     let entry : slice_index DIVIDED_EIGHT low ≡ halved_eight low =
     ap (λ (table : List ℕ). slice_index table low) DIVIDED_EIGHT-is
-        ∙ get_or-map-range_with_len halved_eight 0 256 low low 0 (omega arith) (omega arith) in
+    ∙ get_or-map-range_with_len halved_eight 0 256 low low 0 (omega arith) (omega arith) in
     let parts : state ≡ low + 2 ^ 8 * high = omega arith in
     ap (λ (n : ℕ). with_bits (bits_of 32 n) (replicate 8 false)) parts
     ∙ ap (λ (l : List Bool). with_bits l (replicate 8 false)) (bits_of-split 8 24 low high (omega arith))

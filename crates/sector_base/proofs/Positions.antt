@@ -1,6 +1,6 @@
 -- The place of the first item that passes a test, where one does, and a list without one of its items.
-use Rattle.std.proofs.Common.{◌≡◌, ◌<◌, ℕ, ◌+◌, Bool, true, false, not, cond, ◌||◌, List, [], ◌∷◌, length, get_or, nat_lt, refl, ap, ◌∙◌,
-    arith}
+use Rattle.std.proofs.Common.{◌≡◌, ◌<◌, ℕ, ◌+◌, Bool, true, false, not, cond, ◌||◌, List, [], ◌∷◌, length, get_or, nat_lt, refl, ap, ◌∙◌}
+use Rattle.std.proofs.Common.{arith}
 use Rattle.std.specs.Prelude.{Option, Some, None, All, position, remove, unwrap_or}
 use Rattle.std.specs.List.{position_or_len, list_any}
 use Rattle.std.proofs.lemmas.Bool.{ltb-true, ltb-false}
@@ -20,8 +20,8 @@ pub placed : {X : Type 0} (p : X → Bool) (xs : List X) (o : Option ℕ) (r : �
     → (r ≡ position_or_len p xs) × (r < length xs)
 placed p xs o r found is some =
     elim (nat_lt (position_or_len p xs) (length xs)) as
-        (λ b. nat_lt (position_or_len p xs) (length xs) ≡ b → o ≡ cond b (Some (position_or_len p xs)) None
-        → (r ≡ position_or_len p xs) × (r < length xs)) [
+    (λ b. nat_lt (position_or_len p xs) (length xs) ≡ b → o ≡ cond b (Some (position_or_len p xs)) None
+    → (r ≡ position_or_len p xs) × (r < length xs)) [
       | true ↦ λ t h. let same : r ≡ position_or_len p xs = is
           ∙ ap (λ (a : Option ℕ). unwrap_or a 0) h in (same, omega (arith, any_within p xs some))
       | false ↦ λ t h. absurd (omega (arith, any_within p xs some, ltb-false _ _ t))

@@ -1,6 +1,6 @@
 -- What bytes put into a sector leave there, and the number that is read again.
-use Rattle.std.proofs.Common.{◌≡◌, ◌≤◌, ◌<◌, ℕ, ◌+◌, ◌-◌, ◌^◌, List, ◌++◌, length, take, drop, sym, ap, ◌∙◌, min, arith, length-append,
-    append_assoc}
+use Rattle.std.proofs.Common.{◌≡◌, ◌≤◌, ◌<◌, ℕ, ◌+◌, ◌-◌, ◌^◌, List, ◌++◌, length, take, drop, sym, ap, ◌∙◌, min, arith, length-append}
+use Rattle.std.proofs.Common.{append_assoc}
 use Rattle.std.proofs.lemmas.List.{take_at, drop_at, drop-drop, length-take, length-take-le, length-drop}
 use Rattle.byteorder.specs.Numbers.{little_number-reads_back, length-bytes_low_first}
 use Rattle.sector_base.specs.Fields.{field, with_bytes, little_bytes}
@@ -33,7 +33,7 @@ with_bytes-behind sector at a next b is fits =
     let front : length (take at sector ++ a) ≡ next = simp (length-append) (omega (arith, length-take-le at sector (omega arith))) in
     let total : at + length (a ++ b) ≡ next + length b = omega (arith, length-append a b) in
     ap (λ (l : List ℕ). l ++ b ++ drop (next + length b) (with_bytes sector at a))
-        (take_at (take at sector ++ a) (drop (at + length a) sector) next front)
+    (take_at (take at sector ++ a) (drop (at + length a) sector) next front)
     ∙ ap (λ (l : List ℕ). take at sector ++ a ++ b ++ l)
     (drop-past_put (take at sector ++ a) (drop (at + length a) sector) next (length b) front
     ∙ drop-drop (length b) (at + length a) sector

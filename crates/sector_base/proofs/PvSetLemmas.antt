@@ -1,12 +1,12 @@
 -- Setting a mark puts its number into the set, clearing it takes the number out.
-use Rattle.std.proofs.Common.{◌≡◌, ◌<◌, ℕ, suc, Bool, true, false, not, ◌&&◌, ◌||◌, ◌==◌, IsTrue, List, [], ◌∷◌, length, get_or, set, refl,
-    sym, ap, ◌∙◌, arith}
+use Rattle.std.proofs.Common.{◌≡◌, ◌<◌, ℕ, suc, Bool, true, false, not, ◌&&◌, ◌||◌, ◌==◌, IsTrue, List, [], ◌∷◌, length, get_or, set, refl}
+use Rattle.std.proofs.Common.{sym, ap, ◌∙◌, arith}
 use Rattle.std.proofs.lemmas.Bool.{true≢false}
 use Rattle.std.specs.Ordering.{nat_cmp}
 use Rattle.std.specs.Cmp.{nat_cmp_total, unsigned_tied}
 use Rattle.std.specs.List.{list_any}
-use Rattle.std.specs.FinSet.{FinSet, contains, empty, insert, remove, from_list, contains-empty, contains-insert, contains-remove, same_set,
-    nat_cmp-IsAntisymmetric}
+use Rattle.std.specs.FinSet.{FinSet, contains, empty, insert, remove, from_list, contains-empty, contains-insert, contains-remove, same_set}
+use Rattle.std.specs.FinSet.{nat_cmp-IsAntisymmetric}
 use Rattle.std.proofs.lemmas.Bool.Decides.{nat_tests}
 use Rattle.std.proofs.lemmas.Grind.{common_steps}
 use Rattle.sector_base.specs.PvSets.{places_from}
@@ -68,4 +68,4 @@ pub list_any-empty : (p : Bool → Bool) → p false ≡ false → (marks : List
     → list_any p marks ≡ false
 list_any-empty p fails marks none =
     none_passes p fails marks (λ k. sym (contains-marks marks k) ∙ ap (λ (s : FinSet nat_cmp). contains s k) none
-        ∙ contains-empty nat_cmp k)
+    ∙ contains-empty nat_cmp k)

@@ -14,5 +14,5 @@ IsSector-with_bytes sector at bytes is fits are =
       long = grind (arith, length-append, length-take, length-drop, is.long);
       bytes =
           All-append P (take at sector ++ bytes) (drop (at + length bytes) sector)
-              (All-append P (take at sector) bytes (All-take P at sector is.bytes) are) (All-drop P (at + length bytes) sector is.bytes);
+          (All-append P (take at sector) bytes (All-take P at sector is.bytes) are) (All-drop P (at + length bytes) sector is.bytes);
     }

@@ -1,6 +1,6 @@
 -- The set of the places of marks has a number exactly where its mark is set.
-use Rattle.std.proofs.Common.{◌≡◌, ◌<◌, ℕ, zero, suc, ◌+◌, Bool, true, false, ◌||◌, ◌==◌, List, [], ◌∷◌, length, get_or, refl, sym, ap, ◌∙◌,
-    arith}
+use Rattle.std.proofs.Common.{◌≡◌, ◌<◌, ℕ, zero, suc, ◌+◌, Bool, true, false, ◌||◌, ◌==◌, List, [], ◌∷◌, length, get_or, refl, sym, ap, ◌∙◌}
+use Rattle.std.proofs.Common.{arith}
 use Rattle.std.specs.Ordering.{nat_cmp}
 use Rattle.std.specs.Cmp.{nat_cmp_total, unsigned_tied}
 use Rattle.std.specs.FinSet.{contains, from_list, contains-empty, contains-insert}
@@ -13,7 +13,7 @@ contains-before [] first q h = contains-empty nat_cmp q
 contains-before (true ∷ marks) first q h =
     let apart : (q == first) ≡ false = grind (arith, nat_tests) in
     contains-insert nat_cmp_total _ first q ∙ ap (λ (t : Bool). t || contains (from_list {R = nat_cmp} (places_from (suc first) marks)) q)
-        (unsigned_tied q first ∙ apart) ∙ contains-before marks (suc first) q (omega arith)
+    (unsigned_tied q first ∙ apart) ∙ contains-before marks (suc first) q (omega arith)
 contains-before (false ∷ marks) first q h = contains-before marks (suc first) q (omega arith)
 
 -- a number from the first on is a place where its mark is set
@@ -23,14 +23,14 @@ contains-places_from [] first k = contains-empty nat_cmp (first + k)
 contains-places_from (true ∷ marks) first zero =
     let same : (first + 0 == first) ≡ true = grind (arith, nat_tests) in
     contains-insert nat_cmp_total _ first (first + 0)
-        ∙ ap (λ (t : Bool). t || contains (from_list {R = nat_cmp} (places_from (suc first) marks)) (first + 0))
-        (unsigned_tied (first + 0) first ∙ same)
+    ∙ ap (λ (t : Bool). t || contains (from_list {R = nat_cmp} (places_from (suc first) marks)) (first + 0))
+    (unsigned_tied (first + 0) first ∙ same)
 contains-places_from (true ∷ marks) first (suc k) =
     let apart : (first + suc k == first) ≡ false = grind (arith, nat_tests) in
     let next : first + suc k ≡ suc first + k = omega arith in
     contains-insert nat_cmp_total _ first (first + suc k)
-        ∙ ap (λ (t : Bool). t || contains (from_list {R = nat_cmp} (places_from (suc first) marks)) (first + suc k))
-        (unsigned_tied (first + suc k) first ∙ apart)
+    ∙ ap (λ (t : Bool). t || contains (from_list {R = nat_cmp} (places_from (suc first) marks)) (first + suc k))
+    (unsigned_tied (first + suc k) first ∙ apart)
     ∙ ap (λ (q : ℕ). contains (from_list {R = nat_cmp} (places_from (suc first) marks)) q) next
     ∙ contains-places_from marks (suc first) k
 contains-places_from (false ∷ marks) first zero = contains-before marks (suc first) (first + 0) (omega arith)

@@ -1,6 +1,6 @@
 -- The segment that decides the places of a sector.
-use Rattle.std.proofs.Common.{◌≡◌, ℕ, zero, suc, ◌+◌, ◌-◌, ◌*◌, Bool, true, false, cond, IsTrue, List, [], ◌∷◌, Option, Some, None, refl,
-    sym, ap, subst, ◌∙◌, arith}
+use Rattle.std.proofs.Common.{◌≡◌, ℕ, zero, suc, ◌+◌, ◌-◌, ◌*◌, Bool, true, false, cond, IsTrue, List, [], ◌∷◌, Option, Some, None, refl}
+use Rattle.std.proofs.Common.{sym, ap, subst, ◌∙◌, arith}
 use Rattle.std.specs.Prelude.{if◌then◌else◌, IsSome, find, option_map, slice_get, unwrap_or}
 use Rattle.std.specs.Option.{option_and_then}
 use Rattle.sector_base.specs.declared.places.At.{At}
@@ -43,7 +43,7 @@ leads_by group lv sector m j spot accepted meets there =
     let leg : ByLeg group m j spot = by_leg group m j spot there in
     let make : On → ℕ → Spot = λ o x. record { on = o; sector = x } in
     let same : make leg.it.on (leg.it.first * group.extent_size + offset_in m.segment.kind m.at) ≡ spot =
-        ap (λ (o : On). make o (leg.it.first * group.extent_size + offset_in m.segment.kind m.at)) leg.on ∙ ap (make spot.on) leg.at in
+    ap (λ (o : On). make o (leg.it.first * group.extent_size + offset_in m.segment.kind m.at)) leg.on ∙ ap (make spot.on) leg.at in
     subst (LeadsOn group lv) same (leads_on group lv sector m j leg.it accepted (meets_is group lv sector m meets) leg.is_leg)
 
 lies_by : (group : Group) (lv : ℕ) (spot : Spot) (below : ℕ) → LeadsOn group lv spot → spot.on ≡ on.Lv below → LiesOn group lv below
@@ -84,16 +84,16 @@ way_moves group (suc most) lv sector m accepted leads is =
     let less : suc most - 1 ≡ most = omega arith in
     let here : way group (on.Lv lv) (suc most) sector ≡ goes.m ∷ way group goes.spot.on most goes.spot.sector =
     way_by group lv sector (suc most) goes.m goes.spot leads goes.meets goes.is_spot
-        ∙ ap (λ (n : ℕ). goes.m ∷ way group goes.spot.on n goes.spot.sector) less in
+    ∙ ap (λ (n : ℕ). goes.m ∷ way group goes.spot.on n goes.spot.sector) less in
     let meets : Meets group lv sector goes.m = meets_is group lv sector goes.m goes.meets in
     let rest : IsSome (down group goes.spot.on most goes.spot.sector) =
-        subst (λ (n : ℕ). IsSome (down group goes.spot.on n goes.spot.sector)) less goes.rest in
+    subst (λ (n : ℕ). IsSome (down group goes.spot.on n goes.spot.sector)) less goes.rest in
     let leg : ℕ = primary_leg goes.m.segment.count goes.m.segment.kind goes.m.at in
     let lies : LeadsOn group lv goes.spot = leads_by group lv sector goes.m leg goes.spot accepted goes.meets goes.is_spot in
     first_moves group lv goes.m m goes.spot.on most goes.spot.sector (moves group goes.m) refl meets.same_lv
-        (λ below there. lies_by group lv goes.spot below lies there)
+    (λ below there. lies_by group lv goes.spot below lies there)
     (λ below there found. way_moves group most below goes.spot.sector m accepted
-        (subst (λ (o : On). IsSome (down group o most goes.spot.sector)) there rest) found)
+    (subst (λ (o : On). IsSome (down group o most goes.spot.sector)) there rest) found)
     (sym (ap (find (moves group)) here) ∙ is)
 
 -- so such a segment decides
@@ -102,9 +102,9 @@ pub moving_decides : (group : Group) (lv sector : ℕ) (m : Met) → IsAccepted 
 unfolding deciding
 moving_decides group lv sector m accepted leads is =
     let moving : leads_to_pvmove group 4 lv ≡ true =
-        (moving_is group lv (accepted Depth)).1 (way_moves group 5 lv sector m accepted leads is) in
+    (moving_is group lv (accepted Depth)).1 (way_moves group 5 lv sector m accepted leads is) in
     ap (λ (b : Bool). cond b (find (is_sought group Move) (way group (on.Lv lv) 5 sector))
-        (find (is_sought group Mirror) (way group (on.Lv lv) 5 sector))) moving ∙ is
+    (find (is_sought group Mirror) (way group (on.Lv lv) 5 sector))) moving ∙ is
 
 -- where there is none, the first mirror does, unless the volume is moving
 pub mirror_decides : (group : Group) (lv sector : ℕ) → find (is_sought group Move) (way group (on.Lv lv) 5 sector) ≡ None
@@ -122,7 +122,7 @@ deciding_is_met group lv sector m leads is =
     let one = the_some (down group (on.Lv lv) 5 sector) leads in
     let on_way : OnWay group (record { on = on.Lv lv; sector = sector }) one.0 m =
     find_if (OnWay group (record { on = on.Lv lv; sector = sector }) one.0) (leads_to_pvmove group 4 lv) (is_sought group Move)
-        (is_sought group Mirror) (way group (on.Lv lv) 5 sector) m
+    (is_sought group Mirror) (way group (on.Lv lv) 5 sector) m
     (way_all group 5 (on.Lv lv) sector one.0 one.1) is in
     (on_way.sector, on_way.meets)
 
@@ -134,4 +134,4 @@ unfolding places
 places_by group lv sector at o is decides =
     let make : At → Option Met → Places = λ a d. record { primary = a; others = others_at group d; mirror = option_and_then mirror_of d } in
     ap (λ (p : Option At). option_map (λ (a : At). make a (deciding group lv sector)) p) is
-        ∙ ap (λ (d : Option Met). Some (make at d)) decides
+    ∙ ap (λ (d : Option Met). Some (make at d)) decides

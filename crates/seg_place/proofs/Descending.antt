@@ -1,6 +1,6 @@
 -- One step of the way down, and what it costs.
-use Rattle.std.proofs.Common.{◌≡◌, ℕ, zero, suc, ◌+◌, ◌-◌, ◌*◌, ◌^◌, ◌<◌, ◌≤◌, List, [], ◌∷◌, length, Option, Some, None, refl, sym, ap,
-    subst, ◌∙◌, arith}
+use Rattle.std.proofs.Common.{◌≡◌, ℕ, zero, suc, ◌+◌, ◌-◌, ◌*◌, ◌^◌, ◌<◌, ◌≤◌, List, [], ◌∷◌, length, Option, Some, None, refl, sym, ap}
+use Rattle.std.proofs.Common.{subst, ◌∙◌, arith}
 use Rattle.std.specs.Prelude.{IsSome, option_map, unwrap_or}
 use Rattle.std.proofs.lemmas.Option.{same_Some}
 use Rattle.sector_base.specs.declared.places.At.{At}
@@ -49,7 +49,7 @@ goes_by group lv sector (suc steps) at is =
       is_spot = goes.is_spot;
       rest =
           subst (λ (n : ℕ). IsSome (down group goes.spot.on n goes.spot.sector)) less
-              (some_is (down group goes.spot.on steps goes.spot.sector) at goes.rest);
+          (some_is (down group goes.spot.on steps goes.spot.sector) at goes.rest);
     }
 
 pub goes_on : (group : Group) (lv sector most : ℕ) → IsSome (down group (on.Lv lv) most sector) → GoesOn group lv sector most
@@ -75,7 +75,7 @@ pub goes_to : (group : Group) (lv sector most : ℕ) (m : Met) (spot : Spot) (at
     → down group (on.Lv lv) most sector ≡ Some at
 goes_to group lv sector most m spot at is meets there rest =
     let some : suc (most - 1) ≡ most =
-        let goes : GoesOn group lv sector most = goes_on group lv sector most is in omega (arith, goes.some) in
+    let goes : GoesOn group lv sector most = goes_on group lv sector most is in omega (arith, goes.some) in
     ap (λ (n : ℕ). down group (on.Lv lv) n sector) (sym some) ∙ step_down group lv sector (most - 1) m spot at meets there rest
 
 -- and meets the segment first
@@ -84,7 +84,7 @@ pub way_by : (group : Group) (lv sector most : ℕ) (m : Met) (spot : Spot) → 
     → way group (on.Lv lv) most sector ≡ m ∷ way group spot.on (most - 1) spot.sector
 way_by group lv sector most m spot is meets there =
     let some : suc (most - 1) ≡ most =
-        let goes : GoesOn group lv sector most = goes_on group lv sector most is in omega (arith, goes.some) in
+    let goes : GoesOn group lv sector most = goes_on group lv sector most is in omega (arith, goes.some) in
     ap (λ (n : ℕ). way group (on.Lv lv) n sector) (sym some) ∙ way_is group lv sector (most - 1) m spot meets there
 
 -- the steps in the volume come before those of the rest
@@ -92,9 +92,11 @@ pub takes_first : (group : Group) (lv sector : ℕ) (m : Met) (rest : List Met) 
     → Halves (segments_in group lv) from mid → TakesSteps group rest mid to → TakesSteps group (m ∷ rest) from to
 takes_first group lv sector m rest from mid to meets first later =
     let is : Meets group lv sector m = meets_is group lv sector m meets in
-    let sum : mid ≡ from + (mid - from) = omega (arith, first.taken) in
-    (mid - from, subst (λ (n : ℕ). 2 ^ (mid - from) ≤ 2 * segments_in group n + 1) (sym is.same_lv) first.few,
-        subst (λ (n : ℕ). TakesSteps group rest n to) sum later)
+    let sum : mid ≡ from + (mid - from) = omega (arith, first.taken) in (
+      mid - from,
+      subst (λ (n : ℕ). 2 ^ (mid - from) ≤ 2 * segments_in group n + 1) (sym is.same_lv) first.few,
+      subst (λ (n : ℕ). TakesSteps group rest n to) sum later,
+    )
 
 -- each sector of a volume leads down to a place, and is small
 pub leads_down : (group : Group) (lv sector : ℕ) → IsAccepted group → sector < sectors_of group lv → IsSome (down group (on.Lv lv) 5 sector)

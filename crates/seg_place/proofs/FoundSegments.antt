@@ -1,6 +1,6 @@
 -- The segment that has a sector's extent is the one that has the sector.
-use Rattle.std.proofs.Common.{◌≡◌, ℕ, zero, suc, ◌+◌, ◌-◌, ◌*◌, ◌/◌, ◌%◌, ◌<◌, ◌≤◌, Bool, true, false, cond, nat_le, nat_lt, List, [], ◌∷◌,
-    length, get_or, Option, Some, refl, sym, ap, subst, ◌∙◌, arith, mul-le-mul_right}
+use Rattle.std.proofs.Common.{◌≡◌, ℕ, zero, suc, ◌+◌, ◌-◌, ◌*◌, ◌/◌, ◌%◌, ◌<◌, ◌≤◌, Bool, true, false, cond, nat_le, nat_lt, List, [], ◌∷◌}
+use Rattle.std.proofs.Common.{length, get_or, Option, Some, refl, sym, ap, subst, ◌∙◌, arith, mul-le-mul_right}
 use Rattle.std.specs.Prelude.{IsSome, slice_get, sum_by, option_map}
 use Rattle.std.specs.Option.{option_and_then}
 use Rattle.std.proofs.lemmas.Bool.{and_from, and_parts, le-leb, lt-ltb, ltb-true}
@@ -31,7 +31,7 @@ follow_to : (at : ℕ) (segments : List Segment) (k : ℕ) (s : Segment) → Fol
 follow_to at [] k s follow is = cc
 follow_to at (x ∷ xs) zero s follow is =
     subst (λ (y : Segment). y.start + y.count ≤ at + sum_by (λ (z : Segment). z.count) (x ∷ xs)) (same_Some x s is)
-        (omega (arith, follow.0, sum_by-cons (λ (z : Segment). z.count) x xs))
+    (omega (arith, follow.0, sum_by-cons (λ (z : Segment). z.count) x xs))
 follow_to at (x ∷ xs) (suc k) s follow is =
     let rest : s.start + s.count ≤ at + x.count + sum_by (λ (z : Segment). z.count) xs = follow_to (at + x.count) xs k s follow.2 is in
     omega (arith, rest, sum_by-cons (λ (z : Segment). z.count) x xs)
@@ -48,10 +48,10 @@ has_it : (extent sector : ℕ) (s : Segment) → 1 ≤ extent → s.start ≤ se
     → has_sector extent sector s ≡ true
 has_it extent sector s some from to =
     let both =
-        inside s.start s.count (sector / extent) extent (sector % extent) sector from to (div-add-mod' sector extent)
-            (mod_below sector extent some) in
+    inside s.start s.count (sector / extent) extent (sector % extent) sector from to (div-add-mod' sector extent)
+    (mod_below sector extent some) in
     and_from (nat_le (s.start * extent) sector) (nat_lt sector ((s.start + s.count) * extent)) (le-leb (s.start * extent) sector both.0)
-        (lt-ltb sector ((s.start + s.count) * extent) both.1)
+    (lt-ltb sector ((s.start + s.count) * extent) both.1)
 
 -- and in none that ends before
 not_yet : (extent sector : ℕ) (s : Segment) → 1 ≤ extent → s.start + s.count ≤ sector / extent → has_sector extent sector s ≡ false
@@ -71,11 +71,11 @@ pub found_at : (extent sector number at : ℕ) (segments : List Segment) (k : �
 found_at extent sector number at [] k s some follow is from to = cc
 found_at extent sector number at (x ∷ xs) zero s some follow is from to =
     let test : has_sector extent sector x ≡ true =
-        subst (λ (y : Segment). has_sector extent sector y ≡ true) (sym (same_Some x s is)) (has_it extent sector s some from to) in
+    subst (λ (y : Segment). has_sector extent sector y ≡ true) (sym (same_Some x s is)) (has_it extent sector s some from to) in
     let place : ℕ → Segment → Option (ℕ × Segment) = λ n y. Some (n, y) in
     let number' : number ≡ number + 0 = omega arith in
     ap (λ (b : Bool). cond b (place number x) (segment_from extent sector (number + 1) xs)) test ∙ ap (place number) (same_Some x s is)
-        ∙ ap (λ (n : ℕ). place n s) number'
+    ∙ ap (λ (n : ℕ). place n s) number'
 found_at extent sector number at (x ∷ xs) (suc k) s some follow is from to =
     let later : at + x.count ≤ s.start = follow_from (at + x.count) xs k s follow.2 is in
     let start : x.start ≡ at = follow.0 in
@@ -83,7 +83,7 @@ found_at extent sector number at (x ∷ xs) (suc k) s some follow is from to =
     let place : ℕ → Segment → Option (ℕ × Segment) = λ n y. Some (n, y) in
     let number' : number + 1 + k ≡ number + suc k = omega arith in
     ap (λ (b : Bool). cond b (place number x) (segment_from extent sector (number + 1) xs)) test
-        ∙ found_at extent sector (number + 1) (at + x.count) xs k s some follow.2 is from to ∙ ap (λ (n : ℕ). place n s) number'
+    ∙ found_at extent sector (number + 1) (at + x.count) xs k s some follow.2 is from to ∙ ap (λ (n : ℕ). place n s) number'
 
 -- so it is met
 pub met_at : (group : Group) (lv sector : ℕ) (volume : List ℕ × Lv) (number : ℕ) (s : Segment) → IsAccepted group
@@ -93,11 +93,11 @@ pub met_at : (group : Group) (lv sector : ℕ) (volume : List ℕ × Lv) (number
 unfolding met
 met_at group lv sector volume number s accepted is there from to =
     let found =
-        found_at group.extent_size sector 0 0 volume.1.segments number s (omega (arith, extent_is_some group accepted))
-            (lv_is_well group lv volume accepted is).follow there from to in
+    found_at group.extent_size sector 0 0 volume.1.segments number s (omega (arith, extent_is_some group accepted))
+    (lv_is_well group lv volume accepted is).follow there from to in
     let number' : 0 + number ≡ number = omega arith in
     ap (λ (o : Option (List ℕ × Lv)). option_and_then
-        (λ (v : List ℕ × Lv). option_map (make group lv sector) (segment_from group.extent_size sector 0 v.1.segments)) o) is
+    (λ (v : List ℕ × Lv). option_map (make group lv sector) (segment_from group.extent_size sector 0 v.1.segments)) o) is
     ∙ ap (λ (o : Option (ℕ × Segment)). option_map (make group lv sector) o) found
     ∙ ap (λ (n : ℕ). Some (make group lv sector (n, s))) number'
 
@@ -107,12 +107,15 @@ pub meets_within : (group : Group) (lv sector : ℕ) (m : Met) → IsAccepted gr
 meets_within group lv sector m accepted is =
     let meets : Meets group lv sector m = meets_is group lv sector m is in
     let ends : m.segment.start + m.segment.count ≤ 0 + extents_of meets.volume.1 =
-        follow_to 0 meets.volume.1.segments m.number m.segment (lv_is_well group lv meets.volume accepted meets.is_volume).follow
-            meets.is_segment in
+    follow_to 0 meets.volume.1.segments m.number m.segment (lv_is_well group lv meets.volume accepted meets.is_volume).follow
+    meets.is_segment in
     let high : (m.segment.start + m.segment.count) * group.extent_size ≤ extents_of meets.volume.1 * group.extent_size =
-        mul-le-mul_right group.extent_size (omega (arith, ends)) in
-    (meets.volume, meets.is_volume, div_below sector group.extent_size (extents_of meets.volume.1)
-        (omega (arith, extent_is_some group accepted)) (omega (arith, meets.at, meets.within)))
+    mul-le-mul_right group.extent_size (omega (arith, ends)) in (
+      meets.volume,
+      meets.is_volume,
+      div_below sector group.extent_size (extents_of meets.volume.1)
+          (omega (arith, extent_is_some group accepted)) (omega (arith, meets.at, meets.within)),
+    )
 
 -- so does one that meets a segment of this volume
 pub volume_within : (group : Group) (lv sector : ℕ) (volume : List ℕ × Lv) → IsAccepted group → IsSome (met group lv sector)
@@ -143,15 +146,15 @@ is_found_at group lv sector volume segments number s accepted is same has read =
     let within : number < length segments = slice_get_within segments number has.0 has.1 in
     let here : s ≡ has.0 = read within ∙ get_or_from_slice_get segments number has.0 s has.1 in
     let there : slice_get volume.1.segments number ≡ Some s =
-        ap (λ (l : List Segment). slice_get l number) (sym same) ∙ has.1 ∙ ap (λ (x : Segment). Some x) (sym here) in
+    ap (λ (l : List Segment). slice_get l number) (sym same) ∙ has.1 ∙ ap (λ (x : Segment). Some x) (sym here) in
     let from : s.start ≤ sector / group.extent_size = subst (λ (x : Segment). x.start ≤ sector / group.extent_size) (sym here) has.2 in
     let to : sector / group.extent_size < s.start + s.count =
-        subst (λ (x : Segment). sector / group.extent_size < x.start + x.count) (sym here) has.3 in
+    subst (λ (x : Segment). sector / group.extent_size < x.start + x.count) (sym here) has.3 in
     let some : 1 ≤ group.extent_size = omega (arith, extent_is_some group accepted) in
     record {
       few = omega (arith, slice_get_within volume.1.segments number s there, (lv_is_well group lv volume accepted is).few);
       begins =
           (inside s.start s.count (sector / group.extent_size) group.extent_size (sector % group.extent_size) sector from to
-              (div-add-mod' sector group.extent_size) (mod_below sector group.extent_size some)).0;
+          (div-add-mod' sector group.extent_size) (mod_below sector group.extent_size some)).0;
       meets = met_at group lv sector volume number s accepted is there from to;
     }

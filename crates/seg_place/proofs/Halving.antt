@@ -1,6 +1,6 @@
 -- Halving the segments that may have an extent.
-use Rattle.std.proofs.Common.{◌≡◌, ℕ, zero, suc, ◌+◌, ◌-◌, ◌*◌, ◌^◌, ◌<◌, ◌≤◌, List, [], ◌∷◌, length, get_or, Some, None, ◌⊎◌, inl, inr,
-    sym, ap, subst, ◌∙◌, arith, mul-le-mul_left}
+use Rattle.std.proofs.Common.{◌≡◌, ℕ, zero, suc, ◌+◌, ◌-◌, ◌*◌, ◌^◌, ◌<◌, ◌≤◌, List, [], ◌∷◌, length, get_or, Some, None, ◌⊎◌, inl, inr}
+use Rattle.std.proofs.Common.{sym, ap, subst, ◌∙◌, arith, mul-le-mul_left}
 use Rattle.std.specs.Prelude.{slice_get, sum_by}
 use Rattle.std.proofs.lemmas.Option.{same_Some, slice_get_cases, slice_get_within}
 use Rattle.std.proofs.lemmas.List.Sums.{sum_by-cons}
@@ -67,11 +67,11 @@ follow_last : (at : ℕ) (segments : List Segment) (k : ℕ) (s : Segment) → F
 follow_last at [] k s follow is last = cc
 follow_last at (x ∷ []) zero s follow is last =
     subst (λ (y : Segment). y.start + y.count ≡ at + sum_by (λ (z : Segment). z.count) (x ∷ [])) (same_Some x s is)
-        (omega (arith, follow.0, sum_by-cons (λ (z : Segment). z.count) x []))
+    (omega (arith, follow.0, sum_by-cons (λ (z : Segment). z.count) x []))
 follow_last at (x ∷ y ∷ xs) zero s follow is last = absurd (omega arith)
 follow_last at (x ∷ xs) (suc k) s follow is last =
     let rest : s.start + s.count ≡ at + x.count + sum_by (λ (z : Segment). z.count) xs =
-        follow_last (at + x.count) xs k s follow.2 is (omega arith) in
+    follow_last (at + x.count) xs k s follow.2 is (omega arith) in
     omega (arith, rest, sum_by-cons (λ (z : Segment). z.count) x xs)
 
 -- what is there at the start
@@ -132,5 +132,5 @@ one_left segments extent low high follow within between one = at_place (slice_ge
       ends (inr past) = omega (arith, follow_last 0 segments low here.0 follow here.2 past.0)
       ends (inl next) =
           let later : extent < next.0.start =
-              between.ahead next.0 (subst (λ (k : ℕ). slice_get segments k ≡ Some next.0) (omega (arith, between.order)) next.2) in
+          between.ahead next.0 (subst (λ (k : ℕ). slice_get segments k ≡ Some next.0) (omega (arith, between.order)) next.2) in
           omega (arith, later, follow_next 0 segments low here.0 next.0 follow here.2 next.2)

@@ -1,6 +1,6 @@
 -- Marks after rounds over the legs tell which volumes are moving.
-use Rattle.std.proofs.Common.{◌≡◌, ℕ, zero, suc, ◌+◌, ◌<◌, ◌≤◌, Bool, true, false, ◌||◌, List, [], ◌∷◌, length, Option, Some, inl, inr,
-    refl, sym, ap, ◌∙◌, arith, length-set}
+use Rattle.std.proofs.Common.{◌≡◌, ℕ, zero, suc, ◌+◌, ◌<◌, ◌≤◌, Bool, true, false, ◌||◌, List, [], ◌∷◌, length, Option, Some, inl, inr}
+use Rattle.std.proofs.Common.{refl, sym, ap, ◌∙◌, arith, length-set}
 use Rattle.std.specs.Prelude.{filter_map, option_map, replicate, slice_get, slice_set, unwrap_or}
 use Rattle.std.specs.List.{cons_option, flat_map, list_any}
 use Rattle.std.proofs.Math.Path.{fun_ext}
@@ -43,7 +43,7 @@ pub leads_after : (group : Group) (steps lv : ℕ) → marked_after group (suc s
 leads_after group zero lv = ap (λ (b : Bool). has_pvmove group lv || b) (none_any (named_by group lv)) ∙ or_false (has_pvmove group lv)
 leads_after group (suc steps) lv =
     ap (λ (b : Bool). has_pvmove group lv || b)
-        (any_same (marked_after group (suc steps)) (leads_to_pvmove group steps) (leads_after group steps) (named_by group lv))
+    (any_same (marked_after group (suc steps)) (leads_to_pvmove group steps) (leads_after group steps) (named_by group lv))
 
 -- a round more
 pub after_more : (group : Group) (marks above : List Bool) (rounds : ℕ) → ((lv : ℕ) → is_marked marks lv ≡ marked_after group rounds lv)
@@ -51,7 +51,7 @@ pub after_more : (group : Group) (marks above : List Bool) (rounds : ℕ) → ((
 after_more group marks above rounds old new lv =
     let more : suc rounds ≡ rounds + 1 = omega arith in
     new lv ∙ ap (λ (b : Bool). has_pvmove group lv || b) (any_same (is_marked marks) (marked_after group rounds) old (named_by group lv))
-        ∙ ap (λ (n : ℕ). marked_after group n lv) more
+    ∙ ap (λ (n : ℕ). marked_after group n lv) more
 
 -- no mark
 pub none_marked : (n lv : ℕ) → is_marked (replicate n false) lv ≡ false
@@ -76,8 +76,8 @@ pub none_leads : (group : Group) → ((lv : ℕ) → has_pvmove group lv ≡ fal
 none_leads group none zero lv = none lv
 none_leads group none (suc steps) lv =
     ap (λ (b : Bool). b || list_any (leads_to_pvmove group steps) (named_by group lv)) (none lv)
-        ∙ any_same (leads_to_pvmove group steps) (λ (x : ℕ). false) (none_leads group none steps) (named_by group lv)
-        ∙ none_any (named_by group lv)
+    ∙ any_same (leads_to_pvmove group steps) (λ (x : ℕ). false) (none_leads group none steps) (named_by group lv)
+    ∙ none_any (named_by group lv)
 
 -- a volume by its row, and one that isn't there
 pub pvmove_at : (group : Group) (lv : ℕ) (volume : List ℕ × Lv) → slice_get group.lvs lv ≡ Some volume
@@ -88,7 +88,7 @@ pvmove_at group lv volume is =
 pub pvmove_past : (group : Group) (lv : ℕ) → length group.lvs ≤ lv → has_pvmove group lv ≡ false
 pvmove_past group lv past =
     ap (λ (o : Option (List ℕ × Lv)). unwrap_or (option_map (λ (row : List ℕ × Lv). row.1.status.pvmove) o) false)
-        (slice_get_past group.lvs lv past)
+    (slice_get_past group.lvs lv past)
 
 -- what the legs of a volume name
 abbrev in_segments : List Segment → List ℕ
@@ -102,7 +102,7 @@ named_at group lv volume is =
 named_past : (group : Group) (lv : ℕ) → length group.lvs ≤ lv → named_by group lv ≡ []
 named_past group lv past =
     ap (λ (o : Option (List ℕ × Lv)). in_segments (unwrap_or (option_map (λ (row : List ℕ × Lv). row.1.segments) o) []))
-        (slice_get_past group.lvs lv past)
+    (slice_get_past group.lvs lv past)
 
 -- is marked where one of the legs lies on a marked volume
 any_leg : (marks : List Bool) (legs : List Leg)
@@ -151,13 +151,13 @@ set_there : (above : List Bool) (number lv : ℕ) (mark : Bool) → number < len
     → is_marked (slice_set above number mark) lv ≡ mark
 set_there above number lv mark lt same =
     ap (is_marked (slice_set above number mark)) same ∙ unwrap_or-slice_get (slice_set above number mark) number false
-        ∙ get_or-set_same above number mark false lt
+    ∙ get_or-set_same above number mark false lt
 
 set_beside : (above : List Bool) (number lv : ℕ) (mark : Bool) → (lv ≡ number → ⊥)
     → is_marked (slice_set above number mark) lv ≡ is_marked above lv
 set_beside above number lv mark other =
     unwrap_or-slice_get (slice_set above number mark) lv false ∙ get_or-set_other above number lv mark false other
-        ∙ sym (unwrap_or-slice_get above lv false)
+    ∙ sym (unwrap_or-slice_get above lv false)
 
 -- one volume more
 pub has_marked_more : (group : Group) (marks above : List Bool) (number : ℕ) (volume : List ℕ × Lv) (mark : Bool)

@@ -1,6 +1,6 @@
 -- The other legs of a mirror, one after another.
-use Rattle.std.proofs.Common.{◌≡◌, ℕ, zero, suc, ◌+◌, ◌*◌, ◌/◌, ◌≤◌, Bool, true, false, cond, List, [], ◌∷◌, ◌++◌, length, drop, Option,
-    Some, None, refl, sym, ap, ◌∙◌, arith, append_assoc, append-nil, drop-cons}
+use Rattle.std.proofs.Common.{◌≡◌, ℕ, zero, suc, ◌+◌, ◌*◌, ◌/◌, ◌≤◌, Bool, true, false, cond, List, [], ◌∷◌, ◌++◌, length, drop, Option}
+use Rattle.std.proofs.Common.{Some, None, refl, sym, ap, ◌∙◌, arith, append_assoc, append-nil, drop-cons}
 use Rattle.std.specs.Prelude.{◌==◌, if◌then◌else◌, IsSome, filter_map, option_map, slice_get}
 use Rattle.std.specs.List.{cons_option, enumerate_from}
 use Rattle.std.proofs.lemmas.Bool.{ne_eqb}
@@ -61,7 +61,7 @@ others_first group m is = from_second (legs_of m.segment.kind) where
   from_second (leg ∷ legs) =
       let place : Option At = down group leg.on 5 (leg.first * group.extent_size + offset_in m.segment.kind m.at) in
       ap (λ (p : ℕ). cons_option (if 0 == p then None else place) (filter_map (other_at group m) (enumerate_from 1 legs)))
-          (sym (first_is_read m is))
+      (sym (first_is_read m is))
 
 -- a leg, and then those behind it
 pub others_next : (group : Group) (m : Met) (number : ℕ) (leg : Leg) (at : At) → IsSome (mirror_of m) → 1 ≤ number
@@ -75,7 +75,7 @@ others_next group m number leg at is later there leads =
     ∙ ap (λ (l : Leg). l ∷ drop (suc number) legs) (get_or_from_slice_get legs number leg leg there)
     ∙ ap (λ (n : ℕ). leg ∷ drop n legs) (suc_one number) in
     let test : (number == primary_leg m.segment.count m.segment.kind m.at) ≡ false =
-        ne_eqb number (primary_leg m.segment.count m.segment.kind m.at) (λ same. omega (arith, same, first_is_read m is)) in
+    ne_eqb number (primary_leg m.segment.count m.segment.kind m.at) (λ same. omega (arith, same, first_is_read m is)) in
     ap (λ (l : List Leg). filter_map (other_at group m) (enumerate_from number l)) here
     ∙ ap (λ (b : Bool). cons_option (cond b None (down group leg.on 5 (leg.first * group.extent_size + offset_in m.segment.kind m.at)))
     (others_from group m (number + 1))) test
@@ -98,9 +98,9 @@ others_more group m number spot at others whole is later there leads so_far =
     let leg : ByLeg group m number spot = by_leg group m number spot there in
     let goes : down group leg.it.on 5 (leg.it.first * group.extent_size + offset_in m.segment.kind m.at) ≡ Some at =
     ap (λ (o : On). down group o 5 (leg.it.first * group.extent_size + offset_in m.segment.kind m.at)) leg.on
-        ∙ ap (down group spot.on 5) leg.at ∙ leads in
+    ∙ ap (down group spot.on 5) leg.at ∙ leads in
     append_assoc others (at ∷ []) (others_from group m (number + 1))
-        ∙ ap (λ (l : List At). others ++ l) (sym (others_next group m number leg.it at is later leg.is_leg goes)) ∙ so_far
+    ∙ ap (λ (l : List At). others ++ l) (sym (others_next group m number leg.it at is later leg.is_leg goes)) ∙ so_far
 
 -- behind the last leg there are none
 drop_past : (legs : List Leg) (n : ℕ) → length legs ≤ n → drop n legs ≡ []
@@ -113,7 +113,7 @@ pub others_all : (group : Group) (m : Met) (number : ℕ) (others whole : List A
     → others ++ others_from group m number ≡ whole → others ≡ whole
 others_all group m number others whole past so_far =
     let none : others_from group m number ≡ [] =
-        ap (λ (l : List Leg). filter_map (other_at group m) (enumerate_from number l)) (drop_past (legs_of m.segment.kind) number past) in
+    ap (λ (l : List Leg). filter_map (other_at group m) (enumerate_from number l)) (drop_past (legs_of m.segment.kind) number past) in
     sym (append-nil others) ∙ ap (λ (l : List At). others ++ l) (sym none) ∙ so_far
 
 -- a segment has eight legs at most

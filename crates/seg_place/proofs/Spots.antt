@@ -1,6 +1,6 @@
 -- Where legs have sectors.
-use Rattle.std.proofs.Common.{◌≡◌, ℕ, ◌+◌, ◌*◌, ◌/◌, ◌^◌, ◌<◌, ◌≤◌, Bool, true, false, cond, List, length, get_or, Option, Some, inl, inr,
-    sym, ap, subst, arith}
+use Rattle.std.proofs.Common.{◌≡◌, ℕ, ◌+◌, ◌*◌, ◌/◌, ◌^◌, ◌<◌, ◌≤◌, Bool, true, false, cond, List, length, get_or, Option, Some, inl, inr}
+use Rattle.std.proofs.Common.{sym, ap, subst, arith}
 use Rattle.std.specs.Prelude.{slice_get, option_map}
 use Rattle.std.proofs.lemmas.Bool.{cases_eq}
 use Rattle.std.proofs.lemmas.Nat.{mod_below}
@@ -52,7 +52,7 @@ pub leg_small : (group : Group) (m : Met) (j : ℕ) (leg : Leg) → IsAccepted g
     → slice_get (legs_of m.segment.kind) j ≡ Some leg → leg.first * group.extent_size + offset_in m.segment.kind m.at < 2 ^ 48
 leg_small group m j leg accepted is there =
     small_spot group m.lv (spot_in group.extent_size (offset_in m.segment.kind m.at) leg) accepted
-        (leads_on group m.lv is.0 m j leg accepted (meets_is group m.lv is.0 m is.1) there)
+    (leads_on group m.lv is.0 m j leg accepted (meets_is group m.lv is.0 m is.1) there)
 
 -- and the leg has it there
 pub leg_there : (extent : ℕ) (m : Met) (j : ℕ) (leg : Leg) → slice_get (legs_of m.segment.kind) j ≡ Some leg
@@ -64,4 +64,4 @@ leg_there extent m j leg is = ap (λ (o : Option Leg). option_map (spot_in exten
 pub leg_read : (found legs : List Leg) (k : ℕ) (d : Leg) → found ≡ legs → k < length legs → slice_get legs k ≡ Some (get_or found k d)
 leg_read found legs k d same lt =
     subst (λ (l : List Leg). slice_get l k ≡ Some (get_or found k d)) same
-        (slice_get-get_or found k d (subst (λ (l : List Leg). k < length l) (sym same) lt))
+    (slice_get-get_or found k d (subst (λ (l : List Leg). k < length l) (sym same) lt))

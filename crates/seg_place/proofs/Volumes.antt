@@ -23,8 +23,8 @@ pub lv_is_well : (group : Group) (lv : ℕ) (volume : List ℕ × Lv) → IsAcce
     → IsWell group volume.1
 lv_is_well group lv volume accepted is =
     let follows =
-        all_at (λ (v : List ℕ × Lv). Follow 0 v.1.segments × (extents_of v.1 * group.extent_size < 2 ^ 48)) group.lvs lv volume
-            (accepted Follows) is in
+    all_at (λ (v : List ℕ × Lv). Follow 0 v.1.segments × (extents_of v.1 * group.extent_size < 2 ^ 48)) group.lvs lv volume
+    (accepted Follows) is in
     let numbers : NumbersAreAllowed group = accepted Numbers in
     let segments : SegmentsAreFew group = accepted Segments in
     record {
@@ -57,7 +57,7 @@ pub sectors_of_none : (group : Group) (lv : ℕ) → length group.lvs ≤ lv →
 unfolding sectors_of
 sectors_of_none group lv past =
     ap (λ (o : Option (List ℕ × Lv)). unwrap_or (option_map (λ (v : List ℕ × Lv). extents_of v.1 * group.extent_size) o) 0)
-        (slice_get_past group.lvs lv past)
+    (slice_get_past group.lvs lv past)
 
 pub segments_in_one : (group : Group) (lv : ℕ) (volume : List ℕ × Lv) → slice_get group.lvs lv ≡ Some volume
     → segments_in group lv ≡ length volume.1.segments

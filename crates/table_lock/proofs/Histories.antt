@@ -1,12 +1,12 @@
 -- Histories that go on.
-use Rattle.std.proofs.Common.{◌≡◌, ℕ, zero, suc, Bool, true, false, List, [], ◌∷◌, ◌++◌, refl, ap, sym, ◌∙◌, subst, append_assoc, Option,
-    Some, None, unwrap_or, replicate}
+use Rattle.std.proofs.Common.{◌≡◌, ℕ, zero, suc, Bool, true, false, List, [], ◌∷◌, ◌++◌, refl, ap, sym, ◌∙◌, subst, append_assoc, Option}
+use Rattle.std.proofs.Common.{Some, None, unwrap_or, replicate}
 use Rattle.std.specs.Option.{option_map_or}
 use mathlib.Core.List.{IsPrefix}
 use Rattle.table_lock.specs.declared.event.LockEvent.{LockEvent}
 use Rattle.table_lock.specs.declared.event.LockEvent.TheVariants.{Given, Taken, Missed}
-use Rattle.table_lock.specs.History.{turn_after, value_after, last_value, IsOpenedWith, story_at, Continues, IsLegalFrom, IsLegal, Adds,
-    GivesBack}
+use Rattle.table_lock.specs.History.{turn_after, value_after, last_value, IsOpenedWith, story_at, Continues, IsLegalFrom, IsLegal, Adds}
+use Rattle.table_lock.specs.History.{GivesBack}
 use Rattle.table_lock.proofs.Prefixes.{prefix_self, prefix_trans}
 
 module _ {T : Type 0} where
@@ -38,9 +38,11 @@ module _ {T O E : Type 0} (origin : T → O) (story : T → List E) where
   legal-append turn last [] ys h more = more
   legal-append turn last (Given value ∷ xs) ys h more = (h.0, h.1, legal-append false (Some value) xs ys h.2 more)
   legal-append turn last (Taken ∷ xs) ys h more = (h.0, legal-append true last xs ys h.1 more)
-  legal-append turn last (Missed ∷ xs) ys h more =
-      (h.0, legal-append true last xs ys h.1 (subst (λ (b : Bool). IsLegalFrom origin story (turn_after b xs) (value_after last xs) ys) h.0
-          more))
+  legal-append turn last (Missed ∷ xs) ys h more = (
+    h.0,
+    legal-append true last xs ys h.1 (subst (λ (b : Bool). IsLegalFrom origin story (turn_after b xs) (value_after last xs) ys) h.0
+        more),
+  )
 
   pub legal_front : (turn : Bool) (last : Option T) (xs ys : List (LockEvent T)) → IsLegalFrom origin story turn last (xs ++ ys)
       → IsLegalFrom origin story turn last xs
@@ -95,7 +97,7 @@ module _ {T O E : Type 0} (origin : T → O) (story : T → List E) where
       let l : IsLegal origin story (xs ++ p.0) = subst (λ (l : List (LockEvent T)). IsLegal origin story l) (sym p.1) h in
       let r = story_grows (turn_after true xs) (value_after None xs) p.0 (legal_rest true None xs p.0 l) in
       subst (λ (l : Option T). IsPrefix (story_at story xs) (option_map_or story l [])) (sym (value-append None xs p.0) ∙ ap last_value p.1)
-          r
+      r
 
   pub adds_longer : (before after : List (LockEvent T)) (e : LockEvent T) → Adds origin story before e after → IsPrefix before after
   adds_longer before after e a = (a.between ++ e ∷ [], sym (append_assoc before a.between (e ∷ [])) ∙ sym a.is)

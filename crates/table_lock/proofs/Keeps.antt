@@ -1,6 +1,7 @@
 -- Each step keeps the rule.
-use Rattle.std.proofs.Common.{◌≡◌, ℕ, ◌+◌, ◌<◌, ◌≤◌, ◌⊎◌, inl, inr, ⊎_elim, Bool, true, false, eqb, List, [], ◌∷◌, ◌++◌, length, get_or,
-    set, sym, refl, ap, ◌∙◌, subst, arith, eq-eqb, ne_eqb, Option, Some, None, unwrap_or, replicate, length-append}
+use Rattle.std.proofs.Common.{◌≡◌, ℕ, ◌+◌, ◌<◌, ◌≤◌, ◌⊎◌, inl, inr, ⊎_elim, Bool, true, false, eqb, List, [], ◌∷◌, ◌++◌, length, get_or}
+use Rattle.std.proofs.Common.{set, sym, refl, ap, ◌∙◌, subst, arith, eq-eqb, ne_eqb, Option, Some, None, unwrap_or, replicate}
+use Rattle.std.proofs.Common.{length-append}
 use mathlib.Core.Logic.{dite}
 use mathlib.Core.Option.{none, some, some-ne-none, some-injective}
 use mathlib.Core.List.{IsPrefix}
@@ -8,8 +9,8 @@ use native.Mathlib.Decide.{ℕ_discrete, dec_le}
 use lib.ListN.{get_elem?}
 use prog.Atomic.{either}
 use Rattle.std.specs.Option.{option_map_or}
-use Rattle.atomic_table.specs.Table.{State, Me, rest, step, Act, Valid, carried_after, keeps, takes, gives, stepped, Allows, Splits, Joins,
-    opening, Final, Seen}
+use Rattle.atomic_table.specs.Table.{State, Me, rest, step, Act, Valid, carried_after, keeps, takes, gives, stepped, Allows, Splits, Joins}
+use Rattle.atomic_table.specs.Table.{opening, Final, Seen}
 use Rattle.atomic_table.proofs.Lists.{set_here, set_else}
 use Rattle.table_lock.specs.declared.event.LockEvent.{LockEvent}
 use Rattle.table_lock.specs.declared.event.LockEvent.TheVariants.{Given, Taken, Missed}
@@ -20,8 +21,9 @@ use Rattle.table_lock.specs.Rule.{IsKnown, IsKept, Takes, FreesTurn, Frees, Sett
 use Rattle.table_lock.proofs.Prefixes.{prefix_self, prefix_shorter, prefix_both, prefix_of_nothing}
 use Rattle.table_lock.proofs.Totals.{total-set, total-snoc, total-two, some_one}
 use Rattle.table_lock.proofs.Histories.{turn-append, value-append, value_kept, legal-append, prefix_legal, last_origin}
-use Rattle.table_lock.proofs.Views.{weight_none, weight_one, weight_most, at_here, Begins, Knows, each_set, each_snoc, each_longer,
-    spent_set, spent_snoc, held_set, held_snoc, none_held, known_here, known_set, known_snoc, has_seen, since_miss}
+use Rattle.table_lock.proofs.Views.{weight_none, weight_one, weight_most, at_here, Begins, Knows, each_set, each_snoc, each_longer}
+use Rattle.table_lock.proofs.Views.{spent_set, spent_snoc, held_set, held_snoc, none_held, known_here, known_set, known_snoc, has_seen}
+use Rattle.table_lock.proofs.Views.{since_miss}
 
 value_in : {T : Type 0} → Option T → List (ℕ × Option T) → Option T
 value_in d [] = d
@@ -80,7 +82,7 @@ module _ {T O E : Type 0} (origin : T → O) (story : T → List E) where
       → IsKept origin story (opening (0 ∷ []) xs (first_view key))
   opens_with key value xs same items =
       subst (λ (ys : List (Option T)). IsKept origin story (opening (0 ∷ []) ys (first_view key)))
-          (ap (λ (x : T). Some x ∷ []) same ∙ sym items) (opens key)
+      (ap (λ (x : T). Some x ∷ []) same ∙ sym items) (opens key)
 
   word_is : (s : St) → (k : IsKept origin story s) → get_or s.words 0 0 ≡ weight (is_taken k.history)
   word_is s k = ap (λ ws. get_or ws 0 0) k.word
@@ -128,8 +130,10 @@ module _ {T O E : Type 0} (origin : T → O) (story : T → List E) where
   begins_more s k id v e w at seen told =
       let more : H = k.history ++ e ∷ [] in
       let all = each_longer s.views k.history more k.begins (e ∷ [], refl) in
-      each_set s.views id w more all (subst (λ (l : H). IsPrefix l more) (sym seen) (prefix_self more),
-          subst (λ (l : H). IsPrefix l more) (sym told) (all id v at).1)
+      each_set s.views id w more all (
+        subst (λ (l : H). IsPrefix l more) (sym seen) (prefix_self more),
+        subst (λ (l : H). IsPrefix l more) (sym told) (all id v at).1,
+      )
 
   -- the turn was free
   won : (s : St) (id : ℕ) (m : M) → (k : IsKept origin story s) → 0 < m.0.parts → m.0.has_turn ≡ false → get_elem? s.views id ≡ some m.0
@@ -256,10 +260,10 @@ module _ {T O E : Type 0} (origin : T → O) (story : T → List E) where
       let since = k.held id v at has in
       let r = last_origin origin story first v.history opening (prefix_legal origin story v.history k.history p k.legal) in
       let same : last_value k.history ≡ Some r.0 =
-          ap last_value since.1 ∙ (value-append None v.history (replicate since.0 Missed)
-              ∙ (value_kept (last_value v.history) since.0 ∙ r.1)) in
+      ap last_value since.1 ∙ (value-append None v.history (replicate since.0 Missed)
+      ∙ (value_kept (last_value v.history) since.0 ∙ r.1)) in
       let grows : IsPrefix (story r.0) (story value) =
-          subst (λ (l : Option T). IsPrefix (option_map_or story l []) (story value)) r.1 longer in
+      subst (λ (l : Option T). IsPrefix (option_map_or story l []) (story value)) r.1 longer in
       let one : Continues origin story r.0 value = record { same = from ∙ sym r.2; longer = grows } in
       subst (λ (l : Option T). Follows origin story l value) (sym same) one
 
@@ -282,8 +286,8 @@ module _ {T O E : Type 0} (origin : T → O) (story : T → List E) where
       let empty : turns (set s.views id w) ≡ 0 = omega arith in
       let long = length-append h (Given value ∷ []) in
       let legal =
-          legal-append origin story true None h (Given value ∷ []) k.legal
-              (out, follows s k id m.0 first value at has opening from longer, tt) in
+      legal-append origin story true None h (Given value ∷ []) k.legal
+      (out, follows s k id m.0 first value at has opening from longer, tt) in
       let since = k.held id m.0 at has in
       let moved = k.moves in let whole = k.parts in
       let Kept : List (ℕ × Option T) → Type 0 = λ c. IsKept origin story (stepped s 0 0 id c w gives) in (
@@ -344,15 +348,19 @@ module _ {T O E : Type 0} (origin : T → O) (story : T → List E) where
       let both : V = joined_views v w in
       let mid : List V = set views id both in
       let here : get_elem? (set mid other spent_view) id ≡ some both =
-          set_else mid other id spent_view (λ e. apart (sym e)) ∙ at_here views id v both at in
+      set_else mid other id spent_view (λ e. apart (sym e)) ∙ at_here views id v both at in
       dite (ℕ_discrete known.0 other)
       (λ e. let same : known.1 ≡ w = some-injective known.1 w (sym known.2 ∙ (ap (λ (j : ℕ). get_elem? views j) e ∙ there)) in
       (id, both, here, inr (has_seen w h untold' theirs (subst (λ (x : V). Knows x h) same known.3))))
       (λ not_other. dite (ℕ_discrete known.0 id)
       (λ e. let same : known.1 ≡ v = some-injective known.1 v (sym known.2 ∙ (ap (λ (j : ℕ). get_elem? views j) e ∙ at)) in
       (id, both, here, inl (has_seen v h untold own (subst (λ (x : V). Knows x h) same known.3))))
-      (λ not_id. (known.0, known.1, set_else mid other known.0 spent_view not_other ∙ (set_else views id known.0 both not_id ∙ known.2),
-          known.3)))
+      (λ not_id. (
+        known.0,
+        known.1,
+        set_else mid other known.0 spent_view not_other ∙ (set_else views id known.0 both not_id ∙ known.2),
+        known.3,
+      )))
 
   pub joins : (id : ℕ) (v : V) (other : ℕ) (w : V) → 0 < v.parts → v.has_turn ≡ false → w.has_turn ≡ false → v.told ≡ [] → w.told ≡ []
       → Joins (IsKept origin story) id v other w (joined_views v w) spent_view
@@ -384,7 +392,7 @@ module _ {T O E : Type 0} (origin : T → O) (story : T → List E) where
         parts = omega arith;
         spent =
             spent_set mid other spent_view (spent_set s.views id both k.spent (λ e. absurd (omega arith)))
-                (λ _. record { idle = refl; unseen = refl; untold = refl });
+            (λ _. record { idle = refl; unseen = refl; untold = refl });
       }
 
   -- a seat that was told a history keeps the longer one
@@ -410,7 +418,7 @@ module _ {T O E : Type 0} (origin : T → O) (story : T → List E) where
           begins = each_set s.views id w h k.begins (below, (h, refl));
           known = known_set s.views id m.0 w h at
               (⊎_elim (λ e. inl (prefix_both both h below (subst (λ (l : H). IsPrefix l both) e own)))
-                  (λ e. inl (prefix_both both h below (subst (λ (l : H). IsPrefix l both) e told)))) k.known;
+              (λ e. inl (prefix_both both h below (subst (λ (l : H). IsPrefix l both) e told)))) k.known;
           moves = omega arith;
           word = word_set s (get_or s.words 0 0) (is_taken h) k (word_is s k);
           turn = same ∙ k.turn;
@@ -419,7 +427,7 @@ module _ {T O E : Type 0} (origin : T → O) (story : T → List E) where
           parts = omega arith;
           spent =
               spent_set s.views id w k.spent (λ e. let none = k.spent id m.0 at
-                  e in record { idle = idle; unseen = ⊎_elim (λ is. is ∙ none.unseen) (λ is. is ∙ none.untold) one; untold = refl });
+              e in record { idle = idle; unseen = ⊎_elim (λ is. is ∙ none.unseen) (λ is. is ∙ none.untold) one; untold = refl });
         },
         record { both = both; is = refl; one = one; own = own; told = told; legal = prefix_legal origin story both h below k.legal },
       )
@@ -430,9 +438,9 @@ module _ {T O E : Type 0} (origin : T → O) (story : T → List E) where
       let begins = k.begins id m.0 at in
       dite (dec_le (length m.0.history) (length m.0.told))
       (λ le. settled s slots id m idle k at m.0.told (inr refl) (prefix_shorter m.0.history m.0.told k.history begins.0 begins.1 le)
-          (prefix_self m.0.told) begins.1)
+      (prefix_self m.0.told) begins.1)
       (λ more. settled s slots id m idle k at m.0.history (inl refl) (prefix_self m.0.history)
-          (prefix_shorter m.0.told m.0.history k.history begins.1 begins.0 (omega arith)) begins.0)
+      (prefix_shorter m.0.told m.0.history k.history begins.1 begins.0 (omega arith)) begins.0)
 
   -- at the end the slot has the value that was given last, which the closing seat has seen
   pub closes : (id : ℕ) (v : V) (ws : List ℕ) (xs : List (Option T)) (first : T) → v.parts ≡ 64 → v.has_turn ≡ false → v.told ≡ []
@@ -443,6 +451,6 @@ module _ {T O E : Type 0} (origin : T → O) (story : T → List E) where
       let home = k.home (nobody s k id v at all idle) in
       let last : last_value v.history ≡ Some home.0 = ap last_value (saw_all s k id v at all untold) ∙ home.2 in
       let r =
-          last_origin origin story first v.history opening (prefix_legal origin story v.history k.history (k.begins id v at).0 k.legal) in
+      last_origin origin story first v.history opening (prefix_legal origin story v.history k.history (k.begins id v at).0 k.legal) in
       let same : home.0 ≡ r.0 = ap (λ o. unwrap_or o r.0) (sym last ∙ r.1) in
       (home.0, f.4 0 (Some home.0) home.1, last, ap origin same ∙ r.2)

@@ -58,7 +58,7 @@ module _ {T O E : Type 0} (origin : T → O) (story : T → List E) where
         subst (λ (o : Option T). IfSome o (λ v. (last_value n.0.history ≡ Some v) × (story_at story n.0.history ≡ story v)
             × (origin v ≡ origin first))) out
             (subst (λ (l : H). (last_value l ≡ Some t.value) × (story_at story l ≡ story t.value) × (origin t.value ≡ origin first))
-                (sym new) r),
+            (sym new) r),
       )
 
   -- what is known of a seat that gave a value
@@ -84,7 +84,7 @@ module _ {T O E : Type 0} (origin : T → O) (story : T → List E) where
       let all_told : mid.0.told ≡ [] = ap (λ (v : SeatView T). v.told) same ∙ untold in record {
         opening =
             subst (IsOpenedWith first) (sym new) (opened_longer first m.0.history t.after
-                (gives_longer origin story m.0.history t.after value gives) opening);
+            (gives_longer origin story m.0.history t.after value gives) opening);
         parts = parts;
         moves = ap (λ (x : M). x.0.moves) t.is ∙ ap (λ (v : SeatView T). v.moves + 1) same;
         idle = ap (λ (x : M). x.0.has_turn) t.is;
@@ -95,7 +95,7 @@ module _ {T O E : Type 0} (origin : T → O) (story : T → List E) where
         last = ap last_value new ∙ gives_last origin story m.0.history t.after value gives;
         alone =
             λ all. new ∙ (t.alone (ap (λ (v : SeatView T). v.parts) same ∙ all) all_told
-                ∙ ap (λ (v : SeatView T). v.history ++ Given value ∷ []) same);
+            ∙ ap (λ (v : SeatView T). v.history ++ Given value ∷ []) same);
       }
 
   -- a seat that took in what another had seen

@@ -1,6 +1,6 @@
 -- The views of all seats, after one of them changed or one more came.
-use Rattle.std.proofs.Common.{◌≡◌, ℕ, zero, suc, ◌+◌, ◌≤◌, ◌⊎◌, inl, ⊎_elim, Bool, true, false, List, [], ◌∷◌, ◌++◌, set, sym, refl, ap,
-    ◌∙◌, subst, arith, replicate, append_assoc}
+use Rattle.std.proofs.Common.{◌≡◌, ℕ, zero, suc, ◌+◌, ◌≤◌, ◌⊎◌, inl, ⊎_elim, Bool, true, false, List, [], ◌∷◌, ◌++◌, set, sym, refl, ap}
+use Rattle.std.proofs.Common.{◌∙◌, subst, arith, replicate, append_assoc}
 use mathlib.Core.Logic.{dite}
 use mathlib.Core.Option.{some, some-ne-none, some-injective}
 use mathlib.Core.List.{IsPrefix}
@@ -103,10 +103,12 @@ module _ {T : Type 0} where
   pub has_seen : (v : SeatView T) (h : List (LockEvent T)) → v.told ≡ [] → Begins v h → Knows v h → v.history ≡ h
   has_seen v h none begins knows = ⊎_elim (λ e. e)
       (λ e. let empty : h ≡ [] = sym e ∙ none in prefix_of_nothing v.history
-          (subst (λ (l : List (LockEvent T)). IsPrefix v.history l) empty begins.0) ∙ sym empty) knows
+      (subst (λ (l : List (LockEvent T)). IsPrefix v.history l) empty begins.0) ∙ sym empty) knows
 
   -- one more miss
   pub since_miss : (seen h : List (LockEvent T)) → IsSince seen h → IsSince seen (h ++ Missed ∷ [])
-  since_miss seen h since =
-      (since.0 + 1, ap (λ l. l ++ Missed ∷ []) since.1
-          ∙ (append_assoc seen (replicate since.0 Missed) (Missed ∷ []) ∙ ap (λ l. seen ++ l) (replicate_more since.0 Missed)))
+  since_miss seen h since = (
+    since.0 + 1,
+    ap (λ l. l ++ Missed ∷ []) since.1
+        ∙ (append_assoc seen (replicate since.0 Missed) (Missed ∷ []) ∙ ap (λ l. seen ++ l) (replicate_more since.0 Missed)),
+  )

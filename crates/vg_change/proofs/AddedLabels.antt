@@ -82,7 +82,7 @@ stands_on state is name added found =
 pub all_stand : (state : GroupState) → IsState state → (names : List (List ℕ)) → All (StandsOn state.disks) (added_of state names)
 all_stand state is names =
     all_kept (StandsOn state.disks) (λ name. Unit {0}) (added_named state) (λ name added any found. stands_on state is name added found)
-        names (λ k d within. tt)
+    names (λ k d within. tt)
 
 -- ---- their labels
 
@@ -94,7 +94,7 @@ module _ (disks : List Disk) (all : List AddedPv) (stand : All (StandsOn disks) 
       (λ added stands. record {
         disk_below =
             let within : added.disk < length disks = slice_get_within disks added.disk stands.disk stands.there in omega
-                (arith, within, few);
+            (arith, within, few);
         sector_below = stands.sector;
         fits = stands.fits;
       }) all stand)
@@ -111,7 +111,7 @@ module _ (disks : List Disk) (all : List AddedPv) (stand : All (StandsOn disks) 
   added_there =
       All-map (λ n. n < length disks) (λ (added : AddedPv). added.disk) all
       (All-weaker (StandsOn disks) (λ (added : AddedPv). added.disk < length disks)
-          (λ added stands. slice_get_within disks added.disk stands.disk stands.there) all stand)
+      (λ added stands. slice_get_within disks added.disk stands.disk stands.there) all stand)
 
 -- on disks that differ
 abbrev LabelsApart : NewLabel → NewLabel → Type 0
@@ -126,5 +126,5 @@ pub labels_differ : (all : List AddedPv) → DisksApart all → AllPairs LabelsA
 labels_differ [] apart = λ i j d before within. absurd (omega (arith, before, within))
 labels_differ (added ∷ more) apart =
     AllPairs-cons LabelsApart (label_of added) (map label_of more)
-        (All-from_recursion (LabelsApart (label_of added)) (map label_of more) (first_apart added more apart.0))
-        (labels_differ more apart.1)
+    (All-from_recursion (LabelsApart (label_of added)) (map label_of more) (first_apart added more apart.0))
+    (labels_differ more apart.1)

@@ -23,8 +23,8 @@ use Rattle.group_ops.specs.Planning.{IsPlanned, asks_of, change_of, refusal_of, 
 use Rattle.change_batches.specs.Batches.{change_batches, clear_batches, zero_batches}
 use Rattle.change_batches.specs.Sound.{sizes_of, CanMake, FitsFields, IsReadAgain, LiesOn}
 use Rattle.vg_change.specs.LineBatches.{batches_of, clears_of, zeros_of}
-use Rattle.vg_change.specs.CarryingOut.{ClearsBehind, IsCarried, IsMade, IsUnclearedBy, KeepsImages, WritesBoth, clear_fault, fault_of,
-    made_at}
+use Rattle.vg_change.specs.CarryingOut.{ClearsBehind, IsCarried, IsMade, IsUnclearedBy, KeepsImages, WritesBoth, clear_fault, fault_of}
+use Rattle.vg_change.specs.CarryingOut.{made_at}
 use Rattle.vg_change.specs.declared.fault.ChangeFault.{ChangeFault}
 use Rattle.vg_change.specs.declared.fault.ChangeFault.TheVariants.{NoMemory, Failed}
 use Rattle.vg_change.proofs.LineImages.{keeps_images}
@@ -85,12 +85,12 @@ module _ (state : GroupState) (line : Line) (now : ℕ) where
     pub lies : LiesOn (sizes_of state.disks) state.areas change
     lies =
         subst (λ (c : Change). LiesOn (sizes_of state.disks) state.areas c) (sym passed.3)
-            (lies_on state line now passed.0 is planned passed.1 passed.2)
+        (lies_on state line now passed.0 is planned passed.1 passed.2)
 
     module _ (again : IsReadAgain state.areas change now) (fields : All FitsFields (unused_labels change.cleared state.disks))
         (old mid made_state new : State) (ops sectors : ℕ) (reserves : Reserves old ops sectors mid)
         (zeros : List (List Put)) (zeros_are : zeros ≡ zero_batches change) (puts : List (List Put))
-            (writes : puts ≡ change_batches change state.areas now)
+        (writes : puts ≡ change_batches change state.areas now)
         (clears : List (List Put)) (clears_are : clears ≡ clear_batches change.cleared state.disks state.areas) where
       same_zeros : zeros ≡ zeros_of state line now passed.0
       same_zeros = zeros_are ∙ ap zero_batches passed.3
@@ -105,10 +105,10 @@ module _ (state : GroupState) (line : Line) (now : ℕ) where
           → BetweenRecords (WritesBoth (zeros_of state line now passed.0) (batches_of state line now passed.0) well) old.told after
       written well after told =
           subst (λ (o : Option Record). BetweenRecords
-              (WritesBoth (zeros_of state line now passed.0) (batches_of state line now passed.0) well) o after)
-              (ap (λ (s : State). s.told) reserves.same)
+          (WritesBoth (zeros_of state line now passed.0) (batches_of state line now passed.0) well) o after)
+          (ap (λ (s : State). s.told) reserves.same)
           (subst (λ (l : List (List Put)). BetweenRecords (WritesBoth l (batches_of state line now passed.0) well) mid.told after)
-              same_zeros
+          same_zeros
           (subst (λ (l : List (List Put)). BetweenRecords (WritesBoth zeros l well) mid.told after) same_puts told))
 
       faults_kept : HasSameFaults old mid
@@ -142,7 +142,7 @@ module _ (state : GroupState) (line : Line) (now : ℕ) where
           first = written true made_state.told first;
           behind =
               subst (λ (l : List (List Put)). BetweenRecords (λ before after. WritesInTurn before l well after) made_state.told new.told)
-                  same_clears told;
+              same_clears told;
         }
 
         commits_is : (commits : Bool) → commits ≡ is_some change.group → is_some (change_of state line now passed.0).group ≡ commits
@@ -189,4 +189,4 @@ module _ (state : GroupState) (line : Line) (now : ℕ) where
         cleared commits same (Ok moment) made_then told = done commits (commits_is commits same) moment made_then told
         cleared commits same (Err fault) why told =
             subst (λ (f : ChangeFault). IsCarried state line now old (Err f) new) (sym why.2)
-                (uncleared commits (commits_is commits same) why.0 why.1 told)
+            (uncleared commits (commits_is commits same) why.0 why.1 told)

@@ -52,27 +52,27 @@ module _ (state : GroupState) (line : Line) (now : ℕ) (given : List Part) (siz
   abbrev batches_for : Option Group → List (List Put)
   batches_for g =
       batch_if (new_area_puts g change.labels) ++ batch_if (map label_put change.labels)
-          ++ commit_batches g now (areas_of change state.areas)
+      ++ commit_batches g now (areas_of change state.areas)
 
   holds : (g : Option Group) → change.group ≡ g → HoldsAfter g now change state.areas (with_batches (batches_for g) base)
   holds None is_none = new_empty change.labels (new_labels_are state line now given is_none) base can.labels
   holds (Some group) is_some =
       areas_shown state.areas (areas_take state is) (areas_far state is) change can.labels lies.differ base names now
-          (λ none. new_near change.labels (new_labels_are state line now given none)) can.commit again.commit group is_some
+      (λ none. new_near change.labels (new_labels_are state line now given none)) can.commit again.commit group is_some
 
   label_there : IsPlanned line.id line.command → (k : ℕ) (d : NewLabel) → k < length change.labels
       → HasLabel (with_batches (batches_of state line now given) base) (get_or change.labels k d)
   label_there planned k d within =
       let label : NewLabel = get_or change.labels k d in
       let there =
-          labels_stand state.areas (areas_take state is) (areas_far state is) change can.labels lies.differ base names now
-              (λ none. new_near change.labels (new_labels_are state line now given none)) can.commit again.commit k d within in
+      labels_stand state.areas (areas_take state is) (areas_far state is) change can.labels lies.differ base names now
+      (λ none. new_near change.labels (new_labels_are state line now given none)) can.commit again.commit k d within in
       record {
         label = subst (λ (l : List ℕ). IsLabel l label.sector) (sym there) (label_read label (can.labels k d within));
         header =
             subst (λ (l : List ℕ). IsPvHeader l label.header []) (sym there)
-                (header_found label (can.labels k d within) (again.labels k d within)
-                (headers_found state line now given is planned k d within));
+            (header_found label (can.labels k d within) (again.labels k d within)
+            (headers_found state line now given is planned k d within));
       }
 
 -- and once all batches are written, what the line makes is found
@@ -90,7 +90,7 @@ found_after state line now given sizes is planned can lies again base names = re
 abbrev batches_with : GroupState → Line → ℕ → List Part → Option Group → List (List Put)
 batches_with state line now given g =
     batch_if (new_area_puts g (change_of state line now given).labels) ++ batch_if (map label_put (change_of state line now given).labels)
-        ++ commit_batches g now (areas_of (change_of state line now given) state.areas)
+    ++ commit_batches g now (areas_of (change_of state line now given) state.areas)
 
 -- all of it, of a line that no row refuses, whose change is written so that it is read again as it is
 pub keeps_images : (state : GroupState) (line : Line) (now : ℕ) (given : List Part) → IsState state → IsPlanned line.id line.command
@@ -100,17 +100,17 @@ pub keeps_images : (state : GroupState) (line : Line) (now : ℕ) (given : List 
 keeps_images state line now given is planned takes none made same again fields =
     let can : CanMake state.areas (change_of state line now given) now = can_make state line now given is planned takes none in
     let lies : LiesOn (sizes_of state.disks) state.areas (change_of state line now given) =
-        lies_on state line now given is planned takes none in
+    lies_on state line now given is planned takes none in
     let read : IsReadAgain state.areas (change_of state line now given) now =
-        subst (λ (c : Change). IsReadAgain state.areas c now) same again in
+    subst (λ (c : Change). IsReadAgain state.areas c now) same again in
     record {
       kept = λ base image names h. areas_kept state line now given (sizes_of state.disks) is can lies read base image names h;
       unpublished = λ base image n group names made' less h.
           areas_unpublished state.areas (areas_take state is) (areas_far state is) (change_of state line now given) can.labels lies.differ
-              base names now (λ none'. new_near (change_of state line now given).labels (new_labels_are state line now given none'))
-              can.commit read.commit group made'
+          base names now (λ none'. new_near (change_of state line now given).labels (new_labels_are state line now given none'))
+          can.commit read.commit group made'
           image n (subst (λ (g : Option Group). n < length (batches_with state line now given g)) made' less)
-              (subst (λ (g : Option Group). HasFirstBatches (take n (batches_with state line now given g)) base image) made' h);
+          (subst (λ (g : Option Group). HasFirstBatches (take n (batches_with state line now given g)) base image) made' h);
       found = λ base names. found_after state line now given (sizes_of state.disks) is planned can lies read base names;
       clears =
           clears_images state.disks state.areas (state_scanned state is) (change_of state line now given).cleared

@@ -1,6 +1,6 @@
 -- The labels that a line writes, and the areas behind those of new physical volumes.
-use Rattle.std.proofs.Common.{◌≡◌, ◌≢◌, ◌≤◌, ◌<◌, ◌⊎◌, ℕ, ◌+◌, ◌*◌, ◌^◌, ◌==◌, Bool, true, false, cond, List, [], ◌∷◌, ◌++◌, map, flat_map,
-    Option, None, Some, inl, inr, ⊎_elim, refl, sym, subst, ◌∙◌, arith, lit<}
+use Rattle.std.proofs.Common.{◌≡◌, ◌≢◌, ◌≤◌, ◌<◌, ◌⊎◌, ℕ, ◌+◌, ◌*◌, ◌^◌, ◌==◌, Bool, true, false, cond, List, [], ◌∷◌, ◌++◌, map, flat_map}
+use Rattle.std.proofs.Common.{Option, None, Some, inl, inr, ⊎_elim, refl, sym, subst, ◌∙◌, arith, lit<}
 use Rattle.std.specs.Prelude.{All, slice_get, unwrap_or, IsSomeAnd}
 use Rattle.std.specs.Option.{option_map_or}
 use Rattle.std.proofs.lemmas.List.Elements.{All-append, All-cons, All-head, All-map, All-nil, All-weaker}
@@ -8,8 +8,8 @@ use Rattle.std.proofs.lemmas.Option.{same_Some}
 use Rattle.lvm_id.specs.LvmId.{IsId}
 use Rattle.command_table.specs.Options.{number_named}
 use Rattle.command_table.specs.declared.command.Command.{Command}
-use Rattle.command_table.specs.declared.command.Command.TheVariants.{Lvcreate, Lvextend, Lvreduce, Lvremove, Lvrename, Pvcreate,
-    Vgcfgrestore, Vgcreate, Vgextend, Vgreduce, Vgremove, Vgrename}
+use Rattle.command_table.specs.declared.command.Command.TheVariants.{Lvcreate, Lvextend, Lvreduce, Lvremove, Lvrename, Pvcreate}
+use Rattle.command_table.specs.declared.command.Command.TheVariants.{Vgcfgrestore, Vgcreate, Vgextend, Vgreduce, Vgremove, Vgrename}
 use Rattle.lvm_script.specs.declared.line.Line.{Line}
 use Rattle.disk_model.specs.Steps.{Image}
 use Rattle.pv_header.specs.declared.extent_list.Extent.{Extent}
@@ -119,8 +119,14 @@ label_with number sector sectors id none = record {
   disk = number;
   sector = sector;
   header =
-      record { id = id; device_bytes = sectors * 512; data_areas = data_area ∷ []; areas = cond none [] (one_area ∷ []); version = 2;
-          flags = 0 };
+      record {
+        id = id;
+        device_bytes = sectors * 512;
+        data_areas = data_area ∷ [];
+        areas = cond none [] (one_area ∷ []);
+        version = 2;
+        flags = 0;
+      };
 }
 
 near_with : (number sector sectors : ℕ) (id : List ℕ) (none : Bool)
@@ -134,14 +140,14 @@ near_with number sector sectors id false pv at apart =
     (λ own.
     let t = one_tells number 8 pv at own.0 in
     ⊎_elim (λ (other : All (λ (l : NewLabel). l.disk ≢ pv) (label ∷ [])). All-head (λ (l : NewLabel). l.disk ≢ pv) label [] other t.0)
-        (λ (low : at < 4). omega (arith, t.1, low)) apart)
+    (λ (low : at < 4). omega (arith, t.1, low)) apart)
     (λ later. later) by)
 
 pub new_near : (labels : List NewLabel) → AreNew labels → KeepNear labels (flat_map area_puts labels)
 new_near labels (inl none) = subst (λ (l : List NewLabel). KeepNear l (flat_map area_puts l)) (sym none) (λ pv sector apart. refl)
 new_near labels (inr one) =
     subst (λ (l : List NewLabel). KeepNear l (flat_map area_puts l)) (sym one.4)
-        (near_with one.0 (label_sector one.1) one.1.sectors one.2 (one.3 == 0))
+    (near_with one.0 (label_sector one.1) one.1.sectors one.2 (one.3 == 0))
 
 -- all that is written
 abbrev new_image : List NewLabel → Image → Image
@@ -151,7 +157,7 @@ new_image labels base = with_batches (batch_if (flat_map area_puts labels) ++ ba
 abbrev HasEmpty : Image → NewLabel → Type 0
 HasEmpty image label =
     All (λ (area : Extent). IsHeader (sectors_of (record { pv = label.disk; start = area.offset; size = area.size }) image 0)
-        (empty_area area)) label.header.areas
+    (empty_area area)) label.header.areas
 
 there_with : (number sector sectors : ℕ) (id : List ℕ) (base : Image) → CanLabel (label_with number sector sectors id false)
     → new_image (label_with number sector sectors id false ∷ []) base number 8 ≡ mda_bytes (empty_area one_area)
@@ -159,7 +165,7 @@ there_with number sector sectors id base can =
     let label : NewLabel = label_with number sector sectors id false in
     let puts : List Put = flat_map area_puts (label ∷ []) in
     written_kept (label_put label ∷ []) (with_writes puts base) number 8
-        (labels_keep_far (label ∷ []) (All-cons CanLabel label [] can (All-nil CanLabel)) number 8 (omega arith))
+    (labels_keep_far (label ∷ []) (All-cons CanLabel label [] can (All-nil CanLabel)) number 8 (omega arith))
     ∙ sym (written_is puts base number 8 (mda_bytes (empty_area one_area)) (λ pv at in_put. refl, tt)
     (inl (one_covers number 8, sym (one_value number 8 8 (mda_bytes (empty_area one_area)) refl))))
 
@@ -170,22 +176,22 @@ empty_with number sector sectors id false base can =
     let label : NewLabel = label_with number sector sectors id false in
     let image : Image = new_image (label ∷ []) base in
     let P : Extent → Type 0 =
-        λ area. IsHeader (sectors_of (record { pv = number; start = area.offset; size = area.size }) image 0) (empty_area area) in
+    λ area. IsHeader (sectors_of (record { pv = number; start = area.offset; size = area.size }) image 0) (empty_area area) in
     All-cons P one_area [] (subst (λ (l : List ℕ). IsHeader l (empty_area one_area)) (sym (there_with number sector sectors id base can))
-        (empty_read one_area (lit< tt) (lit< tt))) (All-nil P)
+    (empty_read one_area (lit< tt) (lit< tt))) (All-nil P)
 
 pub new_empty : (labels : List NewLabel) → AreNew labels → (base : Image) → All CanLabel labels
     → All (HasEmpty (new_image labels base)) labels
 new_empty labels (inl none) base =
     subst (λ (l : List NewLabel). All CanLabel l → All (HasEmpty (new_image l base)) l) (sym none)
-        (λ can. All-nil (HasEmpty (new_image [] base)))
+    (λ can. All-nil (HasEmpty (new_image [] base)))
 new_empty labels (inr one) base =
     let label : NewLabel = label_with one.0 (label_sector one.1) one.1.sectors one.2 (one.3 == 0) in
     subst (λ (l : List NewLabel). All CanLabel l → All (HasEmpty (new_image l base)) l) (sym one.4)
     (λ can.
     All-cons (HasEmpty (new_image (label ∷ []) base)) label []
-        (empty_with one.0 (label_sector one.1) one.1.sectors one.2 (one.3 == 0) base (All-head CanLabel label [] can))
-        (All-nil (HasEmpty (new_image (label ∷ []) base))))
+    (empty_with one.0 (label_sector one.1) one.1.sectors one.2 (one.3 == 0) base (All-head CanLabel label [] can))
+    (All-nil (HasEmpty (new_image (label ∷ []) base))))
 
 -- ---- what is found of a header
 
@@ -210,7 +216,7 @@ found_with number sector sectors id false valid = record {
   areas_fit = All-cons Fits64 one_area [] (lit< tt, lit< tt) (All-nil Fits64);
   offsets =
       All-cons IsBehind data_area (one_area ∷ []) (λ (e : 1048576 ≡ 0). cc)
-          (All-cons IsBehind one_area [] (λ (e : 4096 ≡ 0). cc) (All-nil IsBehind));
+      (All-cons IsBehind one_area [] (λ (e : 4096 ≡ 0). cc) (All-nil IsBehind));
 }
 
 found_new : (id : List ℕ) (copies number : ℕ) (disk : Disk) → IsId id → HeaderIsFound (new_label id copies number disk)
@@ -243,9 +249,9 @@ found_added state is added found =
     let disk : IsDisk added.disk found.has.disk = is.disks added.disk found.has.disk found.has.there in
     let most : found.has.disk.sectors ≤ 2 ^ 40 = disk.most in
     let read : (sector : List ℕ) × Reads sector (found.has.disk.sectors * 512) added.header =
-        reads_on added.disk found.has.disk.sectors found.has.disk.contents added.header disk.contents found.has.is in
+    reads_on added.disk found.has.disk.sectors found.has.disk.contents added.header disk.contents found.has.is in
     let fits =
-        fit_both (found.has.disk.sectors * 512) (omega (arith, most)) added.header.data_areas added.header.areas read.1.areas.inside in
+    fit_both (found.has.disk.sectors * 512) (omega (arith, most)) added.header.data_areas added.header.areas read.1.areas.inside in
     record {
       id = found.id;
       version = refl;
@@ -258,7 +264,7 @@ found_all : (state : GroupState) → IsState state → (names : List (List ℕ))
 found_all state is names =
     All-map HeaderIsFound label_of (added_of state names)
     (All-weaker (IsFoundOn state) (λ added. HeaderIsFound (label_of added)) (found_added state is) (added_of state names)
-        (all_found state is names))
+    (all_found state is names))
 
 -- ---- of any line
 

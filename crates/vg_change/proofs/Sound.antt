@@ -9,8 +9,8 @@ use Rattle.std.specs.Option.{option_map_or}
 use Rattle.std.proofs.lemmas.List.Elements.{All-nil}
 use Rattle.sector_base.specs.declared.spans.Span.{Span}
 use Rattle.command_table.specs.declared.command.Command.{Command}
-use Rattle.command_table.specs.declared.command.Command.TheVariants.{Lvcreate, Lvextend, Lvreduce, Lvremove, Lvrename, Pvcreate,
-    Vgcfgrestore, Vgcreate, Vgextend, Vgreduce, Vgremove, Vgrename}
+use Rattle.command_table.specs.declared.command.Command.TheVariants.{Lvcreate, Lvextend, Lvreduce, Lvremove, Lvrename, Pvcreate}
+use Rattle.command_table.specs.declared.command.Command.TheVariants.{Vgcfgrestore, Vgcreate, Vgextend, Vgreduce, Vgremove, Vgrename}
 use Rattle.line_answers.specs.declared.op_refusal.OpRefusal.TheVariants.{GroupStands, UnknownGroup}
 use Rattle.lvm_script.specs.declared.line.Line.{Line}
 use Rattle.conf_text.specs.Printed.{printed}
@@ -23,8 +23,8 @@ use Rattle.group_edits.specs.ReducedGroup.{reduced_group}
 use Rattle.group_edits.specs.NextVersion.{next_version}
 use Rattle.group_edits.specs.RestoredGroup.{restored_group}
 use Rattle.group_plan.specs.Added.{added_of}
-use Rattle.group_plan.specs.Committing.{change_where_found, length_row, length_row_on, no_area_row, no_change, version_change,
-    version_change_on}
+use Rattle.group_plan.specs.Committing.{change_where_found, length_row, length_row_on, no_area_row, no_change, version_change}
+use Rattle.group_plan.specs.Committing.{version_change_on}
 use Rattle.group_plan.specs.Judging.{area_row, first_refusal, large_row, set_of, stored_size, used_row}
 use Rattle.group_plan.specs.NewGroup.{change_with, extended}
 use Rattle.group_plan.specs.State.{IsState}
@@ -55,9 +55,10 @@ new_sound : (state : GroupState) → IsState state → (base : Group) (names : L
     → first_refusal (new_rows state base names now) ≡ None → IsSound state (vgcreate_change state base names) now
 new_sound state is base names now none =
     let rows = none_holds (new_rows state base names now) none in
-    let no_disk : All (λ n. n < length state.disks) [] = All-nil (λ n. n < length state.disks) in
-    (commit_can_make state is base [] names no_disk rows.1.0 now rows.1.1.0 rows.1.1.1.1.1.1.0,
-        commit_lies_on state is base [] names no_disk rows.1.0)
+    let no_disk : All (λ n. n < length state.disks) [] = All-nil (λ n. n < length state.disks) in (
+      commit_can_make state is base [] names no_disk rows.1.0 now rows.1.1.0 rows.1.1.1.1.1.1.0,
+      commit_lies_on state is base [] names no_disk rows.1.0,
+    )
 
 vgcreate_sound : (state : GroupState) → IsState state → (base : Group) (names : List (List ℕ)) (now : ℕ) (o : Option Group)
     → first_refusal (option_map_or (λ (group : Group). Some (GroupStands group.name) ∷ []) o (new_rows state base names now)) ≡ None
@@ -99,7 +100,7 @@ with_zeros state change zero now sound = (
     labels = sound.0.labels;
     commit =
         λ group is. let t : CanTakeText change state.areas (printed (tree_of group now)) = sound.0.commit group
-            is in record { listed = t.listed; committed = t.committed; room = t.room };
+        is in record { listed = t.listed; committed = t.committed; room = t.room };
   },
   record { labels = sound.1.labels; differ = sound.1.differ; new_areas = sound.1.new_areas; commit = sound.1.commit },
 )
@@ -112,7 +113,7 @@ with_cleared state change cleared now sound = (
     labels = sound.0.labels;
     commit =
         λ group is. let t : CanTakeText change state.areas (printed (tree_of group now)) = sound.0.commit group
-            is in record { listed = t.listed; committed = t.committed; room = t.room };
+        is in record { listed = t.listed; committed = t.committed; room = t.room };
   },
   record { labels = sound.1.labels; differ = sound.1.differ; new_areas = sound.1.new_areas; commit = sound.1.commit },
 )
@@ -146,7 +147,7 @@ next_sound : (state : GroupState) → IsState state → (change : Change) (now :
 next_sound state is change now made =
     subst (λ (c : Change). IsSound state c now) (sym made.change_is)
     (with_zeros state (version_change state made.next) made.zero now
-        (version_sound state is made.next now (listed_there state made.old is made.there) made.has_area made.fits))
+    (version_sound state is made.next now (listed_there state made.old is made.there) made.has_area made.fits))
 
 -- ---- vgreduce and vgremove
 
@@ -157,8 +158,8 @@ leaves_sound state is change now left =
     subst (λ (c : Change). IsSound state c now) (sym left.change_is)
     (with_cleared state (version_change_on rest next) (set_of (slice_index state.disk_of left.number ∷ [])) now
     (version_sound_on state is rest next now
-        (all_without (λ (n : ℕ). n < length state.disks) state.disk_of left.number (listed_there state left.old is left.there))
-        left.has_area left.fits))
+    (all_without (λ (n : ℕ). n < length state.disks) state.disk_of left.number (listed_there state left.old is left.there))
+    left.has_area left.fits))
 
 -- nothing is committed, and no label is written, whatever disks are cleared
 none_sound : (state : GroupState) (cleared : FinSet nat_cmp) (disks : List ℕ) (now : ℕ)
@@ -179,7 +180,7 @@ restores_sound : (state : GroupState) → IsState state → (change : Change) (n
 restores_sound state is change now made =
     subst (λ (c : Change). IsSound state c now) (sym made.change_is)
     (version_sound_on state is (disks_of made.said state.disks) (restored_group made.old made.said) now (made.listed is) (made.has_area is)
-        made.fits)
+    made.fits)
 
 -- nothing changes where nothing is known of a text
 restore_sound : (state : GroupState) → IsState state → (vg : List ℕ) (now : ℕ) → first_refusal (vgcfgrestore_rows state vg now) ≡ None
@@ -188,8 +189,8 @@ restore_sound state is vg now none = by state.backup refl where
   by : (backup : Option Backup) → state.backup ≡ backup → IsSound state (vgcfgrestore_change state) now
   by None gives =
       subst (λ (o : Option Backup). IsSound state
-          (option_map_or (λ (b : Backup). change_where_found state (backup_change state b)) o (no_change state)) now) (sym gives)
-          (none_sound state set.empty state.disk_of now)
+      (option_map_or (λ (b : Backup). change_where_found state (backup_change state b)) o (no_change state)) now) (sym gives)
+      (none_sound state set.empty state.disk_of now)
   by (Some backup) gives = restores_sound state is (vgcfgrestore_change state) now (restores state vg now (ap is_some gives) none)
 
 -- ---- all commands
@@ -209,22 +210,22 @@ sound_by state is number id (Vgremove vg) now given planned takes none = none_so
 sound_by state is number id (Vgcfgrestore vg text) now given planned takes none = restore_sound state is vg now none
 sound_by state is number id (Vgrename vg new) now given planned takes none =
     next_sound state is (change_of state (record { number = number; id = id; command = Vgrename vg new }) now given) now
-        (commits_next state number id (Vgrename vg new) now given planned refl takes none)
+    (commits_next state number id (Vgrename vg new) now given planned refl takes none)
 sound_by state is number id (Lvcreate new) now given planned takes none =
     next_sound state is (change_of state (record { number = number; id = id; command = Lvcreate new }) now given) now
-        (commits_next state number id (Lvcreate new) now given planned refl takes none)
+    (commits_next state number id (Lvcreate new) now given planned refl takes none)
 sound_by state is number id (Lvextend path growth pvs) now given planned takes none =
     next_sound state is (change_of state (record { number = number; id = id; command = Lvextend path growth pvs }) now given) now
-        (commits_next state number id (Lvextend path growth pvs) now given planned refl takes none)
+    (commits_next state number id (Lvextend path growth pvs) now given planned refl takes none)
 sound_by state is number id (Lvreduce path amount) now given planned takes none =
     next_sound state is (change_of state (record { number = number; id = id; command = Lvreduce path amount }) now given) now
-        (commits_next state number id (Lvreduce path amount) now given planned refl takes none)
+    (commits_next state number id (Lvreduce path amount) now given planned refl takes none)
 sound_by state is number id (Lvremove path) now given planned takes none =
     next_sound state is (change_of state (record { number = number; id = id; command = Lvremove path }) now given) now
-        (commits_next state number id (Lvremove path) now given planned refl takes none)
+    (commits_next state number id (Lvremove path) now given planned refl takes none)
 sound_by state is number id (Lvrename vg old new) now given planned takes none =
     next_sound state is (change_of state (record { number = number; id = id; command = Lvrename vg old new }) now given) now
-        (commits_next state number id (Lvrename vg old new) now given planned refl takes none)
+    (commits_next state number id (Lvrename vg old new) now given planned refl takes none)
 sound_by state is number id command now given planned takes none = absurd planned
 
 pub can_make : (state : GroupState) (line : Line) (now : ℕ) (given : List Part) → IsState state → IsPlanned line.id line.command

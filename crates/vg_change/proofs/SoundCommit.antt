@@ -41,7 +41,7 @@ all_on : (disks : List Disk) (listed : List ℕ) (areas : List (Area × Option L
     → All (IsOnDiskOf (set_of listed)) (filter (lies_on (set_of listed)) areas)
 all_on disks listed areas few lie k d within =
     one_on disks listed (slice_index_or (filter (lies_on (set_of listed)) areas) k d) few
-        (All-filter (lies_on (set_of listed)) (LiesIn (sizes_of disks)) areas lie k d within)
+    (All-filter (lies_on (set_of listed)) (LiesIn (sizes_of disks)) areas lie k d within)
     (filter_passes (lies_on (set_of listed)) areas k d within)
 
 are_committed : (state : GroupState) → IsState state → (listed : List ℕ) → area_row state.areas listed ≡ None
@@ -51,7 +51,7 @@ are_committed state is listed some = record {
   take = All-filter (lies_on (set_of listed)) CanTake state.areas (areas_take state is);
   apart =
       AllPairs-filter LieApart (lies_on (set_of listed)) state.areas
-          (subst (AllPairs LieApart) (sym is.areas) (areas_shaped state.disks is.disks).1);
+      (subst (AllPairs LieApart) (sym is.areas) (areas_shaped state.disks is.disks).1);
   on_disks = all_on state.disks listed state.areas is.few (areas_lie state is);
 }
 
@@ -69,7 +69,7 @@ module _ (state : GroupState) (is : IsState state) (base : Group) (listed : List
   all_there : All (λ n. n < length state.disks) (listed ++ disks_added (added_of state names))
   all_there =
       All-append (λ n. n < length state.disks) listed (disks_added (added_of state names)) there
-          (added_there state.disks (added_of state names) (all_stand state is names))
+      (added_there state.disks (added_of state names) (all_stand state is names))
 
   can_take_text : (now : ℕ) → area_row state.areas (listed ++ disks_added (added_of state names)) ≡ None
       → text_row state base listed (added_of state names) now ≡ None
@@ -78,11 +78,11 @@ module _ (state : GroupState) (is : IsState state) (base : Group) (listed : List
   can_take_text now some room = record {
     listed =
         All-weaker (λ n. n < length state.disks) (λ n. n < 64) (λ n below. omega (arith, below, is.few))
-            (listed ++ disks_added (added_of state names)) all_there;
+        (listed ++ disks_added (added_of state names)) all_there;
     committed = are_committed state is (listed ++ disks_added (added_of state names)) some;
     room =
         text_has_room state.areas (listed ++ disks_added (added_of state names)) (extended base (added_of state names)) now
-            (areas_take state is) room;
+        (areas_take state is) room;
   }
 
   pub commit_can_make : (now : ℕ) → area_row state.areas (listed ++ disks_added (added_of state names)) ≡ None
@@ -92,7 +92,7 @@ module _ (state : GroupState) (is : IsState state) (base : Group) (listed : List
     labels = can_label state.disks (added_of state names) (all_stand state is names) is.few;
     commit = λ group same.
         subst (λ (g : Group). CanTakeText (change_with base listed (added_of state names)) state.areas (printed (tree_of g now)))
-            (same_Some (extended base (added_of state names)) group same) (can_take_text now some room);
+        (same_Some (extended base (added_of state names)) group same) (can_take_text now some room);
   }
 
   pub commit_lies_on : LiesOn (sizes_of state.disks) state.areas (change_with base listed (added_of state names))

@@ -1,6 +1,6 @@
 -- The label of a new physical volume can be written, and lies on its disk.
-use Rattle.std.proofs.Common.{◌≡◌, ◌≢◌, ◌≤◌, ◌<◌, ℕ, ◌==◌, Bool, true, false, cond, ltb, List, [], ◌∷◌, length, Option, Some, None, refl,
-    subst, arith}
+use Rattle.std.proofs.Common.{◌≡◌, ◌≢◌, ◌≤◌, ◌<◌, ℕ, ◌==◌, Bool, true, false, cond, ltb, List, [], ◌∷◌, length, Option, Some, None, refl}
+use Rattle.std.proofs.Common.{subst, arith}
 use Rattle.std.specs.Prelude.{All, AllPairs, slice_get, unwrap_or}
 use Rattle.std.specs.Option.{option_and_then, option_map_or}
 use Rattle.std.proofs.lemmas.Bool.{ltb-false}
@@ -19,8 +19,8 @@ use Rattle.group_plan.specs.State.{IsState}
 use Rattle.group_plan.specs.declared.state.GroupState.{GroupState}
 use Rattle.group_plan.specs.declared.state.NewLabel.{NewLabel}
 use Rattle.group_plan.proofs.Rows.{none_holds, test_fails}
-use Rattle.pv_plans.specs.Pvcreate.{disk_rows, few_row, fewest_sectors, label_in, label_sector, new_areas, new_label, pvcreate_change,
-    pvcreate_rows}
+use Rattle.pv_plans.specs.Pvcreate.{disk_rows, few_row, fewest_sectors, label_in, label_sector, new_areas, new_label, pvcreate_change}
+use Rattle.pv_plans.specs.Pvcreate.{pvcreate_rows}
 use Rattle.change_batches.proofs.HeldInDisks.{HasSize, has_size}
 use Rattle.change_batches.specs.Sound.{sizes_of, AreasLie, CanLabel, CanMake, IsOnDisk, LabelLies, LiesOn, header_sector}
 
@@ -82,9 +82,9 @@ has_enough : (state : GroupState) (id name : List ℕ) (number : ℕ) (disk : Di
     → fewest_sectors ≤ disk.sectors
 has_enough state id name number disk none named there =
     let rows : first_refusal (rows_by state id name (Some number)) ≡ None =
-        subst (λ (o : Option ℕ). first_refusal (rows_by state id name o) ≡ None) named none in
+    subst (λ (o : Option ℕ). first_refusal (rows_by state id name o) ≡ None) named none in
     let few : few_row disk ≡ None =
-        subst (λ (o : Option Disk). option_and_then few_row o ≡ None) there (none_holds (rows_by state id name (Some number)) rows).1.0 in
+    subst (λ (o : Option Disk). option_and_then few_row o ≡ None) there (none_holds (rows_by state id name (Some number)) rows).1.0 in
     ltb-false disk.sectors fewest_sectors (test_fails (ltb disk.sectors fewest_sectors) (TooSmall disk.sectors fewest_sectors) few)
 
 -- ---- its metadata area
@@ -140,7 +140,7 @@ pvcreate_lies_on state is id name copies none = record {
       (λ number disk named there. record {
         lie =
             areas_on_disk (sizes_of state.disks) number disk.sectors copies (has_size state.disks number disk there)
-                (has_enough state id name number disk none named there);
+            (has_enough state id name number disk none named there);
         differ = apart_by (λ (a b : Extent). header_sector a ≢ header_sector b) (copies == 0) (record { offset = 4096; size = 1044480 });
       });
   commit = λ group same. absurd (none-some group same);

@@ -1,6 +1,6 @@
 -- A text that no row refuses has room in each area that it is committed to.
-use Rattle.std.proofs.Common.{◌≡◌, ◌≤◌, ◌<◌, ℕ, ◌+◌, ◌/◌, ◌^◌, Bool, true, false, ◌||◌, ◌&&◌, cond, ltb, min, List, [], ◌∷◌, length, Option,
-    Some, None, refl, ap, subst, ◌∙◌, arith}
+use Rattle.std.proofs.Common.{◌≡◌, ◌≤◌, ◌<◌, ℕ, ◌+◌, ◌/◌, ◌^◌, Bool, true, false, ◌||◌, ◌&&◌, cond, ltb, min, List, [], ◌∷◌, length, Option}
+use Rattle.std.proofs.Common.{Some, None, refl, ap, subst, ◌∙◌, arith}
 use Rattle.std.specs.Prelude.{All, filter, find}
 use Rattle.std.specs.List.{list_any}
 use Rattle.std.specs.FinSet as set
@@ -33,7 +33,7 @@ has_room : (count : ℕ) (area : Area × Option Locn) → CanTake area → is_fu
     → ltb (room area.0.size area.1) (need (count + 1)) ≡ false
 has_room count area take fits =
     let enough : need (min count (2 ^ 62) + 1) ≤ room area.0.size area.1 =
-        ltb-false (room area.0.size area.1) (need (min count (2 ^ 62) + 1)) fits in
+    ltb-false (room area.0.size area.1) (need (min count (2 ^ 62) + 1)) fits in
     let most : room area.0.size area.1 ≤ area.0.size / 512 = room_most area.0.size area.1 in
     let ends : area.0.start + area.0.size ≤ 2 ^ 49 = take.0.ends in
     let same : min count (2 ^ 62) ≡ count = omega (arith, enough, most, ends) in
@@ -52,14 +52,14 @@ module _ (disks : set.FinSet nat_cmp) (text : List ℕ) where
   one_has area areas false is fits take rest = rest
   one_has area areas true is fits take rest =
       ap (λ (b : Bool). cond b (Some (need (length text + 1), room area.0.size area.1))
-          (first_too_large text (filter (lies_on disks) areas))) (has_room (length text) area take fits) ∙ rest
+      (first_too_large text (filter (lies_on disks) areas))) (has_room (length text) area take fits) ∙ rest
 
   all_have : (areas : List (Area × Option Locn)) → All (λ area. is_refused area ≡ false) areas → All CanTake areas
       → first_too_large text (filter (lies_on disks) areas) ≡ None
   all_have [] fit take = refl
   all_have (area ∷ areas) fit take =
       one_has area areas (lies_on disks area) refl (All-head (λ area. is_refused area ≡ false) area areas fit)
-          (All-head CanTake area areas take)
+      (All-head CanTake area areas take)
       (all_have areas (All-tail (λ area. is_refused area ≡ false) area areas fit) (All-tail CanTake area areas take))
 
 -- as the row has it
@@ -72,7 +72,7 @@ text_has_room areas disks group now take none =
     all_have (set_of disks) text areas
     (All-from_find (is_refused (set_of disks) text) areas
     (no_map (λ (area : Area × Option Locn). TooLarge (need (min (length text) (2 ^ 62) + 1)) (room area.0.size area.1))
-        (find (is_refused (set_of disks) text) areas) none))
+    (find (is_refused (set_of disks) text) areas) none))
     take
 
 -- ---- there is one

@@ -16,7 +16,7 @@ pub both_told : (zeros batches : List (List Put)) (well : Bool) (s0 s1 s2 : Opti
     → WritesInTurnTold s1 batches well s2 → BetweenRecords (WritesBoth zeros batches well) s0 s2
 both_told zeros batches well s0 s1 s2 first later =
     between_both (λ old new. WritesInTurn old zeros true new) (λ old new. WritesInTurn old batches well new) (WritesBoth zeros batches well)
-        s0 s1 s2
+    s0 s1 s2
     (λ old mid new a b. behind zeros batches well old new (record { zeroed = mid; first = a; behind = b })) first later
 
 -- an operation of the zeros failed

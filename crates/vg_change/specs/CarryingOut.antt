@@ -1,6 +1,6 @@
 -- What is promised of a line that is carried out.
-use Rattle.std.specs.Prelude.{◌≡◌, ◌≤◌, ◌<◌, ◌⊎◌, ℕ, Bool, true, false, is_some, List, length, take, All, None, Some, Result, Ok, Err,
-    MatchResult}
+use Rattle.std.specs.Prelude.{◌≡◌, ◌≤◌, ◌<◌, ◌⊎◌, ℕ, Bool, true, false, is_some, List, length, take, All, None, Some, Result, Ok, Err}
+use Rattle.std.specs.Prelude.{MatchResult}
 use Rattle.lvm_script.specs.declared.line.Line.{Line}
 use Rattle.disk_model.specs.Faults.{HasSameFaults}
 use Rattle.disk_model.specs.Since.{BetweenRecords}
@@ -99,7 +99,7 @@ Carries commits zeros batches clears (Ok moment) old new =
     (w : ClearsBehind zeros batches clears true old new) × (moment ≡ made_at commits w.made.steps new.steps)
 Carries commits zeros batches clears (Err (Failed pv)) old new =
     BetweenRecords (WritesBoth zeros batches false) old.told new.told
-        ⊎ ((commits ≡ false) × ClearsBehind zeros batches clears false old new)
+    ⊎ ((commits ≡ false) × ClearsBehind zeros batches clears false old new)
 Carries commits zeros batches clears (Err (Uncleared pv moment)) old new =
     (w : ClearsBehind zeros batches clears false old new) × (moment ≡ w.made.steps) × (commits ≡ true)
 Carries commits zeros batches clears (Err _) old new = BetweenRecords (λ before after. after ≡ before) old.told new.told

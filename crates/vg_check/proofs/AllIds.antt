@@ -1,6 +1,6 @@
 -- The ids of a group differ where those of each kind stand apart.
-use Rattle.std.proofs.Common.{◌≡◌, ◌≢◌, ◌↔◌, ℕ, zero, suc, IsTrue, Bool, false, List, [], ◌∷◌, ◌++◌, length, get_or, inl, inr, sym, ◌∙◌,
-    arith}
+use Rattle.std.proofs.Common.{◌≡◌, ◌≢◌, ◌↔◌, ℕ, zero, suc, IsTrue, Bool, false, List, [], ◌∷◌, ◌++◌, length, get_or, inl, inr, sym, ◌∙◌}
+use Rattle.std.proofs.Common.{arith}
 use Rattle.std.specs.Prelude.{AllPairs, Contains}
 use Rattle.std.proofs.lemmas.Bool.{false≢true}
 use Rattle.std.proofs.lemmas.List.Elements.{Contains-get_or, Contains-append_left, Contains-append_right, Contains-append_cases}
@@ -32,14 +32,14 @@ pairs_append [] ys first second cross = second
 pairs_append (x ∷ xs) ys first second cross =
     pairs_cons x (xs ++ ys)
     (λ y at. elim (Contains-append_cases xs ys y at)
-        [ inl here ↦ pairs_head x xs y first here | inr there ↦ cross x y (contains_first x xs) there ])
+    [ inl here ↦ pairs_head x xs y first here | inr there ↦ cross x y (contains_first x xs) there ])
     (pairs_append xs ys (pairs_tail x xs first) second (λ z y at. cross z y (contains_later x z xs at)))
 
 pairs_left : (xs ys : List (List ℕ)) → AllPairs Differ (xs ++ ys) → AllPairs Differ xs
 pairs_left [] ys pairs = λ i j d less lt. absurd (omega arith)
 pairs_left (x ∷ xs) ys pairs =
     pairs_cons x xs (λ y at. pairs_head x (xs ++ ys) y pairs (Contains-append_left xs ys y at))
-        (pairs_left xs ys (pairs_tail x (xs ++ ys) pairs))
+    (pairs_left xs ys (pairs_tail x (xs ++ ys) pairs))
 
 pairs_right : (xs ys : List (List ℕ)) → AllPairs Differ (xs ++ ys) → AllPairs Differ ys
 pairs_right [] ys pairs = pairs
@@ -56,7 +56,7 @@ pairs_from : (group : Group) (kind : Kind) → IdsStandApart group kind 0 (lengt
     → AllPairs Differ (kind_ids group kind)
 pairs_from group kind stand i j d less lt same =
     stand.apart i j (omega arith) (omega arith) less lt
-        (same_read (kind_ids group kind) i group.id d (omega arith) ∙ same ∙ same_read (kind_ids group kind) j d group.id lt)
+    (same_read (kind_ids group kind) i group.id d (omega arith) ∙ same ∙ same_read (kind_ids group kind) j d group.id lt)
 
 before_from : (group : Group) (kind : Kind) → IdsStandApart group kind 0 (length (kind_ids group kind)) → (x id : List ℕ)
     → Contains (kind_ids group kind) x → Contains (ids_before group kind) id → Differ x id

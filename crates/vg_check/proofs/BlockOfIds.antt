@@ -1,6 +1,6 @@
 -- A block of volumes whose ids stand apart.
-use Rattle.std.proofs.Common.{◌≡◌, ◌↔◌, ℕ, zero, suc, ◌+◌, ◌-◌, ◌<◌, ◌≤◌, IsTrue, Bool, List, [], ◌∷◌, length, get_or, inl, inr, sym, ap,
-    subst, ◌∙◌, arith}
+use Rattle.std.proofs.Common.{◌≡◌, ◌↔◌, ℕ, zero, suc, ◌+◌, ◌-◌, ◌<◌, ◌≤◌, IsTrue, Bool, List, [], ◌∷◌, length, get_or, inl, inr, sym, ap}
+use Rattle.std.proofs.Common.{subst, ◌∙◌, arith}
 use Rattle.std.specs.Prelude.{AllPairs, Contains}
 use Rattle.std.specs.List.{AllAdjacentBelow}
 use Rattle.std.specs.List.Sorted.{IsPermutation}
@@ -14,8 +14,8 @@ use Rattle.volume_rules.proofs.Permuted.{pairs_permuted}
 use Rattle.vg_check.specs.declared.kind.Kind.{Kind}
 use Rattle.vg_check.specs.declared.kind.Kind.TheVariants as volumes
 use Rattle.vg_check.proofs.Fronts.{same_read}
-use Rattle.vg_check.specs.Ids.{id_of, ids_before, kind_ids, HasId, IdsDifferAt, IdsStandApart, IsNumbered, IsSortedById, NoneBeforeHas,
-    NoneHas}
+use Rattle.vg_check.specs.Ids.{id_of, ids_before, kind_ids, HasId, IdsDifferAt, IdsStandApart, IsNumbered, IsSortedById, NoneBeforeHas}
+use Rattle.vg_check.specs.Ids.{NoneHas}
 use Rattle.vg_check.proofs.SortedIds.{differ_pairs, pairs_near}
 
 turned : (group : Group) (kind : Kind) (a b : ExtentSpan) → IdsDifferAt group kind a b → IdsDifferAt group kind b a
@@ -33,9 +33,12 @@ named from to filled block is i low high =
     let none : ExtentSpan = record { on = 0; first = 0; count = 0 } in
     let long : from + length filled ≡ to = is.long in
     let lt : i - from < length filled = omega arith in
-    let on : (get_or filled (i - from) none).on ≡ from + (i - from) = is.numbered (i - from) none lt in
-    (get_or filled (i - from) none, Contains-permutation filled block (get_or filled (i - from) none) is.moved
-        (Contains-get_or filled (i - from) none lt), omega arith)
+    let on : (get_or filled (i - from) none).on ≡ from + (i - from) = is.numbered (i - from) none lt in (
+      get_or filled (i - from) none,
+      Contains-permutation filled block (get_or filled (i - from) none) is.moved
+          (Contains-get_or filled (i - from) none lt),
+      omega arith,
+    )
 
 number_of : (from to : ℕ) (filled block : List ExtentSpan) → Block from to filled block → (run : ExtentSpan) → Contains block run
     → (from ≤ run.on) × (run.on < to)
@@ -53,19 +56,19 @@ apart_from : (group : Group) (kind : Kind) (from to : ℕ) (filled block : List 
     → IdsStandApart group kind from to
 apart_from group kind from to filled block is sorted near later before =
     let pairs : AllPairs (IdsDifferAt group kind) filled =
-        pairs_permuted (IdsDifferAt group kind) (turned group kind) block filled (IsPermutation-sym filled block is.moved)
-            (differ_pairs group kind block sorted near) in
+    pairs_permuted (IdsDifferAt group kind) (turned group kind) block filled (IsPermutation-sym filled block is.moved)
+    (differ_pairs group kind block sorted near) in
     let long : from + length filled ≡ to = is.long in
     record {
       apart = λ i j low high less within same. elim (cases_lt j to) [
         | inl inside ↦
             let none : ExtentSpan = record { on = 0; first = 0; count = 0 } in
             let on_i : (get_or filled (i - from) none).on ≡ i =
-                is.numbered (i - from) none (omega arith) ∙ (let e : from + (i - from) ≡ i = omega arith in e) in
+            is.numbered (i - from) none (omega arith) ∙ (let e : from + (i - from) ≡ i = omega arith in e) in
             let on_j : (get_or filled (j - from) none).on ≡ j =
-                is.numbered (j - from) none (omega arith) ∙ (let e : from + (j - from) ≡ j = omega arith in e) in
+            is.numbered (j - from) none (omega arith) ∙ (let e : from + (j - from) ≡ j = omega arith in e) in
             pairs (i - from) (j - from) none (omega arith) (omega arith)
-                (ap (id_of group kind) on_i ∙ same ∙ sym (ap (id_of group kind) on_j))
+            (ap (id_of group kind) on_i ∙ same ∙ sym (ap (id_of group kind) on_j))
         | inr past ↦
             let run = named from to filled block is i low high in
             later j past within (run.0, run.1, ap (id_of group kind) run.2 ∙ same)
@@ -85,7 +88,7 @@ apart_to group kind from to filled block is within stand =
     let on_i : (get_or filled i d).on ≡ from + i = is.numbered i d (omega arith) in
     let on_j : (get_or filled j d).on ≡ from + j = is.numbered j d lt in
     stand.apart (from + i) (from + j) (omega arith) (omega arith) (omega arith) (omega arith)
-        (sym (ap (id_of group kind) on_i) ∙ same ∙ ap (id_of group kind) on_j) in (
+    (sym (ap (id_of group kind) on_i) ∙ same ∙ ap (id_of group kind) on_j) in (
       pairs_near group kind block (pairs_permuted (IdsDifferAt group kind) (turned group kind) filled block is.moved pairs),
       λ number past lt has.
           let on = number_of from to filled block is has.0 has.1 in
@@ -134,7 +137,7 @@ pub pvs_tell : (group : Group) (kind : Kind) (block : List ExtentSpan) (id : Lis
     → (HasId group kind block id → ⊥) → NoneBeforeHas group kind block
 pvs_tell group kind block id is same not_own other at has =
     before_pvs group kind block (λ own. not_own (subst (HasId group kind block) (sym same) own)) other
-        (subst (λ k. Contains (ids_before group k) other) is at) has
+    (subst (λ k. Contains (ids_before group k) other) is at) has
 
 -- and before logical volumes, the physical ones
 before_lvs : (group : Group) (kind : Kind) (block : List ExtentSpan) → (HasId group kind block group.id → ⊥)
@@ -143,7 +146,7 @@ before_lvs : (group : Group) (kind : Kind) (block : List ExtentSpan) → (HasId 
 before_lvs group kind block not_own none id (zero, lt, is) has = not_own (subst (HasId group kind block) (sym is) has)
 before_lvs group kind block not_own none id (suc k, lt, is) has =
     none k (omega arith) (omega arith) (subst (HasId group kind block)
-        (sym is ∙ same_read (kind_ids group volumes.Pv) k id group.id (omega arith)) has)
+    (sym is ∙ same_read (kind_ids group volumes.Pv) k id group.id (omega arith)) has)
 
 pub lvs_tell : (group : Group) (kind : Kind) (block : List ExtentSpan) (id : List ℕ) (answer : Bool) → kind ≡ volumes.Lv → id ≡ group.id
     → (HasId group kind block id → ⊥) → IsTrue answer ↔ NoneHas group kind block volumes.Pv 0
@@ -153,8 +156,8 @@ lvs_tell group kind block id answer is same not_own tells = (
       (subst (λ k. Contains (ids_before group k) other) is at) has,
   λ none. tells.1 (λ number past lt has.
       none (id_of group volumes.Pv number) (subst (λ k. Contains (ids_before group k) (id_of group volumes.Pv number)) (sym is)
-          (contains_later group.id (id_of group volumes.Pv number) (kind_ids group volumes.Pv)
-          (Contains-get_or (kind_ids group volumes.Pv) number group.id lt))) has),
+      (contains_later group.id (id_of group volumes.Pv number) (kind_ids group volumes.Pv)
+      (Contains-get_or (kind_ids group volumes.Pv) number group.id lt))) has),
 )
 
 -- one volume more that isn't in the block

@@ -1,6 +1,6 @@
 -- Numbers that grow in rounds over the legs.
-use Rattle.std.proofs.Common.{◌≡◌, ℕ, zero, suc, ◌+◌, ◌<◌, ◌≤◌, ◌↔◌, IsTrue, max, nat_eq, Bool, true, false, cond, List, [], ◌∷◌, ◌++◌,
-    length, map, get_or, set, take, Option, inl, inr, refl, sym, ap, subst, ◌∙◌, arith}
+use Rattle.std.proofs.Common.{◌≡◌, ℕ, zero, suc, ◌+◌, ◌<◌, ◌≤◌, ◌↔◌, IsTrue, max, nat_eq, Bool, true, false, cond, List, [], ◌∷◌, ◌++◌}
+use Rattle.std.proofs.Common.{length, map, get_or, set, take, Option, inl, inr, refl, sym, ap, subst, ◌∙◌, arith}
 use Rattle.std.specs.Prelude.{Contains, option_map, unwrap_or, filter_map}
 use Rattle.std.specs.List.{flat_map, cons_option}
 use Rattle.std.specs.Ordering.{nat_cmp, ord_max}
@@ -25,8 +25,8 @@ use Rattle.volume_rules.proofs.LegRuns.{contains_first, contains_later}
 use Rattle.volume_rules.proofs.NamedVolumes.{names_to}
 use Rattle.vg_check.specs.declared.climb.Climb.{Climb}
 use Rattle.vg_check.specs.declared.climb.Climb.TheVariants.{Length, Load, Moves}
-use Rattle.vg_check.specs.Climbing.{climbed, counted, grown, greatest_leg, greatest_segment, told, told_on, ClimbsAtMost, HasClimbed,
-    HasGrown}
+use Rattle.vg_check.specs.Climbing.{climbed, counted, grown, greatest_leg, greatest_segment, told, told_on, ClimbsAtMost, HasClimbed}
+use Rattle.vg_check.specs.Climbing.{HasGrown}
 
 greatest_push : (xs : List ℕ) (y : ℕ) → greatest (xs ++ y ∷ []) ≡ max (greatest xs) y
 greatest_push [] y = omega arith
@@ -41,7 +41,7 @@ pub greatest_more : {X : Type 0} (f : X → ℕ) (xs : List X) (n : ℕ) (d : X)
     → greatest (map f (take (n + 1) xs)) ≡ max (greatest (map f (take n xs))) (f (get_or xs n d))
 greatest_more f xs n d lt =
     ap (λ ys. greatest (map f ys)) (take_more xs n d lt) ∙ ap greatest (map-append f (take n xs) (get_or xs n d ∷ []))
-        ∙ greatest_push (map f (take n xs)) (f (get_or xs n d))
+    ∙ greatest_push (map f (take n xs)) (f (get_or xs n d))
 
 greater_is : (a b : ℕ) → ord_max nat_cmp a b ≡ max a b
 greater_is a b = grind (arith, nat_tests)
@@ -52,7 +52,7 @@ pub leg_more : (numbers : List ExtentSpan) (legs : List Leg) (n : ℕ) (d : Leg)
     → result ≡ greatest_leg numbers (take (n + 1) legs)
 leg_more numbers legs n d best said result lt best_is said_is is =
     is ∙ greater_is best said ∙ ap (λ b. max b said) best_is ∙ ap (max (greatest_leg numbers (take n legs))) said_is
-        ∙ sym (greatest_more (λ (leg : Leg). told_on numbers leg.on) legs n d lt)
+    ∙ sym (greatest_more (λ (leg : Leg). told_on numbers leg.on) legs n d lt)
 
 pub segment_more : (numbers : List ExtentSpan) (segments : List Segment) (n : ℕ) (segment : Segment) (legs : List Leg)
     (best said result : ℕ) → n < length segments → segment ≡ get_or segments n segment → legs ≡ legs_of segment.kind
@@ -60,9 +60,9 @@ pub segment_more : (numbers : List ExtentSpan) (segments : List Segment) (n : �
     → result ≡ greatest_segment numbers (take (n + 1) segments)
 segment_more numbers segments n segment legs best said result lt at same best_is said_is is =
     let here : said ≡ greatest_leg numbers (legs_of (get_or segments n segment).kind) =
-        said_is ∙ ap (greatest_leg numbers) same ∙ ap (λ (s : Segment). greatest_leg numbers (legs_of s.kind)) at in
+    said_is ∙ ap (greatest_leg numbers) same ∙ ap (λ (s : Segment). greatest_leg numbers (legs_of s.kind)) at in
     is ∙ greater_is best said ∙ ap (λ b. max b said) best_is ∙ ap (max (greatest_segment numbers (take n segments))) here
-        ∙ sym (greatest_more (λ (s : Segment). greatest_leg numbers (legs_of s.kind)) segments n segment lt)
+    ∙ sym (greatest_more (λ (s : Segment). greatest_leg numbers (legs_of s.kind)) segments n segment lt)
 
 pub greatest_low : (f : ℕ → ℕ) (xs : List ℕ) (most : ℕ) → ((x : ℕ) → f x ≤ most) → greatest (map f xs) ≤ most
 greatest_low f [] most low = omega arith
@@ -90,8 +90,8 @@ segment_names numbers (s ∷ segments) =
     let here = leg_names numbers (legs_of s.kind) in
     let rest = segment_names numbers segments in
     let both =
-        ap greatest (map-append (told numbers) (in_legs (legs_of s.kind)) (in_segments segments))
-            ∙ greatest_append (map (told numbers) (in_legs (legs_of s.kind))) (map (told numbers) (in_segments segments)) in
+    ap greatest (map-append (told numbers) (in_legs (legs_of s.kind)) (in_segments segments))
+    ∙ greatest_append (map (told numbers) (in_legs (legs_of s.kind))) (map (told numbers) (in_segments segments)) in
     omega arith
 
 named_of : (group : Group) (n : ℕ) (lv : Lv) → IsLv group n lv → named_by group n ≡ in_segments lv.segments
@@ -102,7 +102,7 @@ map_same : {X Y : Type 0} (f g : X → Y) (xs : List X) → ((x : X) → Contain
 map_same f g [] same = refl
 map_same f g (x ∷ xs) same =
     ap (λ y. y ∷ map f xs) (same x (contains_first x xs))
-        ∙ ap (λ ys. g x ∷ ys) (map_same f g xs (λ y at. same y (contains_later x y xs at)))
+    ∙ ap (λ ys. g x ∷ ys) (map_same f g xs (λ y at. same y (contains_later x y xs at)))
 
 -- the greatest number of those on which a volume lies
 pub greatest_of : (group : Group) (n : ℕ) (lv : Lv) (segments : List Segment) (old now : List ExtentSpan) → IsLv group n lv
@@ -146,7 +146,7 @@ grown_more group climb old now n d lv segments below result has lt is same great
     | inl here ↦
         subst (λ m. counted (with_count now n d result) m ≡ grown group climb m (greatest (map (told old) (named_by group m)))) (sym here)
         (counted_there now n d result lt ∙ result_is
-            ∙ ap (grown group climb n) (greatest_is ∙ greatest_of group n lv segments old now is same has.kept))
+        ∙ ap (grown group climb n) (greatest_is ∙ greatest_of group n lv segments old now is same has.kept))
     | inr there ↦ counted_kept now n d result k (omega arith) ∙ has.beside k (omega arith)
   ];
 }
@@ -163,9 +163,9 @@ pub named_within : (group : Group) (lv m : ℕ) → LegsLieWithin group → Cont
 named_within group lv m all at =
     let lies = names_to group lv m at in
     let within : LiesWithin group lies.0.on (lies.0.first + lies.0.count) =
-        All-contains (λ (run : LegRun). LiesWithin group run.on (run.first + run.count)) (runs_of group) lies.0 all lies.1 in
+    All-contains (λ (run : LegRun). LiesWithin group run.on (run.first + run.count)) (runs_of group) lies.0 all lies.1 in
     let there : LiesWithin group (on.Lv m) (lies.0.first + lies.0.count) =
-        subst (λ o. LiesWithin group o (lies.0.first + lies.0.count)) lies.3 within in
+    subst (λ o. LiesWithin group o (lies.0.first + lies.0.count)) lies.3 within in
     slice_get_within group.lvs m (there.1.0, there.0) there.1.1
 
 -- a round
@@ -197,8 +197,11 @@ grown_by_one group Moves lv below = omega (arith, flag_one (has_pvmove group lv)
 climbed_low : (group : Group) (climb : Climb) (rounds lv : ℕ) → climbed group climb rounds lv ≤ rounds
 climbed_low group climb zero lv = omega arith
 climbed_low group climb (suc rounds) lv =
-    omega (arith, grown_by_one group climb lv (greatest (map (climbed group climb rounds) (named_by group lv))),
-        greatest_low (climbed group climb rounds) (named_by group lv) rounds (climbed_low group climb rounds))
+    omega (
+      arith,
+      grown_by_one group climb lv (greatest (map (climbed group climb rounds) (named_by group lv))),
+      greatest_low (climbed group climb rounds) (named_by group lv) rounds (climbed_low group climb rounds),
+    )
 
 pub numbers_low : (group : Group) (climb : Climb) (rounds : ℕ) (numbers : List ExtentSpan) (lv : ℕ) → length numbers ≡ length group.lvs
     → HasClimbed group climb rounds numbers → rounds < 5 → told numbers lv ≤ 4
@@ -207,14 +210,14 @@ numbers_low group climb rounds numbers lv long has few =
       | inl lt ↦ omega (arith, has lv (omega arith), climbed_low group climb rounds lv)
       | inr past ↦ let none : told numbers lv ≡ 0 =
           ap (λ (o : Option ExtentSpan). unwrap_or (option_map (λ (run : ExtentSpan). run.first) o) 0)
-              (slice_get_past numbers lv past) in omega arith
+          (slice_get_past numbers lv past) in omega arith
     ]
 
 -- beyond the volumes nothing lies on anything
 none_named : (group : Group) (lv : ℕ) → length group.lvs ≤ lv → named_by group lv ≡ []
 none_named group lv past =
     ap (λ (o : Option (List ℕ × Lv)). in_segments (unwrap_or (option_map (λ (row : List ℕ × Lv). row.1.segments) o) []))
-        (slice_get_past group.lvs lv past)
+    (slice_get_past group.lvs lv past)
 
 below_greatest : (f : ℕ → ℕ) (xs : List ℕ) (x : ℕ) → Contains xs x → f x ≤ greatest (map f xs)
 below_greatest f [] x at = absurd (omega (arith, at.1))
@@ -234,8 +237,12 @@ pub climbs_tell : (group : Group) (climb : Climb) (most : ℕ) (numbers : List E
     → IsTrue answer ↔ ClimbsAtMost group climb most
 climbs_tell group climb most numbers answer within has tells = (
   λ is lv below named. elim (cases_lt lv (length group.lvs)) [
-    | inl lt ↦ omega (arith, tells.0 is lv lt, below_greatest (told numbers) (named_by group lv) below named,
-        has below (named_within group lv below within named))
+    | inl lt ↦ omega (
+      arith,
+      tells.0 is lv lt,
+      below_greatest (told numbers) (named_by group lv) below named,
+      has below (named_within group lv below within named),
+    )
     | inr past ↦ let none : Contains [] below =
         subst (λ xs. Contains xs below) (none_named group lv past) named in absurd (omega (arith, none.1))
   ],

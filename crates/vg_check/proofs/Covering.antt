@@ -1,6 +1,6 @@
 -- Runs in order that follow each other cover what they lie on, and only such do.
-use Rattle.std.proofs.Common.{◌≡◌, ◌↔◌, ℕ, ◌+◌, ◌<◌, ◌≤◌, ◌==◌, IsTrue, Bool, true, List, [], ◌∷◌, ◌++◌, length, get_or, take, inl, inr,
-    sym, ap, subst, ◌∙◌, arith}
+use Rattle.std.proofs.Common.{◌≡◌, ◌↔◌, ℕ, ◌+◌, ◌<◌, ◌≤◌, ◌==◌, IsTrue, Bool, true, List, [], ◌∷◌, ◌++◌, length, get_or, take, inl, inr}
+use Rattle.std.proofs.Common.{sym, ap, subst, ◌∙◌, arith}
 use Rattle.std.specs.Prelude.{All, AllPairs, Contains}
 use Rattle.std.proofs.lemmas.Bool.{cases_lt, cases_order}
 use Rattle.std.proofs.lemmas.Bool.Decides.{nat_tests}
@@ -20,9 +20,13 @@ step runs n d lt = take_more runs n d lt
 
 still : (runs : List ExtentSpan) (on n extent : ℕ) (d : ExtentSpan) → n < length runs → IsCovered (take n runs) on extent
     → IsCovered (take (n + 1) runs) on extent
-still runs on n extent d lt is =
-    (is.0, subst (λ xs. Contains xs is.0) (sym (step runs n d lt)) (Contains-append_left (take n runs) (get_or runs n d ∷ []) is.0 is.1),
-        is.2, is.3, is.4)
+still runs on n extent d lt is = (
+  is.0,
+  subst (λ xs. Contains xs is.0) (sym (step runs n d lt)) (Contains-append_left (take n runs) (get_or runs n d ∷ []) is.0 is.1),
+  is.2,
+  is.3,
+  is.4,
+)
 
 -- a run on another volume
 pub covers_other : (runs : List ExtentSpan) (on n end : ℕ) (d : ExtentSpan) → n < length runs → ((get_or runs n d).on ≡ on → ⊥)
@@ -38,12 +42,18 @@ pub covers_more : (runs : List ExtentSpan) (on n end : ℕ) (d : ExtentSpan) →
 covers_more runs on n end d lt same follows has = record {
   covers = λ extent less. elim (cases_lt extent end) [
     | inl before ↦ still runs on n extent d lt (has.covers extent before)
-    | inr here ↦ (get_or runs n d, subst (λ xs. Contains xs (get_or runs n d)) (sym (step runs n d lt))
-        (Contains-push (take n runs) (get_or runs n d)), same, omega arith, less)
+    | inr here ↦ (
+      get_or runs n d,
+      subst (λ xs. Contains xs (get_or runs n d)) (sym (step runs n d lt))
+          (Contains-push (take n runs) (get_or runs n d)),
+      same,
+      omega arith,
+      less,
+    )
   ];
   ends =
       All-more (EndsWithin on ((get_or runs n d).first + (get_or runs n d).count)) runs n d lt
-          (λ k e less on_it. let before = has.ends k e less on_it in omega arith) (λ on_it. omega arith);
+      (λ k e less on_it. let before = has.ends k e less on_it in omega arith) (λ on_it. omega arith);
 }
 
 -- of two runs of which one ends before the other, on the same volume
@@ -60,7 +70,7 @@ below runs on n d lt apart same is =
     let there : get_or runs k is.0 ≡ is.0 = sym (get_or-take n runs k is.0 before) ∙ is.1.2 in
     let pair : EndsBefore (get_or runs k is.0) (get_or runs n is.0) = apart k n is.0 before lt in
     let ends : EndsBefore is.0 (get_or runs n d) =
-        subst (λ r. EndsBefore r (get_or runs n d)) there (subst (EndsBefore (get_or runs k is.0)) (same_read runs n is.0 d lt) pair) in
+    subst (λ r. EndsBefore r (get_or runs n d)) there (subst (EndsBefore (get_or runs k is.0)) (same_read runs n is.0 d lt) pair) in
     omega (arith, ends_first is.0 (get_or runs n d) ends (is.2 ∙ sym same), is.4)
 
 -- before one that begins too late there is a gap
@@ -81,8 +91,8 @@ above runs on n end d lt apart same ended high is =
         | inr later ↦
             let pair : EndsBefore (get_or runs n is.0) (get_or runs k is.0) = apart n k is.0 later is.1.1 in
             let ends : EndsBefore (get_or runs n d) is.0 =
-                subst (EndsBefore (get_or runs n d)) is.1.2
-                    (subst (λ r. EndsBefore r (get_or runs k is.0)) (same_read runs n is.0 d lt) pair) in
+            subst (EndsBefore (get_or runs n d)) is.1.2
+            (subst (λ r. EndsBefore r (get_or runs k is.0)) (same_read runs n is.0 d lt) pair) in
             omega (arith, ends_first (get_or runs n d) is.0 ends (same ∙ sym is.2), is.3)
       ]
     ]
@@ -123,10 +133,10 @@ covers_all runs on n end extents answer past within has is = (
         | inr rest ↦ elim rest [
           | inl low ↦ let c =
               all end low in let e : EndsWithin on end c.0 = All-contains (EndsWithin on end) runs c.0 (whole has) c.1 in absurd
-                  (omega (arith, e c.2, c.4))
+              (omega (arith, e c.2, c.4))
           | inr high ↦ let c =
               has.covers extents high in let at : Contains runs c.0 = subst (λ xs. Contains xs c.0) (take_all n runs past)
-                  c.1 in let e : EndsWithin on extents c.0 = All-contains (EndsWithin on extents) runs c.0 within at in absurd
-                  (omega (arith, e c.2, c.4))
+              c.1 in let e : EndsWithin on extents c.0 = All-contains (EndsWithin on extents) runs c.0 within at in absurd
+              (omega (arith, e c.2, c.4))
         ]
       ]

@@ -1,6 +1,6 @@
 -- What the rules before that on legs say of the rows of a group.
-use Rattle.std.proofs.Common.{◌≡◌, ℕ, zero, suc, ◌+◌, ◌-◌, ◌*◌, ◌^◌, ◌/◌, ◌%◌, ◌<◌, ◌≤◌, List, [], ◌∷◌, length, get_or, Some, inl, inr, ap,
-    subst, arith}
+use Rattle.std.proofs.Common.{◌≡◌, ℕ, zero, suc, ◌+◌, ◌-◌, ◌*◌, ◌^◌, ◌/◌, ◌%◌, ◌<◌, ◌≤◌, List, [], ◌∷◌, length, get_or, Some, inl, inr, ap}
+use Rattle.std.proofs.Common.{subst, arith}
 use Rattle.std.specs.Prelude.{All, slice_get, sum_by}
 use Rattle.std.proofs.lemmas.Bool.{cases_lt}
 use Rattle.std.proofs.lemmas.List.Sums.{sum_by-cons}
@@ -25,8 +25,11 @@ last_end at (s ∷ []) follow zero d is = omega (arith, follow.0, sum_by-cons (�
 last_end at (s ∷ []) follow (suc k) d is = absurd (omega arith)
 last_end at (s ∷ t ∷ segments) follow zero d is = absurd (omega arith)
 last_end at (s ∷ t ∷ segments) follow (suc k) d is =
-    omega (arith, last_end (at + s.count) (t ∷ segments) follow.2 k d (omega arith),
-        sum_by-cons (λ (s : Segment). s.count) s (t ∷ segments))
+    omega (
+      arith,
+      last_end (at + s.count) (t ∷ segments) follow.2 k d (omega arith),
+      sum_by-cons (λ (s : Segment). s.count) s (t ∷ segments),
+    )
 
 -- each of them has an extent
 follow_some : (at : ℕ) (segments : List Segment) → Follow at segments → All (λ s. 1 ≤ s.count) segments
@@ -62,14 +65,14 @@ pub lvs_whole : (group : Group) (n : ℕ) (row : List ℕ × Lv) → KeepsBelow 
     → All SegmentIsWhole row.1.segments
 lvs_whole group n row below is k d lt =
     let stripes =
-        all_at (λ (lv : List ℕ × Lv). All (λ segment. IsWholeStriped group.extent_size segment.count segment.kind) lv.1.segments) group.lvs
-            n row (below Stripes (omega arith)) is k d lt in
+    all_at (λ (lv : List ℕ × Lv). All (λ segment. IsWholeStriped group.extent_size segment.count segment.kind) lv.1.segments) group.lvs
+    n row (below Stripes (omega arith)) is k d lt in
     let mirrors =
-        all_at (λ (lv : List ℕ × Lv). All (λ segment. IsWholeMirror segment.kind) lv.1.segments) group.lvs n row
-            (below Mirrors (omega arith)) is k d lt in
+    all_at (λ (lv : List ℕ × Lv). All (λ segment. IsWholeMirror segment.kind) lv.1.segments) group.lvs n row
+    (below Mirrors (omega arith)) is k d lt in
     let both =
-        whole_kind group.extent_size (get_or row.1.segments k d).count (get_or row.1.segments k d).kind
-            (follow_some 0 row.1.segments (lvs_follow group n row below is) k d lt) stripes mirrors in
+    whole_kind group.extent_size (get_or row.1.segments k d).count (get_or row.1.segments k d).kind
+    (follow_some 0 row.1.segments (lvs_follow group n row below is) k d lt) stripes mirrors in
     record { small = (lvs_small group n row below is).1 k d lt; legs = both.0; covers = both.1 }
 
 -- the last one, as it is found

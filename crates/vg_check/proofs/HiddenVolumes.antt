@@ -33,9 +33,9 @@ pub hide_all : (group : Group) → ((n : ℕ) (row : List ℕ × Lv) → slice_g
 hide_all group each lv below volume lies there =
     let is : IsRunOf group.lvs 0 lies.0 = run_is group lies.0 lies.1 in
     let legs : LegsAreHidden group is.segment =
-        all_at (LegsAreHidden group) is.volume.1.segments lies.0.segment is.segment (each is.nth is.volume is.is_volume) is.is_segment in
+    all_at (LegsAreHidden group) is.volume.1.segments lies.0.segment is.segment (each is.nth is.volume is.is_volume) is.is_segment in
     let leg : OnIsHidden group is.leg.on =
-        all_at (λ (l : Leg). OnIsHidden group l.on) (legs_of is.segment.kind) lies.0.leg is.leg legs is.is_leg in
+    all_at (λ (l : Leg). OnIsHidden group l.on) (legs_of is.segment.kind) lies.0.leg is.leg legs is.is_leg in
     let hidden : LvIsHidden group below = subst (OnIsHidden group) (sym is.on_is ∙ lies.3) leg in
     hidden volume there
 
@@ -51,6 +51,6 @@ hide_each group n lv is hides k d lt j e less = by_on leg.on refl where
   by_on (on.Pv m) same = tt
   by_on (on.Lv m) same =
       let run =
-          run_of group n (is.0, lv) k segment j leg is.1 (slice_get-get_or lv.segments k d lt)
-              (slice_get-get_or (legs_of segment.kind) j e less) in
+      run_of group n (is.0, lv) k segment j leg is.1 (slice_get-get_or lv.segments k d lt)
+      (slice_get-get_or (legs_of segment.kind) j e less) in
       λ volume there. hides n m volume (run.0, run.1, run.2, run.5 ∙ same) there

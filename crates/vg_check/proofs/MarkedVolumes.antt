@@ -1,6 +1,6 @@
 -- A volume's mark after five rounds says whether it is moving.
-use Rattle.std.proofs.Common.{◌≡◌, ◌↔◌, ℕ, zero, suc, ◌+◌, ◌<◌, ◌≤◌, max, IsTrue, Bool, true, false, ◌||◌, cond, List, [], ◌∷◌, length, map,
-    get_or, Option, Some, inl, inr, refl, sym, ap, subst, ◌∙◌, arith}
+use Rattle.std.proofs.Common.{◌≡◌, ◌↔◌, ℕ, zero, suc, ◌+◌, ◌<◌, ◌≤◌, max, IsTrue, Bool, true, false, ◌||◌, cond, List, [], ◌∷◌, length, map}
+use Rattle.std.proofs.Common.{get_or, Option, Some, inl, inr, refl, sym, ap, subst, ◌∙◌, arith}
 use Rattle.std.specs.Prelude.{slice_get, option_map, unwrap_or}
 use Rattle.std.specs.List.{list_any}
 use Rattle.std.proofs.lemmas.Bool.{cases_eq}
@@ -31,7 +31,7 @@ any_mark : (test : ℕ → Bool) (number : ℕ → ℕ) (xs : List ℕ) → ((x 
 any_mark test number [] same = refl
 any_mark test number (x ∷ xs) same =
     ap (λ n. max n (greatest (map number xs))) (same x) ∙ ap (max (mark (test x))) (any_mark test number xs same)
-        ∙ either (test x) (list_any test xs)
+    ∙ either (test x) (list_any test xs)
 
 no_mark : (xs : List ℕ) → greatest (map (λ (x : ℕ). 0) xs) ≡ 0
 no_mark [] = refl
@@ -45,7 +45,7 @@ pub marks : (group : Group) (steps lv : ℕ) → climbed group Moves (suc steps)
 marks group zero lv = ap (max (mark (has_pvmove group lv))) (no_mark (named_by group lv)) ∙ no_more (mark (has_pvmove group lv))
 marks group (suc steps) lv =
     ap (max (mark (has_pvmove group lv))) (any_mark (λ below. leads_to_pvmove group steps below) (climbed group Moves (suc steps))
-        (named_by group lv) (marks group steps))
+    (named_by group lv) (marks group steps))
     ∙ either (has_pvmove group lv) (list_any (λ below. leads_to_pvmove group steps below) (named_by group lv))
 
 marked : (is : Bool) → 1 ≤ mark is → is ≡ true

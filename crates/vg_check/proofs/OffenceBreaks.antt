@@ -10,8 +10,8 @@ use Rattle.volume_rules.specs.Legs.{LegRun, runs_of}
 use Rattle.volume_rules.specs.Offences.{FailsAt, IsOffence, SegmentFailsAt}
 use Rattle.volume_rules.specs.Rules.{FitsDevice, Follow, IsWholeMirror, IsWholeStriped, Keeps, LiesWithin, MovedIsAllowed}
 use Rattle.volume_rules.specs.declared.rule.Rule.{Rule}
-use Rattle.volume_rules.specs.declared.rule.Rule.TheVariants.{Numbers, Ids, Volumes, Segments, Extents, Follows, Stripes, Mirrors, Within,
-    Apart, Depth, Moved, Pvmove, Locked}
+use Rattle.volume_rules.specs.declared.rule.Rule.TheVariants.{Numbers, Ids, Volumes, Segments, Extents, Follows, Stripes, Mirrors, Within}
+use Rattle.volume_rules.specs.declared.rule.Rule.TheVariants.{Apart, Depth, Moved, Pvmove, Locked}
 use Rattle.vg_check.proofs.Walks.{row_of_all}
 
 row_fails : {A : Type 0} (Good : A → Type 0) (rows : List A) (at : ℕ) → FailsAt Good rows at → All Good rows → ⊥
@@ -21,7 +21,7 @@ segment_fails : (Good : Lv → Segment → Type 0) (group : Group) (at other : �
     → All (λ (row : List ℕ × Lv). All (Good row.1) row.1.segments) group.lvs → ⊥
 segment_fails Good group at other fails all =
     row_fails (Good fails.0.1) fails.0.1.segments other fails.2
-        (row_of_all (λ (row : List ℕ × Lv). All (Good row.1) row.1.segments) group.lvs at fails.0 fails.1 all)
+    (row_of_all (λ (row : List ℕ × Lv). All (Good row.1) row.1.segments) group.lvs at fails.0 fails.1 all)
 
 pub offence_breaks : (group : Group) (rule : Rule) (at other : ℕ) → IsOffence group rule at other → Keeps group rule → ⊥
 offence_breaks group Numbers at other offence = offence.2
@@ -36,7 +36,7 @@ offence_breaks group Stripes at other offence =
 offence_breaks group Mirrors at other offence = segment_fails (λ lv segment. IsWholeMirror segment.kind) group at other offence
 offence_breaks group Within at other offence =
     λ within. offence.4 (All-contains (λ (run : LegRun). LiesWithin group run.on (run.first + run.count)) (runs_of group) offence.0 within
-        offence.1)
+    offence.1)
 offence_breaks group Apart at other offence = offence.2
 offence_breaks group Depth at other offence = offence.2
 offence_breaks group Moved at other offence =

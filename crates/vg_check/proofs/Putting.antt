@@ -1,6 +1,6 @@
 -- Runs that are put one behind another.
-use Rattle.std.proofs.Common.{◌≡◌, ℕ, ◌+◌, ◌<◌, ◌≤◌, List, [], ◌∷◌, ◌++◌, length, get_or, take, set, refl, sym, ap, subst, ◌∙◌,
-    append_assoc, append-nil, length-append, arith}
+use Rattle.std.proofs.Common.{◌≡◌, ℕ, ◌+◌, ◌<◌, ◌≤◌, List, [], ◌∷◌, ◌++◌, length, get_or, take, set, refl, sym, ap, subst, ◌∙◌}
+use Rattle.std.proofs.Common.{append_assoc, append-nil, length-append, arith}
 use Rattle.std.specs.List.{flat_map}
 use Rattle.std.proofs.lemmas.List.{take_more_set, take_more, length-set}
 use Rattle.std.proofs.lemmas.Grind.{flat_map-append}
@@ -37,7 +37,7 @@ front_more : {X : Type 0} (f : X → List ExtentSpan) (xs : List X) (n : ℕ) (x
 front_more f xs n x lt is =
     let step : take (n + 1) xs ≡ take n xs ++ x ∷ [] = take_more xs n x lt ∙ ap (λ y. take n xs ++ y ∷ []) (sym is) in
     ap (flat_map f) step ∙ flat_map-append f (take n xs) (x ∷ [])
-        ∙ ap (λ (runs : List ExtentSpan). flat_map f (take n xs) ++ runs) (append-nil (f x))
+    ∙ ap (λ (runs : List ExtentSpan). flat_map f (take n xs) ++ runs) (append-nil (f x))
 
 -- those of one element more
 pub puts_more : {X : Type 0} (f : X → List ExtentSpan) (xs : List X) (n : ℕ) (x : X) (old between new : List ExtentSpan)
@@ -46,7 +46,7 @@ pub puts_more : {X : Type 0} (f : X → List ExtentSpan) (xs : List X) (n : ℕ)
     → Puts old count (flat_map f (take (n + 1) xs)) new after
 puts_more f xs n x old between new count middle after lt is first second =
     subst (λ put. Puts old count put new after) (sym (front_more f xs n x lt is))
-        (puts_both old between new count middle after (flat_map f (take n xs)) (f x) first second)
+    (puts_both old between new count middle after (flat_map f (take n xs)) (f x) first second)
 
 -- there is room for them
 pub room_more : {X : Type 0} (f : X → List ExtentSpan) (xs : List X) (n : ℕ) (x : X) (old between : List ExtentSpan) (count middle : ℕ)
@@ -68,7 +68,7 @@ pub row_more : (group : Group) (n : ℕ) (lv : Lv) (segments : List Segment) (ol
     → Puts old 0 (flat_map of_row (take (n + 1) group.lvs)) new after
 row_more group n lv segments old between new middle after is same first second =
     puts_more of_row group.lvs n (is.0, lv) old between new 0 middle after (slice_get_within group.lvs n (is.0, lv) is.1)
-        (sym (get_or_from_slice_get group.lvs n (is.0, lv) (is.0, lv) is.1))
+    (sym (get_or_from_slice_get group.lvs n (is.0, lv) (is.0, lv) is.1))
     first (subst (λ s. Puts between middle (volume_runs s) new after) same second)
 
 pub row_room : (group : Group) (n : ℕ) (lv : Lv) (segments : List Segment) (old between : List ExtentSpan) (middle : ℕ) → IsLv group n lv
@@ -78,4 +78,4 @@ pub row_room : (group : Group) (n : ℕ) (lv : Lv) (segments : List Segment) (ol
 row_room group n lv segments old between middle is same room first =
     subst (λ s. middle + length (volume_runs s) ≤ length between) (sym same)
     (room_more of_row group.lvs n (is.0, lv) old between 0 middle (slice_get_within group.lvs n (is.0, lv) is.1)
-        (sym (get_or_from_slice_get group.lvs n (is.0, lv) (is.0, lv) is.1)) (omega arith) first)
+    (sym (get_or_from_slice_get group.lvs n (is.0, lv) (is.0, lv) is.1)) (omega arith) first)

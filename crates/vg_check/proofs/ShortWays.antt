@@ -1,6 +1,6 @@
 -- The depth of ways is what the numbers say after five rounds.
-use Rattle.std.proofs.Common.{◌≡◌, ◌↔◌, ℕ, zero, suc, ◌+◌, ◌≤◌, IsTrue, Bool, true, false, cond, List, [], ◌∷◌, length, map, drop, refl,
-    sym, ap, subst, ◌∙◌, arith}
+use Rattle.std.proofs.Common.{◌≡◌, ◌↔◌, ℕ, zero, suc, ◌+◌, ◌≤◌, IsTrue, Bool, true, false, cond, List, [], ◌∷◌, length, map, drop, refl}
+use Rattle.std.proofs.Common.{sym, ap, subst, ◌∙◌, arith}
 use Rattle.std.proofs.lemmas.Bool.{false≢true}
 use Rattle.std.proofs.lemmas.List.{at_drop_more}
 use Rattle.std.proofs.lemmas.List.Sums.{sum_by-cons}
@@ -37,7 +37,7 @@ pub pvmove_later : (group : Group) (n : ℕ) (lv : Lv) → IsLv group n lv → l
 pvmove_later group n lv is moves so_far =
     let step = pvmove_step group n lv is in
     let more : pvmove_number (drop n group.lvs) ≡ pvmove_number (drop (n + 1) group.lvs) + 1 =
-        step ∙ ap (λ b. cond b 0 (pvmove_number (drop (n + 1) group.lvs) + 1)) moves in
+    step ∙ ap (λ b. cond b 0 (pvmove_number (drop (n + 1) group.lvs) + 1)) moves in
     omega arith
 
 -- a run for each volume
@@ -54,26 +54,27 @@ pub lengths : (group : Group) (rounds lv : ℕ) → climbed group Length rounds 
 lengths group zero lv = refl
 lengths group (suc rounds) lv =
     ap (λ xs. 1 + greatest xs) (map_each (climbed group Length rounds) (height (λ v. 1) (named_by group) rounds) (named_by group lv)
-        (lengths group rounds))
+    (lengths group rounds))
 
 pub loads : (group : Group) (rounds lv : ℕ)
     → climbed group (Load (pvmove_number group.lvs)) rounds lv ≡ height (counts group) (named_by group) rounds lv
 loads group zero lv = refl
 loads group (suc rounds) lv =
     ap (λ xs. counts group lv + greatest xs)
-        (map_each (climbed group (Load (pvmove_number group.lvs)) rounds) (height (counts group) (named_by group) rounds)
-        (named_by group lv) (loads group rounds))
+    (map_each (climbed group (Load (pvmove_number group.lvs)) rounds) (height (counts group) (named_by group) rounds)
+    (named_by group lv) (loads group rounds))
 
 ways_tell : (group : Group) → ClimbsAtMost group Length 4 → ClimbsAtMost group (Load (pvmove_number group.lvs)) 3 → WaysAreShort group
 ways_tell group long heavy =
     (depth_by_rounds group).1 (λ lv below named.
-        (omega (arith, long lv below named, lengths group 5 below), omega (arith, heavy lv below named, loads group 5 below)))
+    (omega (arith, long lv below named, lengths group 5 below), omega (arith, heavy lv below named, loads group 5 below)))
 
 ways_show : (group : Group) → WaysAreShort group → ClimbsAtMost group Length 4 × ClimbsAtMost group (Load (pvmove_number group.lvs)) 3
 ways_show group ways =
-    let heights = (depth_by_rounds group).0 ways in
-    (λ lv below named. omega (arith, (heights lv below named).0, lengths group 5 below),
-        λ lv below named. omega (arith, (heights lv below named).1, loads group 5 below))
+    let heights = (depth_by_rounds group).0 ways in (
+      λ lv below named. omega (arith, (heights lv below named).0, lengths group 5 below),
+      λ lv below named. omega (arith, (heights lv below named).1, loads group 5 below),
+    )
 
 -- what the two tests say
 pub first_fails : (group : Group) (answer : Bool) → answer ≡ false → IsTrue answer ↔ ClimbsAtMost group Length 4

@@ -1,6 +1,6 @@
 -- Blocks of volumes in the order of their ids.
-use Rattle.std.proofs.Common.{◌≡◌, ◌↔◌, ℕ, ◌+◌, ◌-◌, ◌<◌, ◌≤◌, IsTrue, Bool, false, List, length, get_or, Result, Ok, Err, inl, inr, sym,
-    ap, ◌∙◌, arith}
+use Rattle.std.proofs.Common.{◌≡◌, ◌↔◌, ℕ, ◌+◌, ◌-◌, ◌<◌, ◌≤◌, IsTrue, Bool, false, List, length, get_or, Result, Ok, Err, inl, inr, sym}
+use Rattle.std.proofs.Common.{ap, ◌∙◌, arith}
 use Rattle.std.specs.Prelude.{AllPairs}
 use Rattle.std.specs.Ordering.{nat_cmp, is_lt, ordering_reverse}
 use Rattle.std.specs.declared.cmp.Ordering.{Ordering}
@@ -33,9 +33,11 @@ pub found_tells : (group : Group) (kind : Kind) (block : List ExtentSpan) (id pl
     → answer ≡ is_ok result → IsTrue answer ↔ HasId group kind block id
 found_tells group kind block id plain (Ok i) answer same sorted found within is = (
   λ yes.
-      let none : ExtentSpan = record { on = 0; first = 0; count = 0 } in
-      (get_or block i none, Contains-get_or block i none within,
-          exact_bytes (key_of group kind (get_or block i none)) plain (found none) ∙ same),
+      let none : ExtentSpan = record { on = 0; first = 0; count = 0 } in (
+        get_or block i none,
+        Contains-get_or block i none within,
+        exact_bytes (key_of group kind (get_or block i none)) plain (found none) ∙ same,
+      ),
   λ has. is,
 )
 found_tells group kind block id plain (Err i) answer same sorted found within is =
@@ -45,8 +47,8 @@ found_tells group kind block id plain (Err i) answer same sorted found within is
           let k : ℕ = has.1.0 in
           let there : get_or block k has.0 ≡ has.0 = has.1.2 in
           let tie : cmp (key_of group kind (get_or block k has.0)) plain ≡ Equal =
-              ap (λ (r : ExtentSpan). cmp (key_of group kind r) plain) there ∙ ap (λ x. cmp x plain) (has.2 ∙ sym same)
-                  ∙ tied_itself nat_list_cmp_total plain in
+          ap (λ (r : ExtentSpan). cmp (key_of group kind r) plain) there ∙ ap (λ x. cmp x plain) (has.2 ∙ sym same)
+          ∙ tied_itself nat_list_cmp_total plain in
           elim (cases_lt k i) [
             | inl low ↦ let less : cmp (key_of group kind (get_or block k has.0)) plain ≡ Less = parts.0 k has.0 (omega arith) low in cc
             | inr high ↦ let more : cmp (key_of group kind (get_or block k has.0)) plain ≡ Greater = parts.1 k has.0 high has.1.1 in cc
@@ -60,7 +62,7 @@ pub differ_more : (group : Group) (kind : Kind) (block : List ExtentSpan) (i : �
 differ_more group kind block i d a b some lt a_is b_is differ before =
     all_adjacent_more block (IdsDifferAt group kind) i some before
     (λ e same. differ (a_is ∙ ap (key_of group kind) (same_read block (i - 1) d e (omega arith)) ∙ same
-        ∙ ap (key_of group kind) (same_read block i e d lt) ∙ sym b_is))
+    ∙ ap (key_of group kind) (same_read block i e d lt) ∙ sym b_is))
 
 -- where neither is less they are equal
 neither : (a b : Ordering) → a ≡ ordering_reverse b → is_lt a ≡ false → is_lt b ≡ false → a ≡ Equal
@@ -75,11 +77,11 @@ differ_pairs group kind block sorted near i j d lt within same =
     let key : ℕ → List ℕ = λ k. key_of group kind (get_or block k d) in
     let up : is_lt (cmp (key (i + 1)) (key i)) ≡ false = sorted i d (omega arith) (omega arith) in
     let down : is_lt (cmp (key j) (key (i + 1))) ≡ false =
-        sorted_far (λ (a b : ExtentSpan). is_lt (cmp (key_of group kind a) (key_of group kind b)))
-            (ranks_by nat_list_cmp_total (key_of group kind)) block sorted (i + 1) j d (omega arith) within in
+    sorted_far (λ (a b : ExtentSpan). is_lt (cmp (key_of group kind a) (key_of group kind b)))
+    (ranks_by nat_list_cmp_total (key_of group kind)) block sorted (i + 1) j d (omega arith) within in
     let down' : is_lt (cmp (key i) (key (i + 1))) ≡ false = ap (λ x. is_lt (cmp x (key (i + 1)))) same ∙ down in
     let tie : cmp (key i) (key (i + 1)) ≡ Equal =
-        neither (cmp (key i) (key (i + 1))) (cmp (key (i + 1)) (key i)) (nat_list_cmp_total.antisymm (key i) (key (i + 1))) down' up in
+    neither (cmp (key i) (key (i + 1))) (cmp (key (i + 1)) (key i)) (nat_list_cmp_total.antisymm (key i) (key (i + 1))) down' up in
     near i d (omega arith) (exact_bytes (key i) (key (i + 1)) tie)
 
 pub pairs_near : (group : Group) (kind : Kind) (block : List ExtentSpan) → AllPairs (IdsDifferAt group kind) block

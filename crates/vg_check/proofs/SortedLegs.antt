@@ -1,6 +1,6 @@
 -- The runs of all legs: as they are sorted, that there is room for them, and that they can be sorted.
-use Rattle.std.proofs.Common.{◌≡◌, ℕ, ◌+◌, ◌^◌, ◌<◌, ◌≤◌, ◌↔◌, IsTrue, Bool, List, [], ◌∷◌, ◌++◌, length, map, get_or, take, Some, None,
-    refl, sym, ap, subst, ◌∙◌, length-append, arith}
+use Rattle.std.proofs.Common.{◌≡◌, ℕ, ◌+◌, ◌^◌, ◌<◌, ◌≤◌, ◌↔◌, IsTrue, Bool, List, [], ◌∷◌, ◌++◌, length, map, get_or, take, Some, None}
+use Rattle.std.proofs.Common.{refl, sym, ap, subst, ◌∙◌, length-append, arith}
 use Rattle.std.specs.Prelude.{All, AllPairs, slice_get, sum_by}
 use Rattle.std.specs.List.{flat_map, AllAdjacentBelow}
 use Rattle.std.specs.List.Sorted.{IsPermutation}
@@ -41,7 +41,7 @@ of_segments : (lv number : ℕ) (segments : List Segment) → map run_to_sort (r
 of_segments lv number [] = refl
 of_segments lv number (s ∷ segments) =
     map-append run_to_sort (runs_of_legs lv number (leg_share s.count s.kind) 0 (legs_of s.kind))
-        (runs_of_segments lv (number + 1) segments)
+    (runs_of_segments lv (number + 1) segments)
     ∙ ap (λ (runs : List ExtentSpan). runs ++ map run_to_sort (runs_of_segments lv (number + 1) segments))
     (of_legs lv number (leg_share s.count s.kind) 0 (legs_of s.kind))
     ∙ ap (λ (runs : List ExtentSpan). segment_runs s ++ runs) (of_segments lv (number + 1) segments)
@@ -64,14 +64,23 @@ segments_fit : (segments : List Segment) → length (volume_runs segments) ≡ s
 segments_fit [] = refl
 segments_fit (s ∷ segments) =
     let long : length (segment_runs s) ≡ length (legs_of s.kind) = length-map (legs_of s.kind) (leg_run (leg_share s.count s.kind)) in
-    omega (arith, length-append (segment_runs s) (volume_runs segments), segments_fit segments,
-        sum_by-cons (λ (s : Segment). length (legs_of s.kind)) s segments)
+    omega (
+      arith,
+      length-append (segment_runs s) (volume_runs segments),
+      segments_fit segments,
+      sum_by-cons (λ (s : Segment). length (legs_of s.kind)) s segments,
+    )
 
 rows_fit : (lvs : List (List ℕ × Lv)) → length (flat_map (λ (row : List ℕ × Lv). volume_runs row.1.segments) lvs) ≤ run_room lvs
 rows_fit [] = omega arith
 rows_fit (v ∷ lvs) =
-    omega (arith, length-append (volume_runs v.1.segments) (flat_map (λ (row : List ℕ × Lv). volume_runs row.1.segments) lvs), rows_fit lvs,
-        segments_fit v.1.segments, sum_by-cons (λ (row : List ℕ × Lv). room_of row.1) v lvs)
+    omega (
+      arith,
+      length-append (volume_runs v.1.segments) (flat_map (λ (row : List ℕ × Lv). volume_runs row.1.segments) lvs),
+      rows_fit lvs,
+      segments_fit v.1.segments,
+      sum_by-cons (λ (row : List ℕ × Lv). room_of row.1) v lvs,
+    )
 
 pub group_fits : (group : Group) → length (group_runs group) ≤ run_room group.lvs
 group_fits group = rows_fit group.lvs
@@ -94,8 +103,8 @@ leg_sortable : (group : Group) (run : LegRun) → KeepsBelow 10 group → IsRunO
     → LiesWithin group run.on (run.first + run.count) → CanBeSorted (run_to_sort run)
 leg_sortable group run below is within =
     let whole : SegmentIsWhole is.segment =
-        all_at SegmentIsWhole is.volume.1.segments run.segment is.segment
-            (lvs_whole group is.nth is.volume (fewer group 9 10 (omega arith) below) is.is_volume) is.is_segment in
+    all_at SegmentIsWhole is.volume.1.segments run.segment is.segment
+    (lvs_whole group is.nth is.volume (fewer group 9 10 (omega arith) below) is.is_volume) is.is_segment in
     let first = small_first is.segment.kind run.leg is.leg whole.small.2 is.is_leg in
     let share = small_share is.segment.count is.segment.kind whole.small.1 in
     record {
@@ -110,7 +119,7 @@ runs_sortable group below =
     subst (All CanBeSorted) (sorted_are group)
     (All-map CanBeSorted run_to_sort (runs_of group)
     (λ k d lt. let run : LegRun = get_or (runs_of group) k d in leg_sortable group run below
-        (run_is group run (All-contains_itself (runs_of group) k d lt)) (within k d lt)))
+    (run_is group run (All-contains_itself (runs_of group) k d lt)) (within k d lt)))
 
 -- that they lie apart is the rule
 pub apart_tells : (group : Group) (answer : Bool) (runs : List ExtentSpan) → runs ≡ group_runs group
@@ -132,5 +141,5 @@ sorted_front group count before after counted front order moved =
       order = subst (λ n. AllAdjacentBelow StandsBefore (take n after) n) same order;
       moved =
           subst (λ n. IsPermutation (group_runs group) (take n after)) same
-              (subst (λ runs. IsPermutation runs (take count after)) front moved);
+          (subst (λ runs. IsPermutation runs (take count after)) front moved);
     }

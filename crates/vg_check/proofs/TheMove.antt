@@ -1,6 +1,6 @@
 -- The one PVMOVE volume.
-use Rattle.std.proofs.Common.{◌≡◌, ◌↔◌, ℕ, zero, suc, ◌+◌, ◌<◌, ◌≤◌, IsTrue, Bool, true, false, cond, List, [], ◌∷◌, length, Some, inl, inr,
-    refl, sym, ap, subst, ◌∙◌, arith}
+use Rattle.std.proofs.Common.{◌≡◌, ◌↔◌, ℕ, zero, suc, ◌+◌, ◌<◌, ◌≤◌, IsTrue, Bool, true, false, cond, List, [], ◌∷◌, length, Some, inl, inr}
+use Rattle.std.proofs.Common.{refl, sym, ap, subst, ◌∙◌, arith}
 use Rattle.std.specs.Prelude.{slice_get}
 use Rattle.std.proofs.lemmas.Bool.{cases_eq, cases_lt, false≢true}
 use Rattle.std.proofs.lemmas.Option.{same_Some, slice_get_within}
@@ -50,9 +50,11 @@ pvmove_past group k is = none_before group.lvs k (is.1.0, is.0) is.1.1 is.2
 pub allowed_none : (group : Group) (n many : ℕ) → n ≡ pvmove_number group.lvs → many ≡ length group.lvs → n ≡ many → PvmoveIsAllowed group
 allowed_none group n many is counted same =
     let none : (k : ℕ) → IsPvmove group k → ⊥ =
-        λ k there. omega (arith, pvmove_past group k there, slice_get_within group.lvs k (there.1.0, there.0) there.1.1) in
-    record { one = λ a b first second. absurd (none a first);
-        whole = λ number name lv there moves. absurd (none number (lv, (name, there), moves)) }
+    λ k there. omega (arith, pvmove_past group k there, slice_get_within group.lvs k (there.1.0, there.0) there.1.1) in
+    record {
+      one = λ a b first second. absurd (none a first);
+      whole = λ number name lv there moves. absurd (none number (lv, (name, there), moves));
+    }
 
 -- there are two
 pub allowed_not : (group : Group) (n : ℕ) (answer : Bool) → n ≡ pvmove_number group.lvs → n < length group.lvs → answer ≡ false
@@ -76,14 +78,16 @@ allowed_one group n answer is lt later tells =
     let it = it_moves group.lvs (omega arith) in
     let here : IsPvmove group n = subst (IsPvmove group) (sym is) (it.0.1, (it.0.0, it.1), it.2) in
     let only : (k : ℕ) → IsPvmove group k → k ≡ n =
-        λ k there. elim (cases_lt n k) [ inl past ↦ absurd (later k (omega arith) there) | inr low ↦ omega
-            (arith, pvmove_past group k there) ] in
-    (
+    λ k there. elim (cases_lt n k) [
+      | inl past ↦ absurd (later k (omega arith) there)
+      | inr low ↦ omega
+          (arith, pvmove_past group k there)
+    ] in (
       λ yes. record {
         one = λ a b first second. let left : a ≡ n = only a first in let right : b ≡ n = only b second in omega arith;
         whole =
             λ number name lv there moves. subst (λ m. IsMove group m name lv) (sym (only number (lv, (name, there), moves)))
-                (tells.0 yes name lv (subst (λ m. slice_get group.lvs m ≡ Some (name, lv)) (only number (lv, (name, there), moves)) there));
+            (tells.0 yes name lv (subst (λ m. slice_get group.lvs m ≡ Some (name, lv)) (only number (lv, (name, there), moves)) there));
       },
       λ allowed. tells.1 (λ name lv there. allowed.whole n name lv there (moves_too group n name lv here there)),
     )
@@ -106,6 +110,6 @@ none_more group from n lv is stays before k past lt there =
       | inl same ↦
           let at : slice_get group.lvs n ≡ Some (there.1.0, there.0) = ap (slice_get group.lvs) (sym same) ∙ there.1.1 in
           false≢true (sym stays ∙ ap (λ (row : List ℕ × Lv). row.1.status.pvmove)
-              (same_Some (is.0, lv) (there.1.0, there.0) (sym is.1 ∙ at)) ∙ there.2)
+          (same_Some (is.0, lv) (there.1.0, there.0) (sym is.1 ∙ at)) ∙ there.2)
       | inr other ↦ before k past (omega arith) there
     ]

@@ -38,7 +38,7 @@ front_order : (group : Group) (runs : List ExtentSpan) (count : ℕ) → HasSort
     → AllAdjacentBelow StandsBefore (take count runs) (length (take count runs))
 front_order group runs count has is =
     subst (AllAdjacentBelow StandsBefore (take count runs)) (sym (front_long group runs count has is))
-        (subst (λ n. AllAdjacentBelow StandsBefore (take n runs) n) (sym is) has.order)
+    (subst (λ n. AllAdjacentBelow StandsBefore (take n runs) n) (sym is) has.order)
 
 pub front_sortable : (group : Group) (runs : List ExtentSpan) (count : ℕ) → KeepsBelow 10 group → HasSortedRuns group runs
     → count ≡ length (group_runs group) → All CanBeSorted (take count runs)
@@ -49,10 +49,10 @@ pub front_apart : (group : Group) (runs : List ExtentSpan) (count : ℕ) → Kee
     → count ≡ length (group_runs group) → AllPairs EndsBefore (take count runs)
 front_apart group runs count below apart has is =
     let pairs : AllPairs NoExtentInBoth (group_runs group) =
-        subst (AllPairs NoExtentInBoth) (sorted_are group) ((apart_in_order group).0 apart) in
+    subst (AllPairs NoExtentInBoth) (sorted_are group) ((apart_in_order group).0 apart) in
     pairwise_from_neighbours (take count runs)
-        ((sorted_tells (group_runs group) (take count runs) (runs_sortable group below) (front_moved group runs count has is)
-        (front_order group runs count has is)).1 pairs)
+    ((sorted_tells (group_runs group) (take count runs) (runs_sortable group below) (front_moved group runs count has is)
+    (front_order group runs count has is)).1 pairs)
 
 -- what has the number of a logical volume is it
 is_lv : (o : On) (n : ℕ) → on_number o ≡ 2 * n + 1 → o ≡ on.Lv n
@@ -63,9 +63,9 @@ run_within : (group : Group) (n : ℕ) (lv : Lv) (run : LegRun) → IsLv group n
     → EndsWithin (2 * n + 1) (extents_of lv) (run_to_sort run)
 run_within group n lv run is within on_it =
     let there : LiesWithin group (on.Lv n) (run.first + run.count) =
-        subst (λ o. LiesWithin group o (run.first + run.count)) (is_lv run.on n on_it) within in
+    subst (λ o. LiesWithin group o (run.first + run.count)) (is_lv run.on n on_it) within in
     subst (λ (row : List ℕ × Lv). run.first + run.count ≤ extents_of row.1)
-        (same_Some (there.1.0, there.0) (is.0, lv) (sym there.1.1 ∙ is.1)) there.2
+    (same_Some (there.1.0, there.0) (is.0, lv) (sym there.1.1 ∙ is.1)) there.2
 
 pub front_within : (group : Group) (runs : List ExtentSpan) (count n : ℕ) (lv : Lv) → LegsLieWithin group → IsLv group n lv
     → HasSortedRuns group runs → count ≡ length (group_runs group) → All (EndsWithin (2 * n + 1) (extents_of lv)) (take count runs)
@@ -73,7 +73,7 @@ front_within group runs count n lv within is has counted =
     All-permutation (EndsWithin (2 * n + 1) (extents_of lv)) (group_runs group) (take count runs) (front_moved group runs count has counted)
     (subst (All (EndsWithin (2 * n + 1) (extents_of lv))) (sorted_are group)
     (All-map (EndsWithin (2 * n + 1) (extents_of lv)) run_to_sort (runs_of group)
-        (λ k d lt. run_within group n lv (get_or (runs_of group) k d) is (within k d lt))))
+    (λ k d lt. run_within group n lv (get_or (runs_of group) k d) is (within k d lt))))
 
 -- an element of what a function gives of a list
 in_map : {A B : Type 0} (f : A → B) (xs : List A) (x : A) → Contains xs x → Contains (map f xs) (f x)
@@ -92,8 +92,8 @@ covered_is_used : (group : Group) (runs : List ExtentSpan) (count n extent : ℕ
     → IsCovered (take count runs) (2 * n + 1) extent → IsUsed group (on.Lv n) extent
 covered_is_used group runs count n extent moved is =
     let there : Contains (group_runs group) is.0 =
-        Contains-permutation (take count runs) (group_runs group) is.0 (IsPermutation-sym (group_runs group) (take count runs) moved)
-            is.1 in
+    Contains-permutation (take count runs) (group_runs group) is.0 (IsPermutation-sym (group_runs group) (take count runs) moved)
+    is.1 in
     let leg = from_map (runs_of group) is.0 (subst (λ xs. Contains xs is.0) (sym (sorted_are group)) there) in
     let run : LegRun = leg.0 in
     let on_is : on_number run.on ≡ 2 * n + 1 = ap (λ (r : ExtentSpan). r.on) leg.2 ∙ is.2 in
@@ -105,9 +105,13 @@ used_is_covered : (group : Group) (runs : List ExtentSpan) (count n extent : ℕ
     → IsUsed group (on.Lv n) extent → IsCovered (take count runs) (2 * n + 1) extent
 used_is_covered group runs count n extent moved is =
     let there : Contains (group_runs group) (run_to_sort is.0) =
-        subst (λ xs. Contains xs (run_to_sort is.0)) (sorted_are group) (in_map run_to_sort (runs_of group) is.0 is.1) in
-    (run_to_sort is.0, Contains-permutation (group_runs group) (take count runs) (run_to_sort is.0) moved there, ap on_number is.2.0,
-        is.2.1, is.2.2)
+    subst (λ xs. Contains xs (run_to_sort is.0)) (sorted_are group) (in_map run_to_sort (runs_of group) is.0 is.1) in (
+      run_to_sort is.0,
+      Contains-permutation (group_runs group) (take count runs) (run_to_sort is.0) moved there,
+      ap on_number is.2.0,
+      is.2.1,
+      is.2.2,
+    )
 
 -- what the test of runs without a gap says
 pub used_tells : (group : Group) (runs : List ExtentSpan) (count n extents : ℕ) (lv : Lv) (answer : Bool) → IsLv group n lv
@@ -118,7 +122,7 @@ used_tells group runs count n extents lv answer is has counted extents_is tells 
     let moved = front_moved group runs count has counted in (
       λ yes volume there extent lt.
           let same : extents_of volume ≡ extents_of lv =
-              ap (λ (row : List ℕ × Lv). extents_of row.1) (same_Some (there.0, volume) (is.0, lv) (sym there.1 ∙ is.1)) in
+          ap (λ (row : List ℕ × Lv). extents_of row.1) (same_Some (there.0, volume) (is.0, lv) (sym there.1 ∙ is.1)) in
           covered_is_used group runs count n extent moved (tells.0 yes extent (omega arith)),
       λ used. tells.1 (λ extent lt. used_is_covered group runs count n extent moved (used lv is extent (omega arith))),
     )

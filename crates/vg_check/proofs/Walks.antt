@@ -34,10 +34,10 @@ pub sum_more : {A : Type 0} (f : A → ℕ) (rows : List A) (at : ℕ) (row : A)
     → sum_by f (take (at + 1) rows) ≡ sum_by f (take at rows) + f row
 sum_more f rows at row is =
     sum_by_more f rows at row (slice_get_within rows at row is)
-        ∙ ap (λ x. sum_by f (take at rows) + f x) (get_or_from_slice_get rows at row row is)
+    ∙ ap (λ x. sum_by f (take at rows) + f x) (get_or_from_slice_get rows at row row is)
 
 pub sum_so_far : {A : Type 0} (f : A → ℕ) (rows : List A) (at : ℕ) (row : A) → slice_get rows at ≡ Some row
     → sum_by f (take at rows) + f row ≤ sum_by f rows
 sum_so_far f rows at row is =
     subst (λ x. sum_by f (take at rows) + f x ≤ sum_by f rows) (get_or_from_slice_get rows at row row is)
-        (sum_by_more_le f rows at row (slice_get_within rows at row is))
+    (sum_by_more_le f rows at row (slice_get_within rows at row is))

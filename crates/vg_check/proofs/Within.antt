@@ -55,18 +55,23 @@ all_within group each k d lt = of_run (get_or (runs_of group) k d) (run_is group
   of_run : (run : LegRun) → IsRunOf group.lvs 0 run → LiesWithin group run.on (run.first + run.count)
   of_run run is =
       let inside : LegLiesInside group is.segment is.leg =
-          all_at (LegLiesInside group is.segment) (legs_of is.segment.kind) run.leg is.leg
-              (all_at (LegsLieInside group) is.volume.1.segments run.segment is.segment (each is.nth is.volume is.is_volume) is.is_segment)
-              is.is_leg in
+      all_at (LegLiesInside group is.segment) (legs_of is.segment.kind) run.leg is.leg
+      (all_at (LegsLieInside group) is.volume.1.segments run.segment is.segment (each is.nth is.volume is.is_volume) is.is_segment)
+      is.is_leg in
       subst (λ o. LiesWithin group o (run.first + run.count)) (sym is.on_is)
-          (subst (λ (e : ℕ). LiesWithin group is.leg.on e) (omega (arith, is.first_is, is.count_is)) inside)
+      (subst (λ (e : ℕ). LiesWithin group is.leg.on e) (omega (arith, is.first_is, is.count_is)) inside)
 
 -- a segment that fails is an offence
 pub fails_there : (group : Group) (n : ℕ) (row : List ℕ × Lv) (other : ℕ) → slice_get group.lvs n ≡ Some row
     → SegmentFails group row.1.segments other → IsOffence group Within n other
 fails_there group n row other is fails =
     let outside : HasLegOutside group fails.0 = fails.2 in
-    let run = run_of group n row other fails.0 outside.0 outside.1 is fails.1 outside.2 in
-    (run.0, run.1, run.2, run.3, λ within. outside.3
-        (subst (λ (e : ℕ). LiesWithin group outside.1.on e) (omega (arith, run.6, run.7))
-        (subst (λ o. LiesWithin group o (run.0.first + run.0.count)) run.5 within)))
+    let run = run_of group n row other fails.0 outside.0 outside.1 is fails.1 outside.2 in (
+      run.0,
+      run.1,
+      run.2,
+      run.3,
+      λ within. outside.3
+          (subst (λ (e : ℕ). LiesWithin group outside.1.on e) (omega (arith, run.6, run.7))
+          (subst (λ o. LiesWithin group o (run.0.first + run.0.count)) run.5 within)),
+    )

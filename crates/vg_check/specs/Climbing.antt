@@ -1,6 +1,6 @@
 -- Numbers of volumes that grow in rounds over the legs.
-use Rattle.std.specs.Prelude.{◌≡◌, ℕ, zero, suc, ◌+◌, ◌<◌, ◌≤◌, max, cond, nat_eq, List, ◌∷◌, map, length, option_map, unwrap_or, slice_get,
-    Contains}
+use Rattle.std.specs.Prelude.{◌≡◌, ℕ, zero, suc, ◌+◌, ◌<◌, ◌≤◌, max, cond, nat_eq, List, ◌∷◌, map, length, option_map, unwrap_or, slice_get}
+use Rattle.std.specs.Prelude.{Contains}
 use Rattle.meta_model.specs.declared.group.Group.{Group}
 use Rattle.meta_model.specs.declared.extent_span.ExtentSpan.{ExtentSpan}
 use Rattle.meta_model.specs.declared.segment.Leg.{Leg}

@@ -1,6 +1,6 @@
 -- What is written to one area.
-use Rattle.std.proofs.Common.{◌≡◌, ◌≤◌, ◌<◌, ◌⊎◌, ℕ, ◌+◌, ◌-◌, ◌*◌, ◌/◌, ◌%◌, min, Bool, true, false, ◌||◌, cond, nat_lt, IsTrue, List, [],
-    length, take, drop, get_or, Option, None, Some, IfSome, inl, inr, refl, sym, ap, ◌∙◌, arith}
+use Rattle.std.proofs.Common.{◌≡◌, ◌≤◌, ◌<◌, ◌⊎◌, ℕ, ◌+◌, ◌-◌, ◌*◌, ◌/◌, ◌%◌, min, Bool, true, false, ◌||◌, cond, nat_lt, IsTrue, List, []}
+use Rattle.std.proofs.Common.{length, take, drop, get_or, Option, None, Some, IfSome, inl, inr, refl, sym, ap, ◌∙◌, arith}
 use Rattle.std.proofs.lemmas.Bool.{ltb-true, ltb-false}
 use Rattle.std.proofs.lemmas.List.{get_or-drop, get_or-take}
 use Rattle.std.proofs.lemmas.List.FromFn.{get_or-map-range_with_len}
@@ -48,10 +48,10 @@ touched_is size offset count whole aligned fits = omega arith
 pub is_placed : (text : List ℕ) (a : Area × Option Locn) → CanTake a → need (length text + 1) ≤ room a.0.size a.1 → IsPlaced text a
 is_placed text a take has_room =
     let next : IsNext a.0.size a.1 (length text + 1) (place_of text a) =
-        record { offset_is = refl; sectors_is = refl; has_room = has_room } in
+    record { offset_is = refl; sectors_is = refl; has_room = has_room } in
     let inside : IsNoneOrInside a.0.size a.1 = none_or_inside a.0.size a.1 take.1 in
     let r : IsInRing a.0.size (place_of text a) =
-        in_ring a.0.size a.1 (length text + 1) (place_of text a) take.0.size_is_whole take.0.has_ring inside (omega arith) next in
+    in_ring a.0.size a.1 (length text + 1) (place_of text a) take.0.size_is_whole take.0.has_ring inside (omega arith) next in
     record {
       good = take.0;
       ring = r;
@@ -63,9 +63,15 @@ is_placed text a take has_room =
 pub entry_inside : (text : List ℕ) (a : Area × Option Locn) → IsPlaced text a
     → IsInside a.0.size (new_entry text a) × (length (stored text) ≡ length text + 1)
 entry_inside text a placed =
-    let fits : 512 * need (length text + 1) ≤ a.0.size - 512 = placed.ring.fits in
-    (record { behind_header = placed.ring.behind_header; before_end = placed.ring.before_end; has_bytes = omega arith;
-        has_room = omega arith }, length-with_zero text)
+    let fits : 512 * need (length text + 1) ≤ a.0.size - 512 = placed.ring.fits in (
+      record {
+        behind_header = placed.ring.behind_header;
+        before_end = placed.ring.before_end;
+        has_bytes = omega arith;
+        has_room = omega arith;
+      },
+      length-with_zero text,
+    )
 
 -- the sector is number `number` of those that the text takes in the area, and this is its value
 pub record IsTextPut (text : List ℕ) (a : Area × Option Locn) (pv sector : ℕ) (value : List ℕ) : Type 0 where
@@ -105,7 +111,7 @@ module _ (text : List ℕ) (a : Area × Option Locn) (placed : IsPlaced text a) 
       → value ≡ value_at first_span (take (min all to_end) (text_sectors text total)) sector → IsTextPut text a pv sector value
   put_first pv sector value inside is =
       let t : (a.0.pv ≡ pv) × (a.0.start / 512 + offset / 512 ≤ sector) × (sector < a.0.start / 512 + offset / 512 + min all to_end) =
-          covers_tells first_span pv sector inside in
+      covers_tells first_span pv sector inside in
       let k : ℕ = sector - (a.0.start / 512 + offset / 512) in
       let same : all ≡ total = placed.touched in
       let behind : 512 ≤ offset = placed.ring.behind_header in
@@ -125,7 +131,7 @@ module _ (text : List ℕ) (a : Area × Option Locn) (placed : IsPlaced text a) 
       → value ≡ value_at second_span (drop (min all to_end) (text_sectors text total)) sector → IsTextPut text a pv sector value
   put_second pv sector value round inside is =
       let t : (a.0.pv ≡ pv) × (a.0.start / 512 + 1 ≤ sector) × (sector < a.0.start / 512 + 1 + (all - to_end)) =
-          covers_tells second_span pv sector inside in
+      covers_tells second_span pv sector inside in
       let k : ℕ = min all to_end + (sector - (a.0.start / 512 + 1)) in
       let same : all ≡ total = placed.touched in
       let behind : 512 ≤ offset = placed.ring.behind_header in
@@ -163,7 +169,7 @@ module _ (text : List ℕ) (a : Area × Option Locn) (placed : IsPlaced text a) 
       let fits : 512 * total ≤ a.0.size - 512 = placed.ring.fits in
       or_again (covers first_span pv sector) (covers second_span pv sector)
       ((cover_round a.0 offset (length text + 1) placed.good placed.ring.behind_header placed.ring.before_end (omega arith) (omega arith)
-          (ltb-true to_end all round) pv sector).1 touched)
+      (ltb-true to_end all round) pv sector).1 touched)
     where
       or_again : (x y : Bool) → (x || y) ≡ true → (x || (y || false)) ≡ true
       or_again true y h = refl
@@ -172,7 +178,7 @@ module _ (text : List ℕ) (a : Area × Option Locn) (placed : IsPlaced text a) 
   covers_rest pv sector false straight touched =
       let fits : 512 * total ≤ a.0.size - 512 = placed.ring.fits in
       (cover_ahead a.0 offset (length text + 1) placed.good placed.ring.behind_header placed.ring.before_end (omega arith) (omega arith)
-          (ltb-false to_end all straight) pv sector).1 touched
+      (ltb-false to_end all straight) pv sector).1 touched
 
   pub text_covers : (pv sector : ℕ) → IsTouched a.0 offset (length text + 1) pv sector → written_at (text_puts text a) pv sector ≡ true
   text_covers pv sector touched = covers_rest pv sector (nat_lt to_end all) refl touched
@@ -221,9 +227,9 @@ module _ (text : List ℕ) (a : Area × Option Locn) (placed : IsPlaced text a) 
         let fits : 512 * need (length text + 1) ≤ a.0.size - 512 = placed.ring.fits in
         let same : (j / 512 ≡ put.number) × (byte_place a.0.size at_offset j % 512 ≡ j % 512) =
         same_byte a.0.size at_offset (length text + 1) put.number (sector - a.0.start / 512) j (byte_place a.0.size at_offset j)
-            placed.good.size_is_whole placed.good.has_ring placed.ring.is_whole placed.ring.behind_header placed.ring.before_end
+        placed.good.size_is_whole placed.good.has_ring placed.ring.is_whole placed.ring.behind_header placed.ring.before_end
         placed.ring.fits put.few within put.at (byte_place-cases a.0.size at_offset j placed.ring.behind_header placed.ring.before_end
-            (omega arith)) at
+        (omega arith)) at
         in
         ap (λ (l : List ℕ). get_or l (byte_place a.0.size at_offset j % 512) 0) put.is
         ∙ ap (λ (i : ℕ). get_or (text_sector text put.number) i 0) same.1
@@ -241,13 +247,13 @@ module _ (text : List ℕ) (a : Area × Option Locn) (placed : IsPlaced text a) 
         let few : put.number < need (length text + 1) = put.few in
         let begins : byte_place a.0.size at_offset (512 * put.number) / 512 ≡ sector - a.0.start / 512 =
         first_byte a.0.size at_offset (length text + 1) put.number (sector - a.0.start / 512)
-            (byte_place a.0.size at_offset (512 * put.number)) placed.good.size_is_whole placed.good.has_ring placed.ring.is_whole
-            placed.ring.behind_header placed.ring.before_end
+        (byte_place a.0.size at_offset (512 * put.number)) placed.good.size_is_whole placed.good.has_ring placed.ring.is_whole
+        placed.ring.behind_header placed.ring.before_end
         placed.ring.fits put.few (omega (arith, put.from)) (omega (arith, put.from, put.to)) put.at
-            (byte_place-cases a.0.size at_offset (512 * put.number) placed.ring.behind_header placed.ring.before_end (omega arith))
+        (byte_place-cases a.0.size at_offset (512 * put.number) placed.ring.behind_header placed.ring.before_end (omega arith))
         in
         old_part a.0.size a.1 (place_of text a) bytes (sector - a.0.start / 512) value placed.beside
-            (512 * put.number, omega arith, begins);
+        (512 * put.number, omega arith, begins);
   }
 
   -- the sector is one of the area

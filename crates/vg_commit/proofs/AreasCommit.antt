@@ -1,6 +1,6 @@
 -- The three batches of a list of areas make a commit.
-use Rattle.std.proofs.Common.{◌≡◌, ◌≤◌, ◌<◌, ◌⊎◌, ℕ, zero, suc, ◌+◌, ◌-◌, ◌/◌, ◌%◌, Bool, true, false, ◌||◌, cond, nat_lt, IsTrue, List, [],
-    ◌∷◌, ◌++◌, length, map, get_or, Option, None, Some, inl, inr, ⊎_elim, refl, sym, ap, subst, ◌∙◌, arith}
+use Rattle.std.proofs.Common.{◌≡◌, ◌≤◌, ◌<◌, ◌⊎◌, ℕ, zero, suc, ◌+◌, ◌-◌, ◌/◌, ◌%◌, Bool, true, false, ◌||◌, cond, nat_lt, IsTrue, List, []}
+use Rattle.std.proofs.Common.{◌∷◌, ◌++◌, length, map, get_or, Option, None, Some, inl, inr, ⊎_elim, refl, sym, ap, subst, ◌∙◌, arith}
 use Rattle.std.specs.Prelude.{All, AllPairs}
 use Rattle.std.proofs.lemmas.Bool.{cases_lt, ltb-false, true≢false, or_left, or_right}
 use Rattle.std.proofs.lemmas.List.Elements.{All-nil, All-cons}
@@ -16,8 +16,8 @@ use Rattle.mda_ring.specs.declared.area.Area.{Area}
 use Rattle.mda_ring.specs.Areas.{CanTake, IsArea, LieApart}
 use Rattle.mda_ring.specs.Ring.{need, room}
 use Rattle.mda_ring.proofs.SpanLaws.{covers_from, covers_tells}
-use Rattle.vg_commit.specs.Written.{area_span, area_writes, header_after, header_before, header_of, header_span, headers_of, new_entry,
-    publish_of, stored, text_puts, texts_of}
+use Rattle.vg_commit.specs.Written.{area_span, area_writes, header_after, header_before, header_of, header_span, headers_of, new_entry}
+use Rattle.vg_commit.specs.Written.{publish_of, stored, text_puts, texts_of}
 use Rattle.vg_commit.specs.TooLarge.{first_too_large}
 use Rattle.vg_commit.specs.Showing.{Names}
 use Rattle.vg_commit.specs.SectorReading.{AllRead, HasPart, Reads, new_reading, old_reading}
@@ -45,9 +45,9 @@ apart_covers : (a b : Area × Option Locn) (pv sector : ℕ) → IsArea a.0 → 
     → covers (area_span b.0) pv sector ≡ true → ⊥
 apart_covers a b pv sector good_a good_b apart in_a in_b =
     let s : (a.0.pv ≡ pv) × (a.0.start / 512 ≤ sector) × (sector < a.0.start / 512 + a.0.size / 512) =
-        covers_tells (area_span a.0) pv sector in_a in
+    covers_tells (area_span a.0) pv sector in_a in
     let t : (b.0.pv ≡ pv) × (b.0.start / 512 ≤ sector) × (sector < b.0.start / 512 + b.0.size / 512) =
-        covers_tells (area_span b.0) pv sector in_b in
+    covers_tells (area_span b.0) pv sector in_b in
     let whole_a : a.0.start % 512 ≡ 0 = good_a.start_is_whole in
     let whole_b : b.0.start % 512 ≡ 0 = good_b.start_is_whole in
     let size_a : a.0.size % 512 ≡ 0 = good_a.size_is_whole in
@@ -89,7 +89,7 @@ rooms text (a ∷ areas) none = step (λ rest. rooms text areas rest) (nat_lt (r
     step rest true is h = cc
     step rest false is h =
         All-cons (λ (c : Area × Option Locn). need (length text + 1) ≤ room c.0.size c.1) a areas
-            (ltb-false (room a.0.size a.1) (need (length text + 1)) is) (rest h)
+        (ltb-false (room a.0.size a.1) (need (length text + 1)) is) (rest h)
 
 -- writes after writes
 written_append : (first more : List (Span × List (List ℕ))) (pv sector : ℕ) (value : List ℕ) → IsWrittenBy (first ++ more) pv sector value
@@ -104,7 +104,7 @@ at_append : (first more : List (Span × List (List ℕ))) (pv sector : ℕ)
 at_append [] more pv sector = refl
 at_append (put ∷ first) more pv sector =
     ap (λ (b : Bool). covers put.0 pv sector || b) (at_append first more pv sector)
-        ∙ or_again (covers put.0 pv sector) (written_at first pv sector) (written_at more pv sector)
+    ∙ or_again (covers put.0 pv sector) (written_at first pv sector) (written_at more pv sector)
   where
     or_again : (x y z : Bool) → (x || (y || z)) ≡ ((x || y) || z)
     or_again true y z = refl
@@ -129,7 +129,7 @@ module _ (text : List ℕ) where
   text_where [] d pv sector value h = absurd h
   text_where (a ∷ areas) d pv sector value h =
       step (λ later. text_where areas d pv sector value later)
-          (written_append (text_puts text a) (texts_of (map (area_writes text) areas)) pv sector value h)
+      (written_append (text_puts text a) (texts_of (map (area_writes text) areas)) pv sector value h)
     where
       step : (IsWrittenBy (texts_of (map (area_writes text) areas)) pv sector value
           → (k : ℕ) × (k < length areas) × IsWrittenBy (text_puts text (get_or areas k d)) pv sector value)
@@ -171,7 +171,7 @@ module _ (text : List ℕ) where
       or_left (covers (header_span a.0) pv sector) (written_at (headers_of (map (area_writes text) areas)) pv sector) h
   header_at (a ∷ areas) d (suc k) pv sector within h =
       or_right (covers (header_span a.0) pv sector) (written_at (headers_of (map (area_writes text) areas)) pv sector)
-          (header_at areas d k pv sector (omega arith) h)
+      (header_at areas d k pv sector (omega arith) h)
 
   text_at_area : (areas : List (Area × Option Locn)) (d : Area × Option Locn) (k pv sector : ℕ) → k < length areas
       → written_at (text_puts text (get_or areas k d)) pv sector ≡ true
@@ -179,7 +179,7 @@ module _ (text : List ℕ) where
   text_at_area [] d k pv sector within h = absurd (omega arith)
   text_at_area (a ∷ areas) d zero pv sector within h =
       at_append (text_puts text a) (texts_of (map (area_writes text) areas)) pv sector
-          ∙ or_left (written_at (text_puts text a) pv sector) (written_at (texts_of (map (area_writes text) areas)) pv sector) h
+      ∙ or_left (written_at (text_puts text a) pv sector) (written_at (texts_of (map (area_writes text) areas)) pv sector) h
   text_at_area (a ∷ areas) d (suc k) pv sector within h =
       at_append (text_puts text a) (texts_of (map (area_writes text) areas)) pv sector
       ∙ or_right (written_at (text_puts text a) pv sector) (written_at (texts_of (map (area_writes text) areas)) pv sector)
@@ -189,7 +189,7 @@ module _ (text : List ℕ) where
 header_sector : (a : Area) (pv sector : ℕ) → covers (header_span a) pv sector ≡ true → (a.pv ≡ pv) × (a.start / 512 ≡ sector)
 header_sector a pv sector h =
     let t : (a.pv ≡ pv) × (a.start / 512 ≤ sector)
-        × (sector < a.start / 512 + 1) = covers_tells (header_span a) pv sector h in (t.0, omega (arith, t.1, t.2))
+    × (sector < a.start / 512 + 1) = covers_tells (header_span a) pv sector h in (t.0, omega (arith, t.1, t.2))
 
 pub header_value : (a : Area) (bytes value : List ℕ) (sector : ℕ) → a.start / 512 ≡ sector
     → value ≡ value_at (header_span a) (bytes ∷ []) sector → value ≡ bytes
@@ -208,8 +208,10 @@ names_committed : (a : Area) (committed precommitted : Option Locn) (value : Lis
 names_committed a None precommitted value h =
     inl (record { sound = h.sound; none = h.committed }, λ bit. true≢false (sym (h.ignored.1 bit)))
 names_committed a (Some locn) precommitted value h = (
-  record { of_area = record { sound = h.sound; start_is = h.start; size_is = h.size };
-      inside = subst (IsInside a.size) h.committed.0 h.committed.1 },
+  record {
+    of_area = record { sound = h.sound; start_is = h.start; size_is = h.size };
+    inside = subst (IsInside a.size) h.committed.0 h.committed.1;
+  },
   λ bit. true≢false (sym (h.ignored.1 bit)),
   h.committed.0,
 )
@@ -229,9 +231,11 @@ header_reads : (a : Area × Option Locn) (committed precommitted : Option Locn) 
 header_reads a committed precommitted bytes value sector at is h =
     let first : 0 ≡ sector - a.0.start / 512 = omega arith in
     subst (λ (s : ℕ). Reads a.0 committed bytes s value) first
-    (record { header = λ _. names_committed a.0 committed precommitted value
-        (subst (λ (v : List ℕ). IsHeader v (header_of a.0 committed precommitted)) (sym is) h);
-        ring = no_part a.0.size committed bytes value })
+    (record {
+      header = λ _. names_committed a.0 committed precommitted value
+          (subst (λ (v : List ℕ). IsHeader v (header_of a.0 committed precommitted)) (sym is) h);
+      ring = no_part a.0.size committed bytes value;
+    })
 
 module _ (text : List ℕ) (areas : List (Area × Option Locn)) (bytes : Area × Option Locn → List ℕ) (take : All CanTake areas)
     (apart : AllPairs LieApart areas) (room_is : first_too_large text areas ≡ None) (read : All (HeadersRead text) areas) where
@@ -246,7 +250,7 @@ module _ (text : List ℕ) (areas : List (Area × Option Locn)) (bytes : Area ×
       let a : Area × Option Locn = get_or areas w.0 d in
       let put : IsTextPut text a pv sector value = text_put text a (placed w.0 d w.1) pv sector value w.2 in
       subst (λ (b : Area × Option Locn). Reads b.0 b.1 (bytes b) (sector - b.0.start / 512) value)
-          (one_area areas take apart d w.0 j pv sector w.1 within (put_covers text a (placed w.0 d w.1) pv sector value put) inside)
+      (one_area areas take apart d w.0 j pv sector w.1 within (put_covers text a (placed w.0 d w.1) pv sector value put) inside)
       (put_old text a (placed w.0 d w.1) pv sector value put (bytes a))
 
   texts_new : (pv sector : ℕ) (value : List ℕ) → IsWrittenBy (texts_of (map (area_writes text) areas)) pv sector value
@@ -256,7 +260,7 @@ module _ (text : List ℕ) (areas : List (Area × Option Locn)) (bytes : Area ×
       let a : Area × Option Locn = get_or areas w.0 d in
       let put : IsTextPut text a pv sector value = text_put text a (placed w.0 d w.1) pv sector value w.2 in
       subst (λ (b : Area × Option Locn). Reads b.0 (new_reading text b).0 (new_reading text b).1 (sector - b.0.start / 512) value)
-          (one_area areas take apart d w.0 j pv sector w.1 within (put_covers text a (placed w.0 d w.1) pv sector value put) inside)
+      (one_area areas take apart d w.0 j pv sector w.1 within (put_covers text a (placed w.0 d w.1) pv sector value put) inside)
       (put_new text a (placed w.0 d w.1) pv sector value put)
 
   headers_old : (pv sector : ℕ) (value : List ℕ) → IsWrittenBy (headers_of (map (area_writes text) areas)) pv sector value
@@ -266,9 +270,9 @@ module _ (text : List ℕ) (areas : List (Area × Option Locn)) (bytes : Area ×
       let a : Area × Option Locn = get_or areas w.0 d in
       let at = header_sector a.0 pv sector w.2 in
       subst (λ (b : Area × Option Locn). Reads b.0 b.1 (bytes b) (sector - b.0.start / 512) value)
-          (one_area areas take apart d w.0 j pv sector w.1 within (header_covers a.0 pv sector (take w.0 d w.1).0 w.2) inside)
+      (one_area areas take apart d w.0 j pv sector w.1 within (header_covers a.0 pv sector (take w.0 d w.1).0 w.2) inside)
       (header_reads a a.1 (Some (new_entry text a)) (bytes a) value sector at.1
-          (header_value a.0 (header_bytes (header_before text a)) value sector at.1 w.3) (read w.0 d w.1).before)
+      (header_value a.0 (header_bytes (header_before text a)) value sector at.1 w.3) (read w.0 d w.1).before)
 
   publish_new : (pv sector : ℕ) (value : List ℕ) → IsWrittenBy (publish_of (map (area_writes text) areas)) pv sector value
       → AllRead (new_reading text) areas pv sector value
@@ -277,9 +281,9 @@ module _ (text : List ℕ) (areas : List (Area × Option Locn)) (bytes : Area ×
       let a : Area × Option Locn = get_or areas w.0 d in
       let at = header_sector a.0 pv sector w.2 in
       subst (λ (b : Area × Option Locn). Reads b.0 (new_reading text b).0 (new_reading text b).1 (sector - b.0.start / 512) value)
-          (one_area areas take apart d w.0 j pv sector w.1 within (header_covers a.0 pv sector (take w.0 d w.1).0 w.2) inside)
+      (one_area areas take apart d w.0 j pv sector w.1 within (header_covers a.0 pv sector (take w.0 d w.1).0 w.2) inside)
       (header_reads a (Some (new_entry text a)) None (stored text) value sector at.1
-          (header_value a.0 (header_bytes (header_after text a)) value sector at.1 w.3) (read w.0 d w.1).after)
+      (header_value a.0 (header_bytes (header_after text a)) value sector at.1 w.3) (read w.0 d w.1).after)
 
   -- the new reading asks for the header and the text alone
   rest_new : (pv sector : ℕ) (value : List ℕ) → written_at (headers_of (map (area_writes text) areas)) pv sector ≡ false
@@ -287,17 +291,17 @@ module _ (text : List ℕ) (areas : List (Area × Option Locn)) (bytes : Area ×
   rest_new pv sector value no_header no_text j d within inside =
       let a : Area × Option Locn = get_or areas j d in
       let t : (a.0.pv ≡ pv) × (a.0.start / 512 ≤ sector) × (sector < a.0.start / 512 + a.0.size / 512) =
-          covers_tells (area_span a.0) pv sector inside in
+      covers_tells (area_span a.0) pv sector inside in
       record {
         header =
             λ first. absurd (true≢false (sym (header_at text areas d j pv sector within
-                (covers_from (header_span a.0) pv sector t.0 t.1 (omega (arith, t.1)))) ∙ no_header));
+            (covers_from (header_span a.0) pv sector t.0 t.1 (omega (arith, t.1)))) ∙ no_header));
         ring = λ i in_text at.
             absurd
             (true≢false
             (sym (text_at_area text areas d j pv sector within
-                (text_covers text a (placed j d within) pv sector
-                (record { of_disk = sym t.0; behind_start = t.1; touches = (i, in_text, at) })))
+            (text_covers text a (placed j d within) pv sector
+            (record { of_disk = sym t.0; behind_start = t.1; touches = (i, in_text, at) })))
             ∙ no_text));
       }
 
@@ -312,7 +316,7 @@ module _ (text : List ℕ) (areas : List (Area × Option Locn)) (bytes : Area ×
       let w = header_where text areas d pv sector some.0 some.1 in
       let a : Area × Option Locn = get_or areas w.0 d in
       let same : a ≡ get_or areas k d =
-          one_area areas take apart d w.0 k pv sector w.1 within (header_covers a.0 pv sector (take w.0 d w.1).0 w.2) inside in
+      one_area areas take apart d w.0 k pv sector w.1 within (header_covers a.0 pv sector (take w.0 d w.1).0 w.2) inside in
       sym (header_sector a.0 pv sector w.2).1 ∙ ap (λ (b : Area × Option Locn). b.0.start / 512) same
 
   -- of which area a sector that is written is

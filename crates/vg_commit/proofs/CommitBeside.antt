@@ -10,10 +10,10 @@ use Rattle.disk_batch.specs.Rounds.{IsElsewhere}
 use Rattle.disk_batch.specs.Views.{View}
 use Rattle.disk_batch.proofs.Along.{along_where}
 use Rattle.disk_batch.proofs.Elsewhere.{along_elsewhere, batch_steps, faults_beside, flushed_steps, flushes_steps, leave_steps, still_steps}
-use Rattle.vg_commit.specs.CommitHolds.{Commit, HaveFlushed, HoldsBefore, IsEither, IsNew, IsOld, IsOldWithTexts, IsSound, Rests, is_header,
-    is_own, is_text}
-use Rattle.vg_commit.specs.Laws.{ComElsewhere, ComShows, FencedShows, LostShows, PreElsewhere, PreShows, ReadyElsewhere, ReadyShows,
-    ShowsEither, ShowsNew, ShowsOld, WholeElsewhere, WholeShows}
+use Rattle.vg_commit.specs.CommitHolds.{Commit, HaveFlushed, HoldsBefore, IsEither, IsNew, IsOld, IsOldWithTexts, IsSound, Rests, is_header}
+use Rattle.vg_commit.specs.CommitHolds.{is_own, is_text}
+use Rattle.vg_commit.specs.Laws.{ComElsewhere, ComShows, FencedShows, LostShows, PreElsewhere, PreShows, ReadyElsewhere, ReadyShows}
+use Rattle.vg_commit.specs.Laws.{ShowsEither, ShowsNew, ShowsOld, WholeElsewhere, WholeShows}
 use Rattle.vg_commit.specs.SectorReading.{AreSized, old_reading}
 use Rattle.vg_commit.proofs.CommitTargets.{shows_either, shows_new, shows_old, weaker, with_texts_old}
 
@@ -41,8 +41,11 @@ module _ (c : Commit) where
   rest_steps : (Now : ℕ → ℕ → List ℕ → Type 0) (tags : List ℕ) (newer : List Step) (told : Record) → All (IsElsewhere (is_own c) tags) newer
       → Rests c Now told → Rests c Now (steps_on newer told)
   rest_steps Now tags newer told else h =
-      record { sized = h.sized; leaves = leave_steps (is_own c) Now tags newer told else h.leaves;
-          still = still_steps (is_own c) tags newer told else h.still }
+      record {
+        sized = h.sized;
+        leaves = leave_steps (is_own c) Now tags newer told else h.leaves;
+        still = still_steps (is_own c) tags newer told else h.still;
+      }
 
   flushed_more : (newer : List Step) (told : Record) → HaveFlushed c told.steps → HaveFlushed c (steps_on newer told).steps
   flushed_more newer told h k d within = flushed_steps (is_own c) c.from _ newer told (h k d within)
@@ -56,20 +59,20 @@ module _ (c : Commit) where
     old_beside : IfSome old.told (λ told. Sized × AllLeave (is_own c) (IsOld c) told) → AllAlong (ShowsOld c) old new
     old_beside h =
         along_where Sized (AllLeave (is_own c) (IsOld c)) (ShowsOld c) old new (λ is t leaves. shows_old c sound t is leaves)
-            (told_weaker _ (λ told. Sized) old.told (λ t f. f.0) h)
+        (told_weaker _ (λ told. Sized) old.told (λ t f. f.0) h)
         (along_elsewhere (is_own c) (IsOld c) tags old new else (told_weaker _ (AllLeave (is_own c) (IsOld c)) old.told (λ t f. f.1) h))
 
     either_beside : IfSome old.told (λ told. Sized × AllLeave (is_own c) (IsEither c) told) → AllAlong (ShowsEither c) old new
     either_beside h =
         along_where Sized (AllLeave (is_own c) (IsEither c)) (ShowsEither c) old new (λ is t leaves. shows_either c sound t is leaves)
-            (told_weaker _ (λ told. Sized) old.told (λ t f. f.0) h)
+        (told_weaker _ (λ told. Sized) old.told (λ t f. f.0) h)
         (along_elsewhere (is_own c) (IsEither c) tags old new
-            else (told_weaker _ (AllLeave (is_own c) (IsEither c)) old.told (λ t f. f.1) h))
+        else (told_weaker _ (AllLeave (is_own c) (IsEither c)) old.told (λ t f. f.1) h))
 
     new_beside : IfSome old.told (λ told. Sized × AllLeave (is_own c) (IsNew c) told) → AllAlong (ShowsNew c) old new
     new_beside h =
         along_where Sized (AllLeave (is_own c) (IsNew c)) (ShowsNew c) old new (λ is t leaves. shows_new c sound t leaves)
-            (told_weaker _ (λ told. Sized) old.told (λ t f. f.0) h)
+        (told_weaker _ (λ told. Sized) old.told (λ t f. f.0) h)
         (along_elsewhere (is_own c) (IsNew c) tags old new else (told_weaker _ (AllLeave (is_own c) (IsNew c)) old.told (λ t f. f.1) h))
 
 -- ---- beside it
@@ -84,7 +87,7 @@ pre_elsewhere c view old new else h = (
     flush = h.flush;
     told =
         told_on c _ view.batch.tags old new else (λ t f. (f.0, before_steps c view.headers view.batch else.newer t else.elsewhere f.1))
-            h.told;
+        h.told;
     since = omega (arith, h.since, else.next);
     faults = faults_beside (is_own c) view.batch.tags c.faults view.batch.lost old new else h.faults;
   },
@@ -99,8 +102,10 @@ ready_elsewhere c view tags old new else h = (
     publish = h.publish;
     entries = h.entries;
     told =
-        told_on c _ tags old new else (λ t f. (rest_steps c (IsOldWithTexts c) tags else.newer t else.elsewhere f.0,
-            flushed_more c else.newer t f.1)) h.told;
+        told_on c _ tags old new else (λ t f. (
+          rest_steps c (IsOldWithTexts c) tags else.newer t else.elsewhere f.0,
+          flushed_more c else.newer t f.1,
+        )) h.told;
     since = omega (arith, h.since, else.next);
     faults = faults_beside (is_own c) tags c.faults None old new else h.faults;
   },
@@ -115,8 +120,13 @@ com_elsewhere c view old new else h = (
     entries = h.entries;
     flush = h.flush;
     told = told_on c _ view.batch.tags old new else
-        (λ t f. (f.0, (batch_steps (is_own c) (is_header c) (IsEither c) (IsNew c) view.batch else.newer t else.elsewhere f.1.0,
-            flushed_more c else.newer t f.1.1))) h.told;
+        (λ t f. (
+          f.0,
+          (
+            batch_steps (is_own c) (is_header c) (IsEither c) (IsNew c) view.batch else.newer t else.elsewhere f.1.0,
+            flushed_more c else.newer t f.1.1,
+          ),
+        )) h.told;
     since = omega (arith, h.since, else.next);
     faults = faults_beside (is_own c) view.batch.tags c.faults view.batch.lost old new else h.faults;
   },
@@ -129,8 +139,10 @@ whole_elsewhere c committed tags old new else h = (
     sound = h.sound;
     entries = h.entries;
     told =
-        told_on c _ tags old new else (λ t f. (rest_steps c (IsNew c) tags else.newer t else.elsewhere f.0,
-            flushed_more c else.newer t f.1)) h.told;
+        told_on c _ tags old new else (λ t f. (
+          rest_steps c (IsNew c) tags else.newer t else.elsewhere f.0,
+          flushed_more c else.newer t f.1,
+        )) h.told;
   },
   new_beside c h.sound tags old new else (told_weaker _ _ old.told (λ t f. (f.0.sized, f.0.leaves)) h.told),
 )
@@ -143,8 +155,11 @@ pre_shows c view state h =
 
 pub ready_shows : ReadyShows
 ready_shows c view state h =
-    told_weaker _ _ state.told (λ t f. (shows_old c h.sound t f.0.sized
-        (weaker c (IsOldWithTexts c) (IsOld c) (with_texts_old c) t f.0.leaves), f.1)) h.told
+    told_weaker _ _ state.told (λ t f. (
+      shows_old c h.sound t f.0.sized
+          (weaker c (IsOldWithTexts c) (IsOld c) (with_texts_old c) t f.0.leaves),
+      f.1,
+    )) h.told
 
 pub com_shows : ComShows
 com_shows c view state h = told_weaker _ _ state.told (λ t f. (shows_either c h.sound t f.0 f.1.0.leaves, f.1.1)) h.told

@@ -1,6 +1,6 @@
 -- The three batches of a commit can be carried out in turn.
-use Rattle.std.proofs.Common.{◌≡◌, ◌≤◌, ◌<◌, ℕ, ◌+◌, ◌-◌, ◌/◌, min, Bool, true, false, cond, nat_lt, List, [], ◌∷◌, ◌++◌, length, take,
-    drop, map, get_or, Option, None, Some, inl, inr, refl, sym, ap, subst, arith}
+use Rattle.std.proofs.Common.{◌≡◌, ◌≤◌, ◌<◌, ℕ, ◌+◌, ◌-◌, ◌/◌, min, Bool, true, false, cond, nat_lt, List, [], ◌∷◌, ◌++◌, length, take}
+use Rattle.std.proofs.Common.{drop, map, get_or, Option, None, Some, inl, inr, refl, sym, ap, subst, arith}
 use Rattle.std.specs.Prelude.{All, AllPairs, flat_map}
 use Rattle.std.specs.Ordering.{nat_cmp}
 use Rattle.std.specs.FinSet.{FinSet}
@@ -61,9 +61,9 @@ module _ (text : List ℕ) (a : Area × Option Locn) (placed : IsPlaced text a) 
       → covers (span_of_area a.0 1 (all - to_end)) pv sector ≡ true → ⊥
   spans_apart pv sector in_first in_second =
       let s : (a.0.pv ≡ pv) × (a.0.start / 512 + offset / 512 ≤ sector) × (sector < a.0.start / 512 + offset / 512 + min all to_end) =
-          covers_tells (span_of_area a.0 (offset / 512) (min all to_end)) pv sector in_first in
+      covers_tells (span_of_area a.0 (offset / 512) (min all to_end)) pv sector in_first in
       let t : (a.0.pv ≡ pv) × (a.0.start / 512 + 1 ≤ sector) × (sector < a.0.start / 512 + 1 + (all - to_end)) =
-          covers_tells (span_of_area a.0 1 (all - to_end)) pv sector in_second in
+      covers_tells (span_of_area a.0 1 (all - to_end)) pv sector in_second in
       let behind : 512 ≤ offset = placed.ring.behind_header in
       let before : offset < a.0.size = placed.ring.before_end in
       omega (arith, s.1, t.2, behind, before)
@@ -84,21 +84,22 @@ module _ (text : List ℕ) (a : Area × Option Locn) (placed : IsPlaced text a) 
   rest_alone false sectors = tt
 
   text_apart : ShareNoSector (text_puts text a)
-  text_apart =
-      (rest_apart (nat_lt to_end all) (drop (min all to_end) (text_sectors text (need (length text + 1)))),
-          rest_alone (nat_lt to_end all) (drop (min all to_end) (text_sectors text (need (length text + 1)))))
+  text_apart = (
+    rest_apart (nat_lt to_end all) (drop (min all to_end) (text_sectors text (need (length text + 1)))),
+    rest_alone (nat_lt to_end all) (drop (min all to_end) (text_sectors text (need (length text + 1)))),
+  )
 
   -- they lie in the area, and on its disk
   text_in : (pv sector : ℕ) → written_at (text_puts text a) pv sector ≡ true → covers (area_span a.0) pv sector ≡ true
   text_in pv sector is =
       let some = written_some (text_puts text a) pv sector is in put_covers text a placed pv sector some.0
-          (text_put text a placed pv sector some.0 some.1)
+      (text_put text a placed pv sector some.0 some.1)
 
 rest_on : (disks : List ℕ) (area : Area) (first count : ℕ) (b : Bool) (sectors : List (List ℕ)) → IsAmong disks area.pv
     → All (λ (put : Put). IsAmong disks put.0.pv) (rest_put (cond b (Some (span_of_area area first count)) None) sectors)
 rest_on disks area first count true sectors on =
     All-cons (λ (put : Put). IsAmong disks put.0.pv) (span_of_area area first count, sectors) [] on
-        (All-nil (λ (put : Put). IsAmong disks put.0.pv))
+    (All-nil (λ (put : Put). IsAmong disks put.0.pv))
 rest_on disks area first count false sectors on = All-nil (λ (put : Put). IsAmong disks put.0.pv)
 
 text_on : (disks text : List ℕ) (a : Area × Option Locn) → IsAmong disks a.0.pv
@@ -106,9 +107,9 @@ text_on : (disks text : List ℕ) (a : Area × Option Locn) → IsAmong disks a.
 text_on disks text a on =
     All-cons (λ (put : Put). IsAmong disks put.0.pv) _ _ on
     (rest_on disks a.0 1 (touched_count a.0.size (next_offset a.0.size a.1) (length text + 1)
-        - sectors_to_end a.0.size (next_offset a.0.size a.1))
+    - sectors_to_end a.0.size (next_offset a.0.size a.1))
     (nat_lt (sectors_to_end a.0.size (next_offset a.0.size a.1)) (touched_count a.0.size (next_offset a.0.size a.1) (length text + 1))) _
-        on)
+    on)
 
 -- one header
 header_in : (a : Area × Option Locn) (value : List ℕ) → CanTake a → (pv sector : ℕ)
@@ -162,39 +163,39 @@ module _ (text : List ℕ) (areas : List (Area × Option Locn)) (flush : FinSet 
     pub texts_can_run : writes_of batch ≡ texts_of (map (area_writes text) areas) → disks_of batch ≡ disks_in flush → CanRun sizes batch
     texts_can_run writes disks =
         can_run sizes (texts_of (map (area_writes text) areas)) (disks_in flush) batch writes disks (texts_some text areas committed.some)
-            (flush_some areas flush committed) (texts_lie sizes text areas placed inside.areas_lie) inside.disks_are
+        (flush_some areas flush committed) (texts_lie sizes text areas placed inside.areas_lie) inside.disks_are
         (subst ShareNoSector (sym (texts_flat text areas))
         (each_apart (text_puts text) (IsPlaced text) NoneShared (λ a good. text_apart text a good)
-            (λ a b good_a good_b none pv sector x y. none pv sector (text_in text a good_a pv sector x) (text_in text b good_b pv sector y))
-            areas placed alone))
+        (λ a b good_a good_b none pv sector x y. none pv sector (text_in text a good_a pv sector x) (text_in text b good_b pv sector y))
+        areas placed alone))
         (subst (All OnText) (sym (texts_flat text areas))
-            (each_has (text_puts text) OnText areas (λ k d within. text_on (disks_in flush) text (get_or areas k d)
-            (texts_on areas flush committed.on_disks k d within))))
+        (each_has (text_puts text) OnText areas (λ k d within. text_on (disks_in flush) text (get_or areas k d)
+        (texts_on areas flush committed.on_disks k d within))))
 
     pub headers_can_run : writes_of batch ≡ headers_of (map (area_writes text) areas) → disks_of batch ≡ disks_in (area_disks areas)
         → CanRun sizes batch
     headers_can_run writes disks =
         can_run sizes (headers_of (map (area_writes text) areas)) (disks_in (area_disks areas)) batch writes disks
-            (headers_some text areas committed.some) (area_disks_some areas flush (area_disks areas) refl committed)
-            (headers_lie sizes text areas placed inside.areas_lie) area_disks_within
+        (headers_some text areas committed.some) (area_disks_some areas flush (area_disks areas) refl committed)
+        (headers_lie sizes text areas placed inside.areas_lie) area_disks_within
         (subst ShareNoSector (sym (headers_flat text areas))
         (each_apart (header_put text) CanTake NoneShared (λ a good. (λ pv sector here. refl, tt))
-            (λ a b good_a good_b none pv sector x y. none pv sector (header_in a (area_writes text a).before good_a pv sector x)
-            (header_in b (area_writes text b).before good_b pv sector y)) areas committed.take alone))
+        (λ a b good_a good_b none pv sector x y. none pv sector (header_in a (area_writes text a).before good_a pv sector x)
+        (header_in b (area_writes text b).before good_b pv sector y)) areas committed.take alone))
         (subst (All OnHeader) (sym (headers_flat text areas))
-            (each_has (header_put text) OnHeader areas
-            (λ k d within. All-cons OnHeader _ [] (headers_on areas flush committed.on_disks k d within) (All-nil OnHeader))))
+        (each_has (header_put text) OnHeader areas
+        (λ k d within. All-cons OnHeader _ [] (headers_on areas flush committed.on_disks k d within) (All-nil OnHeader))))
 
     pub publish_can_run : writes_of batch ≡ publish_of (map (area_writes text) areas) → disks_of batch ≡ disks_in (area_disks areas)
         → CanRun sizes batch
     publish_can_run writes disks =
         can_run sizes (publish_of (map (area_writes text) areas)) (disks_in (area_disks areas)) batch writes disks
-            (publish_some text areas committed.some) (area_disks_some areas flush (area_disks areas) refl committed)
-            (publish_lie sizes text areas placed inside.areas_lie) area_disks_within
+        (publish_some text areas committed.some) (area_disks_some areas flush (area_disks areas) refl committed)
+        (publish_lie sizes text areas placed inside.areas_lie) area_disks_within
         (subst ShareNoSector (sym (publish_flat text areas))
         (each_apart (publish_put text) CanTake NoneShared (λ a good. (λ pv sector here. refl, tt))
-            (λ a b good_a good_b none pv sector x y. none pv sector (header_in a (area_writes text a).after good_a pv sector x)
-            (header_in b (area_writes text b).after good_b pv sector y)) areas committed.take alone))
+        (λ a b good_a good_b none pv sector x y. none pv sector (header_in a (area_writes text a).after good_a pv sector x)
+        (header_in b (area_writes text b).after good_b pv sector y)) areas committed.take alone))
         (subst (All OnHeader) (sym (publish_flat text areas))
-            (each_has (publish_put text) OnHeader areas
-            (λ k d within. All-cons OnHeader _ [] (headers_on areas flush committed.on_disks k d within) (All-nil OnHeader))))
+        (each_has (publish_put text) OnHeader areas
+        (λ k d within. All-cons OnHeader _ [] (headers_on areas flush committed.on_disks k d within) (All-nil OnHeader))))

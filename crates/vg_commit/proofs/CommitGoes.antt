@@ -27,7 +27,7 @@ pub flushed_along : (c : Commit) (P : Record → Type 0) (old new : State) → A
     → IfSome old.told (λ told. HaveFlushed c told.steps) → IfSome new.told (λ told. HaveFlushed c told.steps)
 flushed_along c P old new h flushed =
     told_after (steps_on h.newer) (λ told. HaveFlushed c told.steps) (λ told. HaveFlushed c told.steps) old.told new.told h.told
-        (λ t is f k d within. flushed_steps (is_own c) c.from _ h.newer t (f k d within)) flushed
+    (λ t is f k d within. flushed_steps (is_own c) c.from _ h.newer t (f k d within)) flushed
 
 -- what is known once a batch of the commit has taken a completion
 pub record Took (c : Commit) (target : ℕ → ℕ → Bool) (Now Goal : ℕ → ℕ → List ℕ → Type 0) (before : State) (flush : List ℕ)
@@ -57,7 +57,7 @@ module _ (c : Commit) (target : ℕ → ℕ → Bool) (Now Goal : ℕ → ℕ �
     moments : (came : BatchStep) → Goes old view done came mid → AllAlong Leaves before mid
     moments came goes =
         along_both Leaves before old mid (along_completes Leaves before old done completes (leaves_before before view h) at_old)
-            (along_goes (is_own c) Now old mid view done came goes at_old)
+        (along_goes (is_own c) Now old mid view done came goes at_old)
 
     pub took : (came : BatchStep) → Goes old view done came mid
         → ((pv sector : ℕ) → IsTrue (is_own c pv sector) → IsTrue (target pv sector) → IsAmong view.flush pv) → IfSome before.told Sized

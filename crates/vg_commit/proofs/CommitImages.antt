@@ -1,6 +1,6 @@
 -- What areas show in an image on the way of the three batches of a commit, and once all are written.
-use Rattle.std.proofs.Common.{◌≡◌, ◌≤◌, ◌<◌, ℕ, ◌+◌, ◌-◌, ◌/◌, Bool, false, List, [], ◌∷◌, map, get_or, Option, None, inl, ⊎_elim, refl,
-    sym, subst, ◌∙◌, arith}
+use Rattle.std.proofs.Common.{◌≡◌, ◌≤◌, ◌<◌, ℕ, ◌+◌, ◌-◌, ◌/◌, Bool, false, List, [], ◌∷◌, map, get_or, Option, None, inl, ⊎_elim, refl}
+use Rattle.std.proofs.Common.{sym, subst, ◌∙◌, arith}
 use Rattle.std.specs.Prelude.{All}
 use Rattle.std.specs.Ordering.{nat_cmp}
 use Rattle.std.specs.FinSet.{FinSet}
@@ -33,7 +33,7 @@ pub image_reads : (reading : Reading) (areas : List (Area × Option Locn)) (imag
 image_reads reading areas image shows pv sector k d within inside =
     let a : Area × Option Locn = get_or areas k d in
     let t : (a.0.pv ≡ pv) × (a.0.start / 512 ≤ sector) × (sector < a.0.start / 512 + a.0.size / 512) =
-        covers_tells (area_span a.0) pv sector inside in
+    covers_tells (area_span a.0) pv sector inside in
     let back : a.0.start / 512 + (sector - a.0.start / 512) ≡ sector = omega (arith, t.1) in
     subst (λ (p : ℕ). Reads a.0 (reading a).0 (reading a).1 (sector - a.0.start / 512) (image p sector)) t.0
     (subst (λ (s : ℕ). Reads a.0 (reading a).0 (reading a).1 (sector - a.0.start / 512) (image a.0.pv s)) back
@@ -46,8 +46,10 @@ pub image_shows_either : (old new : Reading) (areas : List (Area × Option Locn)
     → EachShows old new areas image
 image_shows_either old new areas header take fits_old fits_new one image reads =
     images_show_either old new areas header take fits_old fits_new one (record { opened = image; steps = [] })
-    (λ pv sector. record { each = λ write value may. subst (Published header (AllRead old areas) (AllRead new areas) pv sector) (sym may.1)
-        (reads pv sector) })
+    (λ pv sector. record {
+      each = λ write value may. subst (Published header (AllRead old areas) (AllRead new areas) pv sector) (sym may.1)
+          (reads pv sector);
+    })
     image (λ pv sector. (None, (refl, refl)))
 
 module _ (text : List ℕ) (areas : List (Area × Option Locn)) (flush : FinSet nat_cmp) (committed : AreCommitted areas flush)
@@ -105,7 +107,7 @@ module _ (text : List ℕ) (areas : List (Area × Option Locn)) (flush : FinSet 
     sized_new : AreSized (new_reading text) areas
     sized_new k d within =
         entry_inside text (get_or areas k d) (is_placed text (get_or areas k d) (committed.take k d within)
-            (rooms text areas room k d within))
+        (rooms text areas room k d within))
 
     one : HasOneHeader (written_at headers) areas
     one k d within sector inside is = one_header text areas bytes committed.take committed.apart room read k d within sector inside is
@@ -116,7 +118,7 @@ module _ (text : List ℕ) (areas : List (Area × Option Locn)) (flush : FinSet 
         ⊎_elim
         (λ all k d within. inl (image_shows (old_reading bytes) areas image committed.take sized all k d within))
         (λ all. image_shows_either (old_reading bytes) (new_reading text) areas (written_at headers) committed.take sized sized_new one
-            image all)
+        image all)
         (in_turn Old New texts headers publish (disks_in flush) (disks_in (area_disks areas)) make base olds image h)
 
     -- before the headers are published each shows these

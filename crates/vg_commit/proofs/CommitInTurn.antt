@@ -1,6 +1,6 @@
 -- What the three batches of a commit leave in each sector of an image, where they are carried out in turn.
-use Rattle.std.proofs.Common.{◌≡◌, ◌≤◌, ◌⊎◌, ℕ, zero, suc, Bool, true, false, List, [], ◌∷◌, take, inl, inr, ⊎_elim, sym, ap, subst, ◌∙◌,
-    arith}
+use Rattle.std.proofs.Common.{◌≡◌, ◌≤◌, ◌⊎◌, ℕ, zero, suc, Bool, true, false, List, [], ◌∷◌, take, inl, inr, ⊎_elim, sym, ap, subst, ◌∙◌}
+use Rattle.std.proofs.Common.{arith}
 use Rattle.std.proofs.lemmas.List.{take_all}
 use Rattle.disk_model.specs.Steps.{Image}
 use Rattle.disk_batch.specs.InTurn.{HasFirstBatches, Put, with_batches, with_writes}
@@ -80,10 +80,10 @@ module _ (Old New : ℕ → ℕ → List ℕ → Type 0) (texts headers publish 
         → AllOld image ⊎ AllPublished image
     by_count image zero h = inl (λ pv sector.
         ⊎_elim (λ e. subst (Old pv sector) (sym e) (olds pv sector))
-            (λ e. subst (Old pv sector) (sym e) (texts_there base pv sector (olds pv sector)).0) (h pv sector))
+        (λ e. subst (Old pv sector) (sym e) (texts_there base pv sector (olds pv sector)).0) (h pv sector))
     by_count image (suc zero) h = inl (λ pv sector.
         ⊎_elim (λ e. subst (Old pv sector) (sym e) (texts_there base pv sector (olds pv sector)).0)
-            (λ e. subst (Old pv sector) (sym e) (headers_there base pv sector (olds pv sector)).0) (h pv sector))
+        (λ e. subst (Old pv sector) (sym e) (headers_there base pv sector (olds pv sector)).0) (h pv sector))
     by_count image (suc (suc zero)) h = inr (λ pv sector.
         ⊎_elim
         (λ e. subst (Published Header Old New pv sector) (sym e) (published_before base pv sector (olds pv sector)))
@@ -94,7 +94,7 @@ module _ (Old New : ℕ → ℕ → List ℕ → Type 0) (texts headers publish 
         λ n most. ap (λ (l : List (List Put)). with_batches l base pv sector) (take_all n batches most) in
         let e : image pv sector ≡ with_batches batches base pv sector =
         ⊎_elim (λ x. x ∙ whole (suc (suc (suc count))) (omega arith)) (λ x. x ∙ whole (suc (suc (suc (suc count)))) (omega arith))
-            (h pv sector) in
+        (h pv sector) in
         subst (Published Header Old New pv sector) (sym e) (published_after base pv sector (olds pv sector)))
 
     -- in every image on the way each reads as the old one, or each as it does since the headers are published
@@ -107,13 +107,13 @@ module _ (Old New : ℕ → ℕ → List ℕ → Type 0) (texts headers publish 
         ⊎ (image pv sector ≡ with_batches (take (suc count) (texts ∷ headers ∷ [])) base pv sector)) → AllOld image
     unpublished_by image zero h pv sector =
         ⊎_elim (λ e. subst (Old pv sector) (sym e) (olds pv sector))
-            (λ e. subst (Old pv sector) (sym e) (texts_there base pv sector (olds pv sector)).0) (h pv sector)
+        (λ e. subst (Old pv sector) (sym e) (texts_there base pv sector (olds pv sector)).0) (h pv sector)
     unpublished_by image (suc zero) h pv sector =
         ⊎_elim (λ e. subst (Old pv sector) (sym e) (texts_there base pv sector (olds pv sector)).0)
-            (λ e. subst (Old pv sector) (sym e) (headers_there base pv sector (olds pv sector)).0) (h pv sector)
+        (λ e. subst (Old pv sector) (sym e) (headers_there base pv sector (olds pv sector)).0) (h pv sector)
     unpublished_by image (suc (suc count)) h pv sector =
         let whole : (n : ℕ) → 2 ≤ n → with_batches (take n (texts ∷ headers ∷ [])) base pv sector
-            ≡ with_batches (texts ∷ headers ∷ []) base pv sector =
+        ≡ with_batches (texts ∷ headers ∷ []) base pv sector =
         λ n most. ap (λ (l : List (List Put)). with_batches l base pv sector) (take_all n (texts ∷ headers ∷ []) most) in
         let e : image pv sector ≡ with_batches (texts ∷ headers ∷ []) base pv sector =
         ⊎_elim (λ x. x ∙ whole (suc (suc count)) (omega arith)) (λ x. x ∙ whole (suc (suc (suc count))) (omega arith)) (h pv sector) in

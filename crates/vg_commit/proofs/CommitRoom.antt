@@ -19,8 +19,8 @@ use Rattle.vg_commit.specs.declared.precommitting.PreStep.{PreStep}
 use Rattle.vg_commit.specs.declared.precommitting.PreStep.TheVariants as pre
 use Rattle.vg_commit.specs.declared.precommitting.Precommitting.{Precommitting}
 use Rattle.vg_commit.specs.Laws.{BeginsSpending, CommitsSpending, FlushesWithin, GoesSpending, PublishesSpending, SpendsAhead, StaysWithin}
-use Rattle.vg_commit.specs.Phases.{ComFollows, FitsAhead, GoesOn, PreFollows, PreView, com_view, flushes_left, ops_ahead, ops_if, ops_left,
-    pre_view, sectors_ahead, sectors_if, sectors_left}
+use Rattle.vg_commit.specs.Phases.{ComFollows, FitsAhead, GoesOn, PreFollows, PreView, com_view, flushes_left, ops_ahead, ops_if, ops_left}
+use Rattle.vg_commit.specs.Phases.{pre_view, sectors_ahead, sectors_if, sectors_left}
 use Rattle.vg_commit.specs.Preparing.{CanRun, ops_of, sectors_in}
 
 -- a batch that can run starts
@@ -37,22 +37,22 @@ flushes_in : (old new : State) (batching : Batching) (b : Batch) → CanRun old.
     → All (λ (pv : ℕ). pv < length new.sizes) (view_of batching).flush
 flushes_in old new batching b can starts same =
     subst (λ (l : List ℕ). All (λ (pv : ℕ). pv < length new.sizes) l)
-        (sym (start_flushes old new (disks_of b) (view_of batching) (writes_of b) starts))
-        (subst (λ (sizes : List ℕ). All (λ (pv : ℕ). pv < length sizes) (disks_of b)) (sym same) can.within)
+    (sym (start_flushes old new (disks_of b) (view_of batching) (writes_of b) starts))
+    (subst (λ (sizes : List ℕ). All (λ (pv : ℕ). pv < length sizes) (disks_of b)) (sym same) can.within)
 
 -- a batch takes a completion of its own
 batch_spends : (before old mid : State) (batching : Batching) (done : Done) (came : BatchStep) → Completes before done old
     → Goes old (view_of batching) done came mid → WorksOn before (to_come (view_of batching)) 0 (steps_to_come came) mid
 batch_spends before old mid batching done came completes goes =
     turns_works before before old mid (to_come (view_of batching)) 0 (batch.Going batching) came done completes goes
-        (record { sizes = refl; spare_ops = omega arith; spare_sectors = omega arith; steps = omega arith; later = omega arith })
+    (record { sizes = refl; spare_ops = omega arith; spare_sectors = omega arith; steps = omega arith; later = omega arith })
 
 -- disks within stay so
 within_still : (before new : State) (flush flush' : List ℕ) → new.sizes ≡ before.sizes → flush' ≡ flush
     → All (λ (pv : ℕ). pv < length before.sizes) flush → All (λ (pv : ℕ). pv < length new.sizes) flush'
 within_still before new flush flush' same kept within =
     subst (λ (l : List ℕ). All (λ (pv : ℕ). pv < length new.sizes) l) (sym kept)
-        (subst (λ (sizes : List ℕ). All (λ (pv : ℕ). pv < length sizes) flush) (sym same) within)
+    (subst (λ (sizes : List ℕ). All (λ (pv : ℕ). pv < length sizes) flush) (sym same) within)
 
 can_still : (before new : State) (headers : Option Batch) → new.sizes ≡ before.sizes → IfSome headers (CanRun before.sizes)
     → IfSome headers (CanRun new.sizes)
@@ -61,7 +61,7 @@ can_still before new headers same can = subst (λ (sizes : List ℕ). IfSome hea
 pub begins_spending : BeginsSpending
 begins_spending prepared old new next can starts =
     let s : SpendsAhead old (ops_of prepared.texts) (sectors_in prepared.texts) (to_come (pre_view next).batch) 0 new =
-        started old new next.batching prepared.texts can.texts starts.0 in
+    started old new next.batching prepared.texts can.texts starts.0 in
     let headers : (pre_view next).headers ≡ Some prepared.headers = ap (λ (v : PreView). v.headers) starts.1 in
     let ops : ops_if (pre_view next).headers ≡ ops_of prepared.headers = ap ops_if headers in
     let sectors : sectors_if (pre_view next).headers ≡ sectors_in prepared.headers = ap sectors_if headers in (
@@ -70,7 +70,7 @@ begins_spending prepared old new next can starts =
         flush = flushes_in old new next.batching prepared.texts can.texts starts.0 s.sizes;
         headers =
             subst (λ (b : Option Batch). IfSome b (CanRun new.sizes)) (sym headers)
-                (subst (λ (sizes : List ℕ). CanRun sizes prepared.headers) (sym s.sizes) can.headers);
+            (subst (λ (sizes : List ℕ). CanRun sizes prepared.headers) (sym s.sizes) can.headers);
       },
     )
 
@@ -79,24 +79,27 @@ module _ (now : Precommitting) (before old mid new : State) (done : Done) (fits 
   abbrev Spends : PreStep → Type 0
   Spends step =
       SpendsAhead before (ops_ahead (pre_view now)) (sectors_ahead (pre_view now)) (ops_left step) (sectors_left step) new
-          × StaysWithin new.sizes step
+      × StaysWithin new.sizes step
 
   -- the headers are started
   headers_start : (b : Option Batch) (next : Precommitting) → (pre_view now).headers ≡ b → GoesOn mid (pre_view now) b (pre.Going next) new
       → WorksOn before (to_come (pre_view now).batch) 0 0 mid → Spends (pre.Going next)
   headers_start (Some headers) next is f w =
       let can : CanRun mid.sizes headers =
-          subst (λ (sizes : List ℕ). CanRun sizes headers) (sym w.sizes)
-              (subst (λ (h : Option Batch). IfSome h (CanRun before.sizes)) is fits.headers) in
+      subst (λ (sizes : List ℕ). CanRun sizes headers) (sym w.sizes)
+      (subst (λ (h : Option Batch). IfSome h (CanRun before.sizes)) is fits.headers) in
       let s : SpendsAhead mid (ops_of headers) (sectors_in headers) (to_come (pre_view next).batch) 0 new =
-          started mid new next.batching headers can f.0 in
+      started mid new next.batching headers can f.0 in
       let none : (pre_view next).headers ≡ None = ap (λ (v : PreView). v.headers) f.1 in
       let ops : ops_if (pre_view now).headers ≡ ops_of headers = ap ops_if is in
       let sectors : sectors_if (pre_view now).headers ≡ sectors_in headers = ap sectors_if is in
       let ops' : ops_if (pre_view next).headers ≡ 0 = ap ops_if none in
       let sectors' : sectors_if (pre_view next).headers ≡ 0 = ap sectors_if none in (
-        record { sizes = s.sizes ∙ w.sizes; spare_ops = omega (arith, s.spare_ops, w.spare_ops, ops, ops');
-            spare_sectors = omega (arith, s.spare_sectors, w.spare_sectors, sectors, sectors') },
+        record {
+          sizes = s.sizes ∙ w.sizes;
+          spare_ops = omega (arith, s.spare_ops, w.spare_ops, ops, ops');
+          spare_sectors = omega (arith, s.spare_sectors, w.spare_sectors, sectors, sectors');
+        },
         record {
           flush = flushes_in mid new next.batching headers can f.0 s.sizes;
           headers = subst (λ (h : Option Batch). IfSome h (CanRun new.sizes)) (sym none) tt;
@@ -108,9 +111,14 @@ module _ (now : Precommitting) (before old mid new : State) (done : Done) (fits 
       → Spends (pre.Ready r)
   ready (Some headers) r f w = absurd f
   ready None r f w = let e : new.spare_ops ≡ mid.spare_ops = ap (λ (s : State). s.spare_ops) f.0 in
-      let e' : new.spare_sectors ≡ mid.spare_sectors = ap (λ (s : State). s.spare_sectors) f.0 in
-      (record { sizes = ap (λ (s : State). s.sizes) f.0 ∙ w.sizes; spare_ops = omega (arith, e, w.spare_ops);
-          spare_sectors = omega (arith, e', w.spare_sectors) }, tt)
+      let e' : new.spare_sectors ≡ mid.spare_sectors = ap (λ (s : State). s.spare_sectors) f.0 in (
+        record {
+          sizes = ap (λ (s : State). s.sizes) f.0 ∙ w.sizes;
+          spare_ops = omega (arith, e, w.spare_ops);
+          spare_sectors = omega (arith, e', w.spare_sectors);
+        },
+        tt,
+      )
 
   spends : (came : BatchStep) (step : PreStep) → Goes old (pre_view now).batch done came mid → PreFollows mid (pre_view now) came step new
       → Spends step
@@ -124,15 +132,17 @@ module _ (now : Precommitting) (before old mid new : State) (done : Done) (fits 
       let ops : ops_if (pre_view next).headers ≡ ops_if (pre_view now).headers = ap ops_if headers in
       let sectors : sectors_if (pre_view next).headers ≡ sectors_if (pre_view now).headers = ap sectors_if headers in
       let kept : (pre_view next).batch.flush ≡ (pre_view now).batch.flush =
-          ap (λ (v : PreView). v.batch.flush) f.1 ∙ goes_flush old mid (pre_view now).batch done (batch.Going next') goes in
-      (
-        record { sizes = same; spare_ops = omega (arith, e, w.spare_ops, come, ops);
-            spare_sectors = omega (arith, e', w.spare_sectors, sectors) },
+      ap (λ (v : PreView). v.batch.flush) f.1 ∙ goes_flush old mid (pre_view now).batch done (batch.Going next') goes in (
+        record {
+          sizes = same;
+          spare_ops = omega (arith, e, w.spare_ops, come, ops);
+          spare_sectors = omega (arith, e', w.spare_sectors, sectors);
+        },
         record {
           flush = within_still before new (pre_view now).batch.flush (pre_view next).batch.flush same kept fits.flush;
           headers =
               subst (λ (h : Option Batch). IfSome h (CanRun new.sizes)) (sym headers)
-                  (can_still before new (pre_view now).headers same fits.headers);
+              (can_still before new (pre_view now).headers same fits.headers);
         },
       )
   spends batch.Well (pre.Going next) goes f =
@@ -142,9 +152,14 @@ module _ (now : Precommitting) (before old mid new : State) (done : Done) (fits 
   spends (batch.Lost pv') (pre.Lost pv) goes f =
       let w = batch_spends before old mid now.batching done (batch.Lost pv') completes goes in
       let e : new.spare_ops ≡ mid.spare_ops = ap (λ (s : State). s.spare_ops) f.0 in
-      let e' : new.spare_sectors ≡ mid.spare_sectors = ap (λ (s : State). s.spare_sectors) f.0 in
-      (record { sizes = ap (λ (s : State). s.sizes) f.0 ∙ w.sizes; spare_ops = omega (arith, e, w.spare_ops);
-          spare_sectors = omega (arith, e', w.spare_sectors) }, tt)
+      let e' : new.spare_sectors ≡ mid.spare_sectors = ap (λ (s : State). s.spare_sectors) f.0 in (
+        record {
+          sizes = ap (λ (s : State). s.sizes) f.0 ∙ w.sizes;
+          spare_ops = omega (arith, e, w.spare_ops);
+          spare_sectors = omega (arith, e', w.spare_sectors);
+        },
+        tt,
+      )
   spends batch.Well (pre.Lost pv) goes f = none_lost (pre_view now).headers f
     where
       none_lost : (b : Option Batch) → GoesOn mid (pre_view now) b (pre.Lost pv) new → Spends (pre.Lost pv)
@@ -177,21 +192,32 @@ commits_spending before old new now done step within completes goes = at goes.ca
         let same : new.sizes ≡ before.sizes = ap (λ (s : State). s.sizes) f.0 ∙ w.sizes in
         let come : to_come (com_view next).batch ≡ to_come (view_of next') = ap (λ v. to_come v.batch) f.1 in
         let kept : (com_view next).batch.flush ≡ (com_view now).batch.flush =
-            ap (λ v. v.batch.flush) f.1 ∙ goes_flush old goes.mid (com_view now).batch done (batch.Going next') g in
-        (record { sizes = same; spare_ops = omega (arith, e, w.spare_ops, come); spare_sectors = omega (arith, e', w.spare_sectors) },
-            within_still before new (com_view now).batch.flush (com_view next).batch.flush same kept within)
+        ap (λ v. v.batch.flush) f.1 ∙ goes_flush old goes.mid (com_view now).batch done (batch.Going next') g in (
+          record { sizes = same; spare_ops = omega (arith, e, w.spare_ops, come); spare_sectors = omega (arith, e', w.spare_sectors) },
+          within_still before new (com_view now).batch.flush (com_view next).batch.flush same kept within,
+        )
     at batch.Well (published.Whole committed) g f =
         let w = batch_spends before old goes.mid now.batching done batch.Well completes g in
         let e : new.spare_ops ≡ goes.mid.spare_ops = ap (λ (s : State). s.spare_ops) f.0 in
-        let e' : new.spare_sectors ≡ goes.mid.spare_sectors = ap (λ (s : State). s.spare_sectors) f.0 in
-        (record { sizes = ap (λ (s : State). s.sizes) f.0 ∙ w.sizes; spare_ops = omega (arith, e, w.spare_ops);
-            spare_sectors = omega (arith, e', w.spare_sectors) }, tt)
+        let e' : new.spare_sectors ≡ goes.mid.spare_sectors = ap (λ (s : State). s.spare_sectors) f.0 in (
+          record {
+            sizes = ap (λ (s : State). s.sizes) f.0 ∙ w.sizes;
+            spare_ops = omega (arith, e, w.spare_ops);
+            spare_sectors = omega (arith, e', w.spare_sectors);
+          },
+          tt,
+        )
     at (batch.Lost pv') (published.Fenced pv) g f =
         let w = batch_spends before old goes.mid now.batching done (batch.Lost pv') completes g in
         let e : new.spare_ops ≡ goes.mid.spare_ops = ap (λ (s : State). s.spare_ops) f.0 in
-        let e' : new.spare_sectors ≡ goes.mid.spare_sectors = ap (λ (s : State). s.spare_sectors) f.0 in
-        (record { sizes = ap (λ (s : State). s.sizes) f.0 ∙ w.sizes; spare_ops = omega (arith, e, w.spare_ops);
-            spare_sectors = omega (arith, e', w.spare_sectors) }, tt)
+        let e' : new.spare_sectors ≡ goes.mid.spare_sectors = ap (λ (s : State). s.spare_sectors) f.0 in (
+          record {
+            sizes = ap (λ (s : State). s.sizes) f.0 ∙ w.sizes;
+            spare_ops = omega (arith, e, w.spare_ops);
+            spare_sectors = omega (arith, e', w.spare_sectors);
+          },
+          tt,
+        )
     at (batch.Going next') (published.Whole committed) g f = absurd f
     at (batch.Going next') (published.Fenced pv) g f = absurd f
     at batch.Well (published.Going next) g f = absurd f

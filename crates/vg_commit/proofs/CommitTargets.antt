@@ -1,6 +1,6 @@
 -- What the batches of a commit bring to its areas, and what the areas show by what their sectors may read as.
-use Rattle.std.proofs.Common.{◌≡◌, ◌<◌, ℕ, zero, suc, true, false, IsTrue, List, [], ◌∷◌, length, map, get_or, Option, inl, inr, sym, ◌∙◌,
-    arith}
+use Rattle.std.proofs.Common.{◌≡◌, ◌<◌, ℕ, zero, suc, true, false, IsTrue, List, [], ◌∷◌, length, map, get_or, Option, inl, inr, sym, ◌∙◌}
+use Rattle.std.proofs.Common.{arith}
 use Rattle.std.proofs.lemmas.Bool.{cases_Bool, false_from_ne_true, or_left, or_right, true≢false}
 use Rattle.sector_base.specs.Spans.{covers}
 use Rattle.disk_model.specs.Durability.{AllLeave, EachOnlyLeaves, OnlyLeaves}
@@ -13,8 +13,8 @@ use Rattle.disk_batch.proofs.WrittenBy.{bring_at_weaker, bring_written}
 use Rattle.disk_batch.proofs.WritesOnImages.{written_at as is_written}
 use Rattle.mda_header.specs.declared.header.Locn.{Locn}
 use Rattle.mda_ring.specs.declared.area.Area.{Area}
-use Rattle.vg_commit.specs.CommitHolds.{Commit, IsEither, IsNew, IsOld, IsOldWithTexts, IsSound, headers_in, is_header, is_own, is_text,
-    publish_in, texts_in}
+use Rattle.vg_commit.specs.CommitHolds.{Commit, IsEither, IsNew, IsOld, IsOldWithTexts, IsSound, headers_in, is_header, is_own, is_text}
+use Rattle.vg_commit.specs.CommitHolds.{publish_in, texts_in}
 use Rattle.vg_commit.specs.Commits.{MakeCommit, written_at}
 use Rattle.vg_commit.specs.Laws.{ShowsEither, ShowsNew, ShowsOld, WritesItsAreas}
 use Rattle.vg_commit.specs.Preparing.{area_disks}
@@ -64,7 +64,7 @@ module _ (c : Commit) where
     pub make : MakeCommit (IsOld c) (IsNew c) (texts_in c) (headers_in c) (publish_in c) (disks_in c.flush) (disks_in (area_disks c.areas))
     make =
         make_commit c.text c.areas c.bytes sound.committed.take sound.committed.apart sound.room sound.read (disks_in c.flush)
-            (disks_in (area_disks c.areas))
+        (disks_in (area_disks c.areas))
         (texts_on c.areas c.flush sound.committed.on_disks) (headers_on c.areas c.flush sound.committed.on_disks) no_area
 
     -- ---- what the batches bring
@@ -80,9 +80,10 @@ module _ (c : Commit) where
         (make.headers_old pv sector value by, λ no. absurd (true≢false (sym (is_written (headers_in c) pv sector value by) ∙ no)))
 
     pub publish_allowed : (pv sector : ℕ) (value : List ℕ) → IsWrittenBy (publish_in c) pv sector value → IsEither c pv sector value
-    publish_allowed pv sector value by =
-        (inr (make.publish_new pv sector value by),
-            λ no. absurd (true≢false (sym (is_written (publish_in c) pv sector value by) ∙ (make.same_headers pv sector ∙ no))))
+    publish_allowed pv sector value by = (
+      inr (make.publish_new pv sector value by),
+      λ no. absurd (true≢false (sym (is_written (publish_in c) pv sector value by) ∙ (make.same_headers pv sector ∙ no))),
+    )
 
     pub text_targets : WriteTargets (is_own c) (is_text c) (IsOld c) (IsNew c) (map write_work (texts_in c))
     text_targets = record {
@@ -140,7 +141,7 @@ module _ (c : Commit) where
     sized_new : AreSized (new_reading c.text) c.areas
     sized_new k d within =
         entry_inside c.text (get_or c.areas k d)
-            (is_placed c.text (get_or c.areas k d) (sound.committed.take k d within) (rooms c.text c.areas sound.room k d within))
+        (is_placed c.text (get_or c.areas k d) (sound.committed.take k d within) (rooms c.text c.areas sound.room k d within))
 
     one : HasOneHeader (is_header c) c.areas
     one k d within sector inside is =
@@ -149,12 +150,12 @@ module _ (c : Commit) where
     pub shows_old : (told : Record) → AreSized (old_reading c.bytes) c.areas → AllLeave (is_own c) (IsOld c) told → ShowsOld c told
     shows_old told sized leaves =
         images_show (old_reading c.bytes) c.areas sound.committed.take sized told
-            (each_leaves (IsOld c) (λ pv sector value out. outside (old_reading c.bytes) c.areas pv sector value out) told leaves)
+        (each_leaves (IsOld c) (λ pv sector value out. outside (old_reading c.bytes) c.areas pv sector value out) told leaves)
 
     pub shows_new : (told : Record) → AllLeave (is_own c) (IsNew c) told → ShowsNew c told
     shows_new told leaves =
         images_show (new_reading c.text) c.areas sound.committed.take sized_new told
-            (each_leaves (IsNew c) (λ pv sector value out. outside (new_reading c.text) c.areas pv sector value out) told leaves)
+        (each_leaves (IsNew c) (λ pv sector value out. outside (new_reading c.text) c.areas pv sector value out) told leaves)
 
     pub shows_either : (told : Record) → AreSized (old_reading c.bytes) c.areas → AllLeave (is_own c) (IsEither c) told → ShowsEither c told
     shows_either told sized leaves =

@@ -1,6 +1,6 @@
 -- The disks that the batches of a commit flush.
-use Rattle.std.proofs.Common.{◌≡◌, ◌<◌, ℕ, Bool, true, false, ◌||◌, ◌==◌, cond, List, [], ◌∷◌, length, filter, Option, None, ⊎_elim, refl,
-    sym, ap, subst, ◌∙◌, eq-eqb}
+use Rattle.std.proofs.Common.{◌≡◌, ◌<◌, ℕ, Bool, true, false, ◌||◌, ◌==◌, cond, List, [], ◌∷◌, length, filter, Option, None, ⊎_elim, refl}
+use Rattle.std.proofs.Common.{sym, ap, subst, ◌∙◌, eq-eqb}
 use Rattle.std.specs.Prelude.{All}
 use Rattle.std.specs.Cmp.{nat_cmp_total, unsigned_tied}
 use Rattle.std.specs.Ordering.{nat_cmp}
@@ -35,7 +35,7 @@ each_in [] disks = All-nil (λ (a : Area × Option Locn). contains disks a.0.pv 
 each_in (a ∷ areas) disks =
     All-cons (λ (b : Area × Option Locn). contains (with_disks (insert disks a.0.pv) areas) b.0.pv ≡ true) a areas
     (stays_in areas (insert disks a.0.pv) a.0.pv
-        (inserted disks a.0.pv a.0.pv ∙ or_left (a.0.pv == a.0.pv) (contains disks a.0.pv) (eq-eqb a.0.pv a.0.pv refl)))
+    (inserted disks a.0.pv a.0.pv ∙ or_left (a.0.pv == a.0.pv) (contains disks a.0.pv) (eq-eqb a.0.pv a.0.pv refl)))
     (each_in areas (insert disks a.0.pv))
 
 -- each area's disk is flushed by each batch
@@ -56,7 +56,7 @@ pub area_disks_some : (areas : List (Area × Option Locn)) (flush disks : FinSet
     → AreCommitted areas flush → 0 < length (disks_in disks)
 area_disks_some areas flush disks are committed =
     subst (λ (s : FinSet nat_cmp). 0 < length (disks_in s)) (sym are)
-        (some_disk (area_disks areas) _ (committed.on_disks 0 no_area committed.some).0 (each_in areas empty 0 no_area committed.some))
+    (some_disk (area_disks areas) _ (committed.on_disks 0 no_area committed.some).0 (each_in areas empty 0 no_area committed.some))
 
 -- only disks of areas are
 only_in : (areas : List (Area × Option Locn)) (disks flush : FinSet nat_cmp) → All (IsOnDiskOf flush) areas
@@ -89,5 +89,5 @@ unfolding disks_in
 area_disks_too P areas flush on all =
     All-from_recursion P (filter (contains (area_disks areas)) (range_with_len 0 64))
     (fewer P (contains flush) (contains (area_disks areas))
-        (only_in areas empty flush on (λ pv none. absurd (true≢false (sym none ∙ contains-empty nat_cmp pv)))) (range_with_len 0 64)
+    (only_in areas empty flush on (λ pv none. absurd (true≢false (sym none ∙ contains-empty nat_cmp pv)))) (range_with_len 0 64)
     (recursion_from_All P (filter (contains flush) (range_with_len 0 64)) all))

@@ -1,6 +1,6 @@
 -- The writes of a commit lie in the disks of its areas.
-use Rattle.std.proofs.Common.{◌≡◌, ◌≤◌, ◌<◌, ℕ, ◌+◌, ◌-◌, ◌*◌, ◌/◌, min, Bool, true, false, cond, nat_lt, List, [], ◌∷◌, length, take, drop,
-    map, Option, None, Some, refl, ◌∙◌, arith}
+use Rattle.std.proofs.Common.{◌≡◌, ◌≤◌, ◌<◌, ℕ, ◌+◌, ◌-◌, ◌*◌, ◌/◌, min, Bool, true, false, cond, nat_lt, List, [], ◌∷◌, length, take, drop}
+use Rattle.std.proofs.Common.{map, Option, None, Some, refl, ◌∙◌, arith}
 use Rattle.std.specs.Prelude.{All}
 use Rattle.std.proofs.lemmas.Bool.{ltb-true}
 use Rattle.std.proofs.lemmas.List.{length-drop, length-take-le}
@@ -40,8 +40,11 @@ module _ (sizes : List ℕ) (text : List ℕ) where
     first_fills =
         let same : all ≡ total = placed.touched in
         let before : offset < a.0.size = placed.ring.before_end in
-        record { disk = inside.disk; within = omega (arith, inside.within, before);
-            buffer = length-take-le (min all to_end) (text_sectors text total) (omega (arith, long, same)) }
+        record {
+          disk = inside.disk;
+          within = omega (arith, inside.within, before);
+          buffer = length-take-le (min all to_end) (text_sectors text total) (omega (arith, long, same));
+        }
 
     rest_fills : (b : Bool) → nat_lt to_end all ≡ b
         → LieIn sizes (rest_put (cond b (Some (span_of_area a.0 1 (all - to_end))) None) (drop (min all to_end) (text_sectors text total)))
@@ -50,18 +53,21 @@ module _ (sizes : List ℕ) (text : List ℕ) where
         let fits : 512 * total ≤ a.0.size - 512 = placed.ring.fits in
         let past : to_end < all = ltb-true to_end all round in
         All-cons (λ (put : Span × List (List ℕ)). Fills sizes put.0 put.1)
-            (span_of_area a.0 1 (all - to_end), drop (min all to_end) (text_sectors text total)) []
-        (record { disk = inside.disk; within = omega (arith, inside.within, same, fits, past);
-            buffer = length-drop (min all to_end) (text_sectors text total) ∙ omega (arith, long, same, past) })
+        (span_of_area a.0 1 (all - to_end), drop (min all to_end) (text_sectors text total)) []
+        (record {
+          disk = inside.disk;
+          within = omega (arith, inside.within, same, fits, past);
+          buffer = length-drop (min all to_end) (text_sectors text total) ∙ omega (arith, long, same, past);
+        })
         (All-nil (λ (put : Span × List (List ℕ)). Fills sizes put.0 put.1))
     rest_fills false straight = All-nil (λ (put : Span × List (List ℕ)). Fills sizes put.0 put.1)
 
     text_lies : LieIn sizes (text_puts text a)
     text_lies =
         All-cons (λ (put : Span × List (List ℕ)). Fills sizes put.0 put.1)
-            (span_of_area a.0 (offset / 512) (min all to_end), take (min all to_end) (text_sectors text total))
+        (span_of_area a.0 (offset / 512) (min all to_end), take (min all to_end) (text_sectors text total))
         (rest_put (cond (nat_lt to_end all) (Some (span_of_area a.0 1 (all - to_end))) None)
-            (drop (min all to_end) (text_sectors text total))) first_fills (rest_fills (nat_lt to_end all) refl)
+        (drop (min all to_end) (text_sectors text total))) first_fills (rest_fills (nat_lt to_end all) refl)
 
   header_fills : (a : Area × Option Locn) (value : List ℕ) → IsArea a.0 → IsWithin sizes (area_span a.0)
       → Fills sizes (header_span a.0) (value ∷ [])
@@ -75,31 +81,31 @@ module _ (sizes : List ℕ) (text : List ℕ) where
   texts_lie (a ∷ areas) placed inside =
       All-append (λ (put : Span × List (List ℕ)). Fills sizes put.0 put.1) (text_puts text a) (texts_of (map (area_writes text) areas))
       (text_lies a (All-head (IsPlaced text) a areas placed)
-          (All-head (λ (b : Area × Option Locn). IsWithin sizes (area_span b.0)) a areas inside))
+      (All-head (λ (b : Area × Option Locn). IsWithin sizes (area_span b.0)) a areas inside))
       (texts_lie areas (All-tail (IsPlaced text) a areas placed)
-          (All-tail (λ (b : Area × Option Locn). IsWithin sizes (area_span b.0)) a areas inside))
+      (All-tail (λ (b : Area × Option Locn). IsWithin sizes (area_span b.0)) a areas inside))
 
   pub headers_lie : (areas : List (Area × Option Locn)) → All (IsPlaced text) areas
       → All (λ (a : Area × Option Locn). IsWithin sizes (area_span a.0)) areas → LieIn sizes (headers_of (map (area_writes text) areas))
   headers_lie [] placed inside = All-nil (λ (put : Span × List (List ℕ)). Fills sizes put.0 put.1)
   headers_lie (a ∷ areas) placed inside =
       All-cons (λ (put : Span × List (List ℕ)). Fills sizes put.0 put.1) (header_span a.0, (area_writes text a).before ∷ [])
-          (headers_of (map (area_writes text) areas))
+      (headers_of (map (area_writes text) areas))
       (header_fills a (area_writes text a).before (All-head (IsPlaced text) a areas placed).good
-          (All-head (λ (b : Area × Option Locn). IsWithin sizes (area_span b.0)) a areas inside))
+      (All-head (λ (b : Area × Option Locn). IsWithin sizes (area_span b.0)) a areas inside))
       (headers_lie areas (All-tail (IsPlaced text) a areas placed)
-          (All-tail (λ (b : Area × Option Locn). IsWithin sizes (area_span b.0)) a areas inside))
+      (All-tail (λ (b : Area × Option Locn). IsWithin sizes (area_span b.0)) a areas inside))
 
   pub publish_lie : (areas : List (Area × Option Locn)) → All (IsPlaced text) areas
       → All (λ (a : Area × Option Locn). IsWithin sizes (area_span a.0)) areas → LieIn sizes (publish_of (map (area_writes text) areas))
   publish_lie [] placed inside = All-nil (λ (put : Span × List (List ℕ)). Fills sizes put.0 put.1)
   publish_lie (a ∷ areas) placed inside =
       All-cons (λ (put : Span × List (List ℕ)). Fills sizes put.0 put.1) (header_span a.0, (area_writes text a).after ∷ [])
-          (publish_of (map (area_writes text) areas))
+      (publish_of (map (area_writes text) areas))
       (header_fills a (area_writes text a).after (All-head (IsPlaced text) a areas placed).good
-          (All-head (λ (b : Area × Option Locn). IsWithin sizes (area_span b.0)) a areas inside))
+      (All-head (λ (b : Area × Option Locn). IsWithin sizes (area_span b.0)) a areas inside))
       (publish_lie areas (All-tail (IsPlaced text) a areas placed)
-          (All-tail (λ (b : Area × Option Locn). IsWithin sizes (area_span b.0)) a areas inside))
+      (All-tail (λ (b : Area × Option Locn). IsWithin sizes (area_span b.0)) a areas inside))
 
 -- each batch writes something
 pub texts_some : (text : List ℕ) (areas : List (Area × Option Locn)) → 0 < length areas

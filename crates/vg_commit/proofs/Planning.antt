@@ -1,12 +1,12 @@
 -- The plan of a commit, area by area, and what is prepared from it.
-use Rattle.std.proofs.Common.{◌≡◌, ◌≤◌, ◌<◌, ℕ, ◌+◌, ◌-◌, ◌*◌, ◌%◌, Bool, true, false, cond, nat_lt, List, [], ◌∷◌, ◌++◌, length, take,
-    drop, map, get_or, Option, None, Some, IfSome, refl, sym, ap, subst, subst₂, ◌∙◌, arith}
+use Rattle.std.proofs.Common.{◌≡◌, ◌≤◌, ◌<◌, ℕ, ◌+◌, ◌-◌, ◌*◌, ◌%◌, Bool, true, false, cond, nat_lt, List, [], ◌∷◌, ◌++◌, length, take}
+use Rattle.std.proofs.Common.{drop, map, get_or, Option, None, Some, IfSome, refl, sym, ap, subst, subst₂, ◌∙◌, arith}
 use Rattle.std.specs.Prelude.{All, IfErr, IfOk, MatchResult, Result, Ok, Err}
 use Rattle.std.specs.Ordering.{nat_cmp}
 use Rattle.std.specs.FinSet.{FinSet}
 use Rattle.std.proofs.lemmas.Bool.{cond-false, le-ltb}
-use Rattle.std.proofs.lemmas.List.{append-nil, append_assoc, get_or-map, get_or_default, length-map, map_push, take-append-drop, take_all,
-    take_more}
+use Rattle.std.proofs.lemmas.List.{append-nil, append_assoc, get_or-map, get_or_default, length-map, map_push, take-append-drop, take_all}
+use Rattle.std.proofs.lemmas.List.{take_more}
 use Rattle.std.proofs.lemmas.List.Elements.{All-map, All-nil, All-push}
 use Rattle.sector_base.specs.Checksum.{checksum, lvm_crc_start}
 use Rattle.sector_base.specs.declared.spans.Span.{Span}
@@ -26,8 +26,8 @@ use Rattle.vg_commit.specs.declared.plan.Plan.{Plan}
 use Rattle.vg_commit.specs.declared.prepared.Prepared.{Prepared}
 use Rattle.vg_commit.specs.declared.refusal.CommitRefusal.{CommitRefusal}
 use Rattle.vg_commit.specs.declared.refusal.CommitRefusal.TheVariants.{NoMemory, TooLarge}
-use Rattle.vg_commit.specs.Written.{area_span, area_writes, header_after, header_before, header_of, header_span, headers_of, new_entry,
-    publish_of, puts_on, stored, text_puts, texts_of, with_entries}
+use Rattle.vg_commit.specs.Written.{area_span, area_writes, header_after, header_before, header_of, header_span, headers_of, new_entry}
+use Rattle.vg_commit.specs.Written.{publish_of, puts_on, stored, text_puts, texts_of, with_entries}
 use Rattle.vg_commit.specs.TooLarge.{IsCause, first_too_large}
 use Rattle.vg_commit.specs.Plans.{Adds, HeadersRead, IsPlan}
 use Rattle.vg_commit.specs.Preparing.{AreCommitted, AreWithin, CanStart, HasBatches, IsOnDiskOf, IsPrepared, area_disks}
@@ -42,7 +42,7 @@ pub cut_fits : (size offset count sectors len : ℕ) (spans : Span × Option Spa
     → spans.0.count ≤ len
 cut_fits size offset count sectors len spans whole aligned fits are counted is =
     let t : touched_count size offset count ≡ need count =
-        touched_is size offset count whole aligned (subst (λ (n : ℕ). 512 * n ≤ size - 512) are fits) in
+    touched_is size offset count whole aligned (subst (λ (n : ℕ). 512 * n ≤ size - 512) are fits) in
     let c : spans_count spans ≡ len = counted ∙ t ∙ sym are ∙ sym is in
     omega (arith, c)
 
@@ -54,10 +54,14 @@ if_inside size (Some locn) h = h
 pub adds_area : (text : List ℕ) (area : Area) (committed : Option Locn) (place : Place) (count sum : ℕ) (old new : Plan) (bytes : List ℕ)
     → bytes ≡ text → count ≡ length bytes + 1 → IsNext area.size committed count place → sum ≡ checksum lvm_crc_start (stored text)
     → new.texts.items ≡ old.texts.items ++ puts_on (ring_spans area place.offset (length text + 1)) (text_sectors text place.sectors)
-    → new.headers.items ≡ old.headers.items ++ (header_span area,
-    header_bytes (header_of area committed (Some (record { offset = place.offset; size = count; sum = sum }))) ∷ []) ∷ []
-    → new.publish.items ≡ old.publish.items ++ (header_span area,
-    header_bytes (header_of area (Some (record { offset = place.offset; size = count; sum = sum })) None) ∷ []) ∷ []
+    → new.headers.items ≡ old.headers.items ++ (
+      header_span area,
+      header_bytes (header_of area committed (Some (record { offset = place.offset; size = count; sum = sum }))) ∷ [],
+    ) ∷ []
+    → new.publish.items ≡ old.publish.items ++ (
+      header_span area,
+      header_bytes (header_of area (Some (record { offset = place.offset; size = count; sum = sum })) None) ∷ [],
+    ) ∷ []
     → new.areas.items ≡ old.areas.items ++ (area, Some (record { offset = place.offset; size = count; sum = sum })) ∷ []
     → (CanBeRead (header_of area committed (Some (record { offset = place.offset; size = count; sum = sum })))
     → IsHeader (header_bytes (header_of area committed (Some (record { offset = place.offset; size = count; sum = sum }))))
@@ -76,31 +80,31 @@ adds_area text area committed place count sum old new bytes same_bytes count_is 
     ∙ ap (λ (s : ℕ). record { offset = next_offset area.size committed; size = length text + 1; sum = s }) sum_is
     in
     let has_room : need (length text + 1) ≤ room area.size committed =
-        subst (λ (n : ℕ). need n ≤ room area.size committed) long next.has_room in
+    subst (λ (n : ℕ). need n ≤ room area.size committed) long next.has_room in
     let in_area : IsInside area.size (new_entry text (area, committed)) =
-        (entry_inside text (area, committed) (is_placed text (area, committed) (good, if_inside area.size committed inside) has_room)).0 in
+    (entry_inside text (area, committed) (is_placed text (area, committed) (good, if_inside area.size committed inside) has_room)).0 in
     record {
       texts =
           texts ∙ ap (λ (o : ℕ). old.texts.items ++ puts_on (ring_spans area o (length text + 1)) (text_sectors text place.sectors))
-              next.offset_is
+          next.offset_is
           ∙ ap (λ (s : ℕ). old.texts.items ++ puts_on (ring_spans area (next_offset area.size committed) (length text + 1))
           (text_sectors text s)) (next.sectors_is ∙ ap need long);
       headers =
           headers ∙ ap (λ (e : Locn). old.headers.items ++ (header_span area, header_bytes (header_of area committed (Some e)) ∷ []) ∷ [])
-              same;
+          same;
       publish =
           publish ∙ ap (λ (e : Locn). old.publish.items ++ (header_span area, header_bytes (header_of area (Some e) None) ∷ []) ∷ []) same;
       entries = entries ∙ ap (λ (e : Locn). old.areas.items ++ (area, Some e) ∷ []) same;
       room =
           cond-false (nat_lt (room area.size committed) (need (length text + 1))) _ _
-              (le-ltb (room area.size committed) (need (length text + 1)) has_room);
+          (le-ltb (room area.size committed) (need (length text + 1)) has_room);
       read = record {
         before =
             subst (λ (e : Locn). IsHeader (header_bytes (header_of area committed (Some e))) (header_of area committed (Some e))) same
-                (read_before (record { committed = inside; precommitted = subst (IsInside area.size) (sym same) in_area }));
+            (read_before (record { committed = inside; precommitted = subst (IsInside area.size) (sym same) in_area }));
         after =
             subst (λ (e : Locn). IsHeader (header_bytes (header_of area (Some e) None)) (header_of area (Some e) None)) same
-                (read_after (record { committed = subst (IsInside area.size) (sym same) in_area; precommitted = tt }));
+            (read_after (record { committed = subst (IsInside area.size) (sym same) in_area; precommitted = tt }));
       };
     }
 
@@ -111,7 +115,7 @@ module _ (text : List ℕ) (a : Area × Option Locn) where
   texts_push [] = append-nil (text_puts text a)
   texts_push (b ∷ areas) =
       ap (λ (l : List (Span × List (List ℕ))). text_puts text b ++ l) (texts_push areas)
-          ∙ sym (append_assoc (text_puts text b) (texts_of (map (area_writes text) areas)) (text_puts text a))
+      ∙ sym (append_assoc (text_puts text b) (texts_of (map (area_writes text) areas)) (text_puts text a))
 
   headers_push : (areas : List (Area × Option Locn))
       → headers_of (map (area_writes text) (areas ++ a ∷ []))
@@ -158,13 +162,13 @@ module _ (text : List ℕ) (a : Area × Option Locn) where
     texts = adds.texts ∙ ap (λ (l : List (Span × List (List ℕ))). l ++ text_puts text a) plan.texts ∙ sym (texts_push areas);
     headers =
         adds.headers ∙ ap (λ (l : List (Span × List (List ℕ))). l ++ (header_span a.0, header_bytes (header_before text a) ∷ []) ∷ [])
-            plan.headers ∙ sym (headers_push areas);
+        plan.headers ∙ sym (headers_push areas);
     publish =
         adds.publish ∙ ap (λ (l : List (Span × List (List ℕ))). l ++ (header_span a.0, header_bytes (header_after text a) ∷ []) ∷ [])
-            plan.publish ∙ sym (publish_push areas);
+        plan.publish ∙ sym (publish_push areas);
     entries =
         adds.entries ∙ ap (λ (l : List (Area × Option Locn)). l ++ (a.0, Some (new_entry text a)) ∷ []) plan.entries
-            ∙ sym (map_push (λ (b : Area × Option Locn). (b.0, Some (new_entry text b))) areas a);
+        ∙ sym (map_push (λ (b : Area × Option Locn). (b.0, Some (new_entry text b))) areas a);
     room = first_push areas plan.room ∙ adds.room;
     read = All-push (HeadersRead text) areas a plan.read adds.read;
   }
@@ -180,7 +184,7 @@ pub plan_on : (text : List ℕ) (areas : List (Area × Option Locn)) (i : ℕ) (
     → a ≡ get_or areas i a → IsPlan text (take i areas) old → Adds text a old new → IsPlan text (take (i + 1) areas) new
 plan_on text areas i a old new within is plan adds =
     subst (λ (l : List (Area × Option Locn)). IsPlan text l new)
-        (sym (take_more areas i a within ∙ ap (λ (b : Area × Option Locn). take i areas ++ b ∷ []) (sym is)))
+    (sym (take_more areas i a within ∙ ap (λ (b : Area × Option Locn). take i areas ++ b ∷ []) (sym is)))
     (plan_push text a (take i areas) old new plan adds)
 
 -- all of them
@@ -195,10 +199,10 @@ cause_on text areas i a plan NoMemory within is done cause = tt
 cause_on text areas i a plan (TooLarge n r) within is done cause =
     let front : first_too_large text (take (i + 1) areas) ≡ Some (n, r) =
     ap (first_too_large text) (take_more areas i a within ∙ ap (λ (b : Area × Option Locn). take i areas ++ b ∷ []) (sym is))
-        ∙ first_push text a (take i areas) done.room ∙ cause
+    ∙ first_push text a (take i areas) done.room ∙ cause
     in
     ap (first_too_large text) (sym (take-append-drop (i + 1) areas))
-        ∙ first_found text a (take (i + 1) areas) (drop (i + 1) areas) (n, r) front
+    ∙ first_found text a (take (i + 1) areas) (drop (i + 1) areas) (n, r) front
 
 -- disks are small
 pub small_disks : (areas : List (Area × Option Locn)) (flush : FinSet nat_cmp) → AreCommitted areas flush
@@ -213,13 +217,15 @@ again text areas flush committed room_is =
     record {
       some = omega (arith, committed.some, length-map areas f);
       take = All-map CanTake f areas
-          (λ k d within. ((committed.take k d within).0,
-              (entry_inside text (get_or areas k d) (is_placed text (get_or areas k d) (committed.take k d within)
-              (rooms text areas room_is k d within))).0));
+          (λ k d within. (
+            (committed.take k d within).0,
+            (entry_inside text (get_or areas k d) (is_placed text (get_or areas k d) (committed.take k d within)
+                (rooms text areas room_is k d within))).0,
+          ));
       apart = λ i j d below within.
           let in_j : j < length areas = omega (arith, within, length-map areas f) in
           subst₂ LieApart (sym (get_or-map f areas i d d (omega (arith, in_j, below)))) (sym (get_or-map f areas j d d in_j))
-              (committed.apart i j d below in_j);
+          (committed.apart i j d below in_j);
       on_disks = All-map (IsOnDiskOf flush) f areas committed.on_disks;
     }
 
@@ -228,7 +234,7 @@ within_again : (sizes text : List ℕ) (areas : List (Area × Option Locn)) (flu
 within_again sizes text areas flush inside = record {
   areas_lie =
       All-map (λ (a : Area × Option Locn). IsWithin sizes (area_span a.0)) (λ (a : Area × Option Locn). (a.0, Some (new_entry text a)))
-          areas inside.areas_lie;
+      areas inside.areas_lie;
   disks_are = inside.disks_are;
 }
 
@@ -248,7 +254,7 @@ module _ (text : List ℕ) (areas : List (Area × Option Locn)) (flush disks : F
     entries = has.entries ∙ is_plan.entries;
     again =
         subst (λ (l : List (Area × Option Locn)). AreCommitted l flush) (sym (has.entries ∙ is_plan.entries))
-            (again text areas flush committed is_plan.room);
+        (again text areas flush committed is_plan.room);
     read = is_plan.read;
   }
 
@@ -268,13 +274,13 @@ module _ (text : List ℕ) (areas : List (Area × Option Locn)) (flush disks : F
       let few : (disks' : List ℕ) → Type 0 = λ disks'. All (λ (pv : ℕ). pv < length sizes) disks' in
       let p = is_prepared prepared has in
       let all_disks : few (disks_in (area_disks areas)) =
-          area_disks_too (λ (pv : ℕ). pv < length sizes) areas flush committed.on_disks inside.disks_are in
+      area_disks_too (λ (pv : ℕ). pv < length sizes) areas flush committed.on_disks inside.disks_are in
       let writes : List (Span × List (List ℕ)) → Type 0 = λ l. (0 < length l) × LieIn sizes l in
       let w1 = subst writes (sym p.texts) (texts_some text areas committed.some, texts_lie sizes text areas placed inside.areas_lie) in
       let w2 =
-          subst writes (sym p.headers) (headers_some text areas committed.some, headers_lie sizes text areas placed inside.areas_lie) in
+      subst writes (sym p.headers) (headers_some text areas committed.some, headers_lie sizes text areas placed inside.areas_lie) in
       let w3 =
-          subst writes (sym p.publish) (publish_some text areas committed.some, publish_lie sizes text areas placed inside.areas_lie) in
+      subst writes (sym p.publish) (publish_some text areas committed.some, publish_lie sizes text areas placed inside.areas_lie) in
       let d1 = subst few (sym p.text_disks) inside.disks_are in
       let d2 = subst few (sym p.header_disks) all_disks in
       let d3 = subst few (sym p.publish_disks) all_disks in
@@ -286,9 +292,11 @@ module _ (text : List ℕ) (areas : List (Area × Option Locn)) (flush disks : F
 
   pub start_result : (result : Result Prepared CommitRefusal) → IfOk result (HasBatches plan flush disks) → (sizes : List ℕ)
       → AreWithin sizes areas flush → IfOk result (λ (prepared : Prepared). CanStart sizes prepared × AreWithin sizes prepared.areas flush)
-  start_result (Ok prepared) has sizes inside =
-      (starts prepared has sizes inside, subst (λ (l : List (Area × Option Locn)). AreWithin sizes l flush)
-          (sym (has.entries ∙ is_plan.entries)) (within_again sizes text areas flush inside))
+  start_result (Ok prepared) has sizes inside = (
+    starts prepared has sizes inside,
+    subst (λ (l : List (Area × Option Locn)). AreWithin sizes l flush)
+        (sym (has.entries ∙ is_plan.entries)) (within_again sizes text areas flush inside),
+  )
   start_result (Err refusal) has sizes inside = tt
 
 -- the same for the area at its place in the list

@@ -1,6 +1,6 @@
 -- What an area shows in an image is what each of its sectors reads as.
-use Rattle.std.proofs.Common.{◌≡◌, ◌≤◌, ◌<◌, ◌⊎◌, ℕ, ◌+◌, ◌-◌, ◌/◌, ◌%◌, Bool, true, false, IsTrue, List, length, get_or, Option, None,
-    Some, IfSome, inl, inr, refl, sym, ap, subst, ◌∙◌, arith}
+use Rattle.std.proofs.Common.{◌≡◌, ◌≤◌, ◌<◌, ◌⊎◌, ℕ, ◌+◌, ◌-◌, ◌/◌, ◌%◌, Bool, true, false, IsTrue, List, length, get_or, Option, None}
+use Rattle.std.proofs.Common.{Some, IfSome, inl, inr, refl, sym, ap, subst, ◌∙◌, arith}
 use Rattle.std.specs.Prelude.{All}
 use Rattle.std.proofs.Math.Nat.{mod-lt}
 use Rattle.std.proofs.lemmas.List.FromFn.{fill_by_all, get_or-map-range_with_len, length-map-range_with_len}
@@ -62,7 +62,7 @@ images_read reading areas told is shows pv sector =
     (λ image im k d within inside.
     let a : Area × Option Locn = get_or areas k d in
     let t : (a.0.pv ≡ pv) × (a.0.start / 512 ≤ sector) × (sector < a.0.start / 512 + a.0.size / 512) =
-        covers_tells (area_span a.0) pv sector inside in
+    covers_tells (area_span a.0) pv sector inside in
     let back : a.0.start / 512 + (sector - a.0.start / 512) ≡ sector = omega (arith, t.1) in
     subst (λ (p : ℕ). Reads a.0 (reading a).0 (reading a).1 (sector - a.0.start / 512) (image p sector)) t.0
     (subst (λ (s : ℕ). Reads a.0 (reading a).0 (reading a).1 (sector - a.0.start / 512) (image a.0.pv s)) back
@@ -96,7 +96,7 @@ images_show reading areas take sized told leaves image im =
 abbrev pub HasOneHeader : (ℕ → ℕ → Bool) → List (Area × Option Locn) → Type 0
 HasOneHeader header areas =
     All (λ (a : Area × Option Locn). (sector : ℕ) → IsTrue (covers (area_span a.0) a.0.pv sector) → header a.0.pv sector ≡ true
-        → sector ≡ a.0.start / 512) areas
+    → sector ≡ a.0.start / 512) areas
 
 module _ (old new : Reading) (areas : List (Area × Option Locn)) (header : ℕ → ℕ → Bool) (take : All CanTake areas)
     (fits_old : AreSized old areas) (fits_new : AreSized new areas) (one : HasOneHeader header areas) where
@@ -122,23 +122,23 @@ module _ (old new : Reading) (areas : List (Area × Option Locn)) (header : ℕ 
     own : IsTrue (covers (area_span a.0) a.0.pv (a.0.start / 512))
     own =
         let big : 1536 ≤ a.0.size = (take k d within).0.has_ring in covers_from (area_span a.0) a.0.pv (a.0.start / 512) refl (omega arith)
-            (omega arith)
+        (omega arith)
 
     decides : AllRead old areas a.0.pv (a.0.start / 512) (image a.0.pv (a.0.start / 512))
         ⊎ AllRead new areas a.0.pv (a.0.start / 512) (image a.0.pv (a.0.start / 512)) → ShowsBy old image a ⊎ ShowsBy new image a
     decides (inl h) =
         inl (area_shows old a image (take k d within).0 (fits_old k d within)
-            (λ sector inside. at_old (h k d within own) sector inside (header a.0.pv sector) refl))
+        (λ sector inside. at_old (h k d within own) sector inside (header a.0.pv sector) refl))
     decides (inr h) =
         inr (area_shows new a image (take k d within).0 (fits_new k d within)
-            (λ sector inside. at_new (h k d within own) sector inside (header a.0.pv sector) refl))
+        (λ sector inside. at_new (h k d within own) sector inside (header a.0.pv sector) refl))
 
   -- each area shows one of the readings, whole
   pub images_show_either : (told : Record) → EachOnlyLeaves (Published header (AllRead old areas) (AllRead new areas)) told
       → EachImage (EachShows old new areas) told
   images_show_either told leaves image im k d within =
       let reads : (pv sector : ℕ) → Published header (AllRead old areas) (AllRead new areas) pv sector (image pv sector) =
-          λ pv sector. (leaves pv sector).each (im pv sector).0 (image pv sector) (im pv sector).1 in
+      λ pv sector. (leaves pv sector).each (im pv sector).0 (image pv sector) (im pv sector).1 in
       decides image reads k d within (reads (get_or areas k d).0.pv ((get_or areas k d).0.start / 512)).0
 
 -- what an area shows has as many bytes as its entry says
@@ -154,4 +154,4 @@ pub sized_old : (bytes : Area × Option Locn → List ℕ) (areas : List (Area �
 sized_old bytes areas told is take shows k d within =
     let a : Area × Option Locn = get_or areas k d in
     sized_shown a.0 a.1 (bytes a) (now_after told.opened told.steps) (take k d within).1
-        (shows (now_after told.opened told.steps) (now_image told is) k d within)
+    (shows (now_after told.opened told.steps) (now_image told is) k d within)

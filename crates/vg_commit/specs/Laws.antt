@@ -26,11 +26,11 @@ use Rattle.vg_commit.specs.declared.precommitting.PreStep.{PreStep}
 use Rattle.vg_commit.specs.declared.precommitting.PreStep.TheVariants as pre
 use Rattle.vg_commit.specs.declared.precommitting.Precommitting.{Precommitting}
 use Rattle.vg_commit.specs.declared.prepared.Prepared.{Prepared}
-use Rattle.vg_commit.specs.CommitHolds.{ComCame, ComHolds, Commit, FailedHolds, HaveFlushed, IsEither, IsOld, IsSound, PreCame, PreHolds,
-    ReadyHolds, WholeHolds, is_header, is_own, is_text, publish_in}
+use Rattle.vg_commit.specs.CommitHolds.{ComCame, ComHolds, Commit, FailedHolds, HaveFlushed, IsEither, IsOld, IsSound, PreCame, PreHolds}
+use Rattle.vg_commit.specs.CommitHolds.{ReadyHolds, WholeHolds, is_header, is_own, is_text, publish_in}
 use Rattle.vg_commit.specs.Commits.{written_at}
-use Rattle.vg_commit.specs.Phases.{ComGoes, ComView, FitsAhead, PreGoes, PreView, Publishes, ReadyView, StartsCommit, com_view,
-    flushes_left, ops_ahead, ops_left, pre_view, sectors_ahead, sectors_left}
+use Rattle.vg_commit.specs.Phases.{ComGoes, ComView, FitsAhead, PreGoes, PreView, Publishes, ReadyView, StartsCommit, com_view}
+use Rattle.vg_commit.specs.Phases.{flushes_left, ops_ahead, ops_left, pre_view, sectors_ahead, sectors_left}
 use Rattle.vg_commit.specs.Preparing.{CanRun, CanStart, IsPrepared, ops_of, sectors_in}
 use Rattle.vg_commit.specs.SectorReading.{AllShow, EachShows, new_reading, old_reading}
 use Rattle.vg_commit.specs.Written.{in_areas}
@@ -69,7 +69,7 @@ FlushesWithin sizes step = Unit {0}
 abbrev pub BeginsHolding : Type 0
 BeginsHolding =
     (prepared : Prepared) (text : List ℕ) (areas : List (Area × Option Locn)) (bytes : Area × Option Locn → List ℕ)
-        (flush : set.FinSet nat_cmp) (old new : State) (view : PreView)
+    (flush : set.FinSet nat_cmp) (old new : State) (view : PreView)
     → IsLawful old → IsPrepared prepared areas flush text → StartsCommit old prepared view new
     → IfSome old.told (λ told. EachImage (AllShow (old_reading bytes) areas) told × AreStill (in_areas areas) told)
     → PreHolds (begun_in old text areas bytes flush) view new × AllAlong (ShowsOld (begun_in old text areas bytes flush)) old new
@@ -78,7 +78,7 @@ BeginsHolding =
 abbrev pub GoesHolding : Type 0
 GoesHolding =
     (commit : Commit) (before old new : State) (view : PreView) (done : Done) (step : PreStep) → IsLawful old → Completes before done old
-        → PreGoes old view done step new
+    → PreGoes old view done step new
     → PreHolds commit view before → PreCame commit step new × AllAlong (ShowsOld commit) before new
 
 -- it is published: from here on each area shows the old entry or the new one
@@ -90,7 +90,7 @@ PublishesHolding = (commit : Commit) (old new : State) (ready : ReadyView) (view
 abbrev pub CommitsHolding : Type 0
 CommitsHolding =
     (commit : Commit) (before old new : State) (view : ComView) (done : Done) (step : ComStep) → IsLawful old → Completes before done old
-        → ComGoes old view done step new
+    → ComGoes old view done step new
     → ComHolds commit view before → ComCame commit step new × AllAlong (ShowsEither commit) before new
 
 -- ---- beside it
@@ -119,20 +119,20 @@ WholeElsewhere = (commit : Commit) (committed : Committed) (tags : List ℕ) (ol
 abbrev pub OthersComplete : Type 0
 OthersComplete =
     (commit : Commit) (tags : List ℕ) (old new : State) (done : Done) → (IsAmong tags done.tag → ⊥) → Completes old done new
-        → GoesElsewhere (is_own commit) tags old new
+    → GoesElsewhere (is_own commit) tags old new
 
 -- and the submission of one that writes none of the areas
 abbrev pub OthersSubmit : Type 0
 OthersSubmit =
     (commit : Commit) (tags : List ℕ) (old new : State) (op : Op) (tag : ℕ)
-        → ((pv sector : ℕ) → IsTrue (is_own commit pv sector) → writes (work_of op) pv sector ≡ false)
+    → ((pv sector : ℕ) → IsTrue (is_own commit pv sector) → writes (work_of op) pv sector ≡ false)
     → Submits old op tag new → GoesElsewhere (is_own commit) tags old new
 
 -- and that of many
 abbrev pub OthersSubmitAll : Type 0
 OthersSubmitAll =
     (commit : Commit) (tags : List ℕ) (old new : State) (works : List Work) (theirs : List ℕ)
-        → ((pv sector : ℕ) → IsTrue (is_own commit pv sector) → writes_at works pv sector ≡ false)
+    → ((pv sector : ℕ) → IsTrue (is_own commit pv sector) → writes_at works pv sector ≡ false)
     → SubmitsWorks old works theirs new → GoesElsewhere (is_own commit) tags old new
 
 -- it writes sectors of its areas alone
@@ -152,7 +152,7 @@ pub record SpendsAhead (old : State) (ops sectors ops' sectors' : ℕ) (new : St
 abbrev pub BeginsSpending : Type 0
 BeginsSpending =
     (prepared : Prepared) (old new : State) (next : Precommitting) → CanStart old.sizes prepared
-        → StartsCommit old prepared (pre_view next) new
+    → StartsCommit old prepared (pre_view next) new
     → SpendsAhead old (ops_of prepared.texts + ops_of prepared.headers) (sectors_in prepared.texts + sectors_in prepared.headers)
     (ops_ahead (pre_view next)) (sectors_ahead (pre_view next)) new
     × FitsAhead new.sizes (pre_view next)
@@ -161,7 +161,7 @@ BeginsSpending =
 abbrev pub GoesSpending : Type 0
 GoesSpending =
     (before old new : State) (now : Precommitting) (done : Done) (step : PreStep) → FitsAhead before.sizes (pre_view now)
-        → Completes before done old → PreGoes old (pre_view now) done step new
+    → Completes before done old → PreGoes old (pre_view now) done step new
     → SpendsAhead before (ops_ahead (pre_view now)) (sectors_ahead (pre_view now)) (ops_left step) (sectors_left step) new
     × StaysWithin new.sizes step
 
@@ -176,8 +176,8 @@ PublishesSpending =
 abbrev pub CommitsSpending : Type 0
 CommitsSpending =
     (before old new : State) (now : Committing) (done : Done) (step : ComStep)
-        → All (λ (pv : ℕ). pv < length before.sizes) (com_view now).batch.flush → Completes before done old
-        → ComGoes old (com_view now) done step new
+    → All (λ (pv : ℕ). pv < length before.sizes) (com_view now).batch.flush → Completes before done old
+    → ComGoes old (com_view now) done step new
     → SpendsAhead before (to_come (com_view now).batch) 0 (flushes_left step) 0 new × FlushesWithin new.sizes step
 
 -- ---- what each image shows
@@ -190,19 +190,19 @@ PreShows = (commit : Commit) (view : PreView) (state : State) → PreHolds commi
 abbrev pub ReadyShows : Type 0
 ReadyShows =
     (commit : Commit) (view : ReadyView) (state : State) → ReadyHolds commit view state
-        → IfSome state.told (λ told. ShowsOld commit told × HaveFlushed commit told.steps)
+    → IfSome state.told (λ told. ShowsOld commit told × HaveFlushed commit told.steps)
 
 -- since it is published: the old entry or the new one in each area
 abbrev pub ComShows : Type 0
 ComShows =
     (commit : Commit) (view : ComView) (state : State) → ComHolds commit view state
-        → IfSome state.told (λ told. ShowsEither commit told × HaveFlushed commit told.steps)
+    → IfSome state.told (λ told. ShowsEither commit told × HaveFlushed commit told.steps)
 
 -- once it is whole: the new one in all
 abbrev pub WholeShows : Type 0
 WholeShows =
     (commit : Commit) (committed : Committed) (state : State) → WholeHolds commit committed state
-        → IfSome state.told (λ told. ShowsNew commit told × HaveFlushed commit told.steps)
+    → IfSome state.told (λ told. ShowsNew commit told × HaveFlushed commit told.steps)
 
 -- where it was lost nothing was published
 abbrev pub LostShows : Type 0

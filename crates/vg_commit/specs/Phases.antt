@@ -96,7 +96,7 @@ StartsCommit old prepared view new = Starts old (writes_of prepared.texts) (disk
 abbrev pub GoesOn : State → PreView → Option Batch → PreStep → State → Type 0
 GoesOn old view (Some headers) (pre.Going next) new =
     Starts old (writes_of headers) (disks_of headers) (pre_view next).batch new
-        × (pre_view next ≡ record view { batch = (pre_view next).batch; headers = None })
+    × (pre_view next ≡ record view { batch = (pre_view next).batch; headers = None })
 GoesOn old view None (pre.Ready ready) new = (new ≡ old) × (ready_view ready ≡ record { publish = view.publish; areas = view.areas })
 GoesOn old view headers step new = ⊥
 
@@ -118,7 +118,7 @@ pub record PreGoes (old : State) (view : PreView) (done : Done) (step : PreStep)
 abbrev pub Publishes : State → ReadyView → ComView → State → Type 0
 Publishes old ready view new =
     Starts old (writes_of ready.publish) (disks_of ready.publish) view.batch new
-        × (view ≡ record { batch = view.batch; areas = ready.areas })
+    × (view ≡ record { batch = view.batch; areas = ready.areas })
 
 -- what it does at what its batch came to, since it is published
 abbrev pub ComFollows : State → ComView → BatchStep → ComStep → State → Type 0

@@ -5,8 +5,8 @@ use Rattle.mda_header.specs.Header.{IsHeader}
 use Rattle.mda_header.specs.HeaderBytes.{header_bytes}
 use Rattle.mda_ring.specs.declared.area.Area.{Area}
 use Rattle.vg_commit.specs.declared.plan.Plan.{Plan}
-use Rattle.vg_commit.specs.Written.{area_writes, header_after, header_before, header_span, headers_of, new_entry, publish_of, text_puts,
-    texts_of, with_entries}
+use Rattle.vg_commit.specs.Written.{area_writes, header_after, header_before, header_span, headers_of, new_entry, publish_of, text_puts}
+use Rattle.vg_commit.specs.Written.{texts_of, with_entries}
 use Rattle.vg_commit.specs.TooLarge.{first_too_large}
 
 -- both headers that are written to the area are read again as they are

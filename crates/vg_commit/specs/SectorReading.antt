@@ -14,7 +14,7 @@ abbrev pub HasPart : ℕ → Option Locn → List ℕ → ℕ → List ℕ → T
 HasPart size None bytes sector value = Unit {0}
 HasPart size (Some locn) bytes sector value =
     (j : ℕ) → j < locn.size → byte_place size locn.offset j / 512 ≡ sector
-        → slice_index value (byte_place size locn.offset j % 512) ≡ slice_index bytes j
+    → slice_index value (byte_place size locn.offset j % 512) ≡ slice_index bytes j
 
 -- what is asked of the value of this sector of the area
 pub record Reads (area : Area) (entry : Option Locn) (bytes : List ℕ) (sector : ℕ) (value : List ℕ) : Type 0 where

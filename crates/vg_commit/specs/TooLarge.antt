@@ -12,7 +12,7 @@ abbrev pub first_too_large : List ℕ → List (Area × Option Locn) → Option 
 first_too_large text [] = None
 first_too_large text (area ∷ areas) =
     if nat_lt (room area.0.size area.1) (need (length text + 1)) then Some (need (length text + 1), room area.0.size area.1)
-        else first_too_large text areas
+    else first_too_large text areas
 
 -- memory is wanting, or these are the numbers of the first area that can't take the text
 abbrev pub IsCause : List ℕ → List (Area × Option Locn) → CommitRefusal → Type 0

@@ -29,7 +29,7 @@ pub all_read : (found : Found) (first : Option ℕ) → HasShape found → first
 all_read found first shape is other =
     let none : first_of found.unread ≡ None = sym is ∙ no_number first other in
     set.same_set nat_cmp_total set.nat_cmp-IsAntisymmetric found.unread set.empty
-        (λ pv. absent pv (set.contains found.unread pv) refl ∙ sym (set.contains-empty nat_cmp pv))
+    (λ pv. absent pv (set.contains found.unread pv) refl ∙ sym (set.contains-empty nat_cmp pv))
   where
     absent : (pv : ℕ) (b : Bool) → set.contains found.unread pv ≡ b → b ≡ false
     absent pv true there =

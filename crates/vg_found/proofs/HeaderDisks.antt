@@ -1,6 +1,6 @@
 -- The disks of physical volumes that are there.
-use Rattle.std.proofs.Common.{◌≡◌, ◌<◌, ℕ, zero, suc, ◌+◌, Bool, true, false, not, ◌||◌, cond, List, [], ◌∷◌, length, map, Option, Some,
-    None, refl, sym, ap, subst, ◌∙◌, add-one, arith}
+use Rattle.std.proofs.Common.{◌≡◌, ◌<◌, ℕ, zero, suc, ◌+◌, Bool, true, false, not, ◌||◌, cond, List, [], ◌∷◌, length, map, Option, Some}
+use Rattle.std.proofs.Common.{None, refl, sym, ap, subst, ◌∙◌, add-one, arith}
 use Rattle.std.specs.Prelude.{filter, option_map, slice_get, unwrap_or}
 use Rattle.std.specs.List.{list_any}
 use Rattle.std.proofs.lemmas.Bool.{false≢true}
@@ -49,7 +49,7 @@ is_there : (id : List ℕ) (disks : List Disk) → list_any (has_id id) (shapes 
 is_there id [] any = absurd (false≢true any)
 is_there id (disk ∷ disks) any =
     here_or_later id disk disks (has_header_id id disk) refl (is_there id disks)
-        (ap (λ (b : Bool). b || list_any (has_id id) (shapes disks)) (sym (shape_has id (header_on disk.contents))) ∙ any)
+    (ap (λ (b : Bool). b || list_any (has_id id) (shapes disks)) (sym (shape_has id (header_on disk.contents))) ∙ any)
 
 -- no physical volume is missing where none is named so
 not_first : (p : List ℕ × Pv → Bool) (first : List ℕ × Pv) (pvs : List (List ℕ × Pv)) (b : Bool)
@@ -80,6 +80,6 @@ there disks group none i pv is =
     let found : IsThere disks pv.1.id = is_there pv.1.id disks any in
     let entry : slice_get (disks_of group disks) i ≡ Some (disk_with disks pv.1.id) =
     slice_get-map (λ (p : List ℕ × Pv). disk_with disks p.1.id) group.pvs i
-        ∙ ap (option_map (λ (p : List ℕ × Pv). disk_with disks p.1.id)) is
+    ∙ ap (option_map (λ (p : List ℕ × Pv). disk_with disks p.1.id)) is
     in
     (disk_with disks pv.1.id, found.0, entry, found.1, found.2, found.3)

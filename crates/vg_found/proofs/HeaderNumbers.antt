@@ -20,8 +20,8 @@ one_more : (first end n : ℕ) (id : List ℕ) (o : Option PvHeader) (numbers : 
 one_more first end n id None numbers later = let e : first + 1 + n ≡ first + (n + 1) = omega arith in later ∙ e
 one_more first end n id (Some header) numbers later =
     ap (λ (at : Option ℕ). unwrap_or at end)
-        (get_put numbers header.id first id ∙ ap (λ (b : Bool). cond b (Some first) (map.get numbers id))
-        (pointwise-same_bytes header.id id))
+    (get_put numbers header.id first id ∙ ap (λ (b : Bool). cond b (Some first) (map.get numbers id))
+    (pointwise-same_bytes header.id id))
     ∙ by_test (same_bytes header.id id) where
       by_test : (b : Bool) → unwrap_or (cond b (Some first) (map.get numbers id)) end ≡ first + cond b 0 (n + 1)
       by_test true = let e : first ≡ first + 0 = omega arith in e

@@ -1,6 +1,6 @@
 -- The metadata areas of disks can be used, and share no sector.
-use Rattle.std.proofs.Common.{◌≡◌, ◌<◌, ◌≤◌, ℕ, suc, ◌+◌, ◌*◌, Bool, true, false, cond, eqb, ltb, min, max, List, [], ◌∷◌, ◌++◌, length,
-    get_or, map, Option, Some, None, ◌⊎◌, inl, inr, refl, sym, ap, subst, ◌∙◌, arith}
+use Rattle.std.proofs.Common.{◌≡◌, ◌<◌, ◌≤◌, ℕ, suc, ◌+◌, ◌*◌, Bool, true, false, cond, eqb, ltb, min, max, List, [], ◌∷◌, ◌++◌, length}
+use Rattle.std.proofs.Common.{get_or, map, Option, Some, None, ◌⊎◌, inl, inr, refl, sym, ap, subst, ◌∙◌, arith}
 use Rattle.std.specs.Prelude.{filter_map, find, slice_get, All, AllPairs}
 use Rattle.std.specs.List.{cons_option}
 use Rattle.std.specs.Option.{option_or}
@@ -61,7 +61,7 @@ module _ (p : Extent × Extent → Bool) where
       → (find p (map (λ other. (x, other)) xs) ≡ None) × (find p (pairs_of xs) ≡ None)
   none_first x xs none =
       none_of_two (find p (map (λ other. (x, other)) xs)) (find p (pairs_of xs))
-          (sym (find-append p (map (λ other. (x, other)) xs) (pairs_of xs)) ∙ none)
+      (sym (find-append p (map (λ other. (x, other)) xs) (pairs_of xs)) ∙ none)
 
   none_behind : (xs ys : List Extent) → find p (pairs_of (xs ++ ys)) ≡ None → find p (pairs_of ys) ≡ None
   none_behind [] ys none = none
@@ -73,8 +73,8 @@ module _ (p : Extent × Extent → Bool) where
   none_with x [] none = All-nil (λ found. p (x, found.area) ≡ false)
   none_with x (found ∷ founds) none =
       let parts =
-          none_here (p (x, found.area)) (x, found.area)
-              (find p (map (λ other. (x, other)) (map (λ (found : AreaFound). found.area) founds))) none in
+      none_here (p (x, found.area)) (x, found.area)
+      (find p (map (λ other. (x, other)) (map (λ (found : AreaFound). found.area) founds))) none in
       All-cons (λ found. p (x, found.area) ≡ false) found founds parts.0 (none_with x founds parts.1)
 
 -- ---- the areas of one disk
@@ -104,10 +104,10 @@ unfolding shares_byte
 share_nothing all bytes a b some some' none =
     let ends : min (end_of all bytes a) (end_of all bytes b) ≡ min (a.offset + a.size) (b.offset + b.size) =
     ap (λ (n : ℕ). min n (end_of all bytes b)) (has_end all bytes a some)
-        ∙ ap (λ (n : ℕ). min (a.offset + a.size) n) (has_end all bytes b some')
+    ∙ ap (λ (n : ℕ). min (a.offset + a.size) n) (has_end all bytes b some')
     in
     let below : ltb (max a.offset b.offset) (min (a.offset + a.size) (b.offset + b.size)) ≡ false =
-        ap (λ (n : ℕ). ltb (max a.offset b.offset) n) (sym ends) ∙ none in
+    ap (λ (n : ℕ). ltb (max a.offset b.offset) n) (sym ends) ∙ none in
     let upto : min (a.offset + a.size) (b.offset + b.size) ≤ max a.offset b.offset = grind (arith, nat_tests) in
     elim (cases_lt b.offset (a.offset + a.size)) [ inl before ↦ inr (omega arith) | inr from ↦ inl from ]
 
@@ -120,7 +120,7 @@ lie_apart pv disk all bytes a b kept other usable usable' none is is' =
     let some : 0 < a.area.size = omega (arith, usable.area.has_ring) in
     let some' : 0 < b.area.size = omega (arith, usable'.area.has_ring) in
     let apart : (a.area.offset + a.area.size ≤ b.area.offset) ⊎ (b.area.offset + b.area.size ≤ a.area.offset) =
-        share_nothing all bytes a.area b.area some some' none in
+    share_nothing all bytes a.area b.area some some' none in
     inr (
     subst (λ (x : Area). (kept.0.start + kept.0.size ≤ x.start) ⊎ (x.start + x.size ≤ kept.0.start)) second
     (subst (λ (x : Area). (x.start + x.size ≤ b.area.offset) ⊎ (b.area.offset + b.area.size ≤ x.start)) first apart)
@@ -144,7 +144,7 @@ module _ (pv disk : ℕ) (all : List Extent) (bytes : ℕ) where
   with_first first founds usable others (Some kept) is rest =
       AllPairs-cons LieApart kept (filter_map (held_area pv) founds)
       (all_kept (LieApart kept) (Beside first) (held_area pv)
-          (λ found other q is'. lie_apart pv disk all bytes first found kept other usable q.0 q.1 is is') founds others)
+      (λ found other q is'. lie_apart pv disk all bytes first found kept other usable q.0 q.1 is is') founds others)
       rest
 
   areas_apart : (founds : List AreaFound) → All (IsUsable pv disk) founds
@@ -155,7 +155,7 @@ module _ (pv disk : ℕ) (all : List Extent) (bytes : ℕ) where
       let later : All (IsUsable pv disk) founds = All-tail (IsUsable pv disk) first founds usable in
       let parts = none_first shared first.area (map (λ (found : AreaFound). found.area) founds) none in
       with_first first founds (All-head (IsUsable pv disk) first founds usable)
-          (beside first founds later (none_with shared first.area founds parts.0)) (held_area pv first) refl
+      (beside first founds later (none_with shared first.area founds parts.0)) (held_area pv first) refl
       (areas_apart founds later parts.1)
 
 abbrev Shaped : List (Area × Option Locn) → Type 0
@@ -170,8 +170,7 @@ shaped_on pv sectors (Some (NoHeader label refusal)) stands = (All-nil CanTake, 
 shaped_on pv sectors (Some (Whole label header areas)) stands =
     let all : List Extent = header.data_areas ++ header.areas in
     let none : find (shared pv sectors all (sectors * 512)) (pairs_of header.areas) ≡ None =
-        none_behind (shared pv sectors all (sectors * 512)) header.data_areas header.areas stands.1.1.areas.apart in
-    (
+    none_behind (shared pv sectors all (sectors * 512)) header.data_areas header.areas stands.1.1.areas.apart in (
       all_kept CanTake (IsUsable pv sectors) (held_area pv)
           (λ found kept usable is. can_take (area_on pv found.area) found.entry kept usable.area usable.text is) areas stands.3,
       areas_apart pv sectors all (sectors * 512) areas stands.3
@@ -189,14 +188,14 @@ IsFrom pv area = pv ≤ area.0.pv
 on_disk : (pv : ℕ) (founds : List AreaFound) → All (IsOn pv) (filter_map (held_area pv) founds)
 on_disk pv founds =
     all_kept (IsOn pv) (λ found. Unit {0}) (held_area pv)
-        (λ found kept any is. ap (λ (a : Area). a.pv) (entry_kept (area_on pv found.area) found.entry kept is)) founds (λ k d within. tt)
+    (λ found kept any is. ap (λ (a : Area). a.pv) (entry_kept (area_on pv found.area) found.entry kept is)) founds (λ k d within. tt)
 
 from_disk : (pv : ℕ) (disks : List Disk) → All (IsFrom pv) (held_areas pv disks)
 from_disk pv [] = All-nil (IsFrom pv)
 from_disk pv (disk ∷ disks) =
     All-append (IsFrom pv) (filter_map (held_area pv) (areas_on disk.contents)) (held_areas (pv + 1) disks)
     (All-weaker (IsOn pv) (IsFrom pv) (λ area is. omega (arith, is)) (filter_map (held_area pv) (areas_on disk.contents))
-        (on_disk pv (areas_on disk.contents)))
+    (on_disk pv (areas_on disk.contents)))
     (All-weaker (IsFrom (pv + 1)) (IsFrom pv) (λ area from. omega (arith, from)) (held_areas (pv + 1) disks) (from_disk (pv + 1) disks))
 
 -- areas of a disk and of later ones

@@ -1,6 +1,6 @@
 -- The disks of a scan: their metadata areas, and what of them a scan decides over whatever the areas give.
-use Rattle.std.specs.Prelude.{ℕ, ◌+◌, ◌/◌, Bool, false, if◌then◌else◌, Option, Some, None, option_map, unwrap_or, List, [], ◌∷◌, ◌++◌, map,
-    filter_map}
+use Rattle.std.specs.Prelude.{ℕ, ◌+◌, ◌/◌, Bool, false, if◌then◌else◌, Option, Some, None, option_map, unwrap_or, List, [], ◌∷◌, ◌++◌, map}
+use Rattle.std.specs.Prelude.{filter_map}
 use Rattle.mda_header.specs.declared.entry.HeaderEntry.{HeaderEntry}
 use Rattle.mda_header.specs.declared.entry.HeaderEntry.TheVariants.{Ignored, Nothing, Text, Refused}
 use Rattle.mda_header.specs.declared.header.Locn.{Locn}

@@ -14,7 +14,7 @@ use Rattle.mda_ring.specs.Areas.{CanTake, LieApart}
 abbrev pub AreasAreShaped : Type 0
 AreasAreShaped =
     (disks : List Disk) → ((pv : ℕ) (disk : Disk) → slice_get disks pv ≡ Some disk → IsDisk pv disk)
-        → All CanTake (held_areas 0 disks) × AllPairs LieApart (held_areas 0 disks)
+    → All CanTake (held_areas 0 disks) × AllPairs LieApart (held_areas 0 disks)
 
 -- a disk whose header has this id
 abbrev pub HasHeader : Disk → List ℕ → Type 0

@@ -1,6 +1,6 @@
 -- What holds of all that a scan finds, whatever stands on the disks.
-use Rattle.std.specs.Prelude.{◌≡◌, ◌≤◌, ◌<◌, ◌↔◌, ℕ, ◌^◌, true, Option, Some, None, is_none, slice_get, List, [], length, All, AllPairs,
-    IfSome}
+use Rattle.std.specs.Prelude.{◌≡◌, ◌≤◌, ◌<◌, ◌↔◌, ℕ, ◌^◌, true, Option, Some, None, is_none, slice_get, List, [], length, All, AllPairs}
+use Rattle.std.specs.Prelude.{IfSome}
 use Rattle.std.specs.FinSet as set
 use Rattle.std.specs.Ordering.{nat_cmp}
 use Rattle.mda_ring.specs.Areas.{CanTake, LieApart}

@@ -1,6 +1,6 @@
 -- The group that a line gives is accepted, where no row refuses.
-use Rattle.std.proofs.Common.{◌≡◌, ◌≢◌, ◌≤◌, ◌<◌, ℕ, ◌+◌, ◌%◌, ◌^◌, Bool, true, false, not, ◌||◌, ◌==◌, cond, List, [], ◌∷◌, ◌++◌, length,
-    get_or, map, Option, Some, None, inl, inr, refl, sym, ap, subst, ◌∙◌, arith}
+use Rattle.std.proofs.Common.{◌≡◌, ◌≢◌, ◌≤◌, ◌<◌, ℕ, ◌+◌, ◌%◌, ◌^◌, Bool, true, false, not, ◌||◌, ◌==◌, cond, List, [], ◌∷◌, ◌++◌, length}
+use Rattle.std.proofs.Common.{get_or, map, Option, Some, None, inl, inr, refl, sym, ap, subst, ◌∙◌, arith}
 use Rattle.std.specs.Prelude.{find}
 use Rattle.std.specs.List.{AllByRecursion as Each, list_any}
 use Rattle.std.specs.FinSet as set
@@ -33,8 +33,8 @@ use Rattle.group_edits.specs.NextVersion.{next_version}
 use Rattle.group_plan.proofs.AddedFacts.{IsFoundOn, all_found}
 use Rattle.group_plan.proofs.Disks.{disk_with_own, has_own, ids_apart}
 use Rattle.group_plan.proofs.ExtendedGroup.{AreApart, Fits, IdApart, IsFresh, IsGood, count_added, good_added}
-use Rattle.group_plan.proofs.Passed.{DiskApart, DisksApart, IsUnused, absent, both_false, all_fit, few_enough, all_unused, five_none,
-    no_map, six_none, not_same, ids_differ, each_both}
+use Rattle.group_plan.proofs.Passed.{DiskApart, DisksApart, IsUnused, absent, both_false, all_fit, few_enough, all_unused, five_none}
+use Rattle.group_plan.proofs.Passed.{no_map, six_none, not_same, ids_differ, each_both}
 use Rattle.group_plan.proofs.StateFacts.{listed_are}
 use Rattle.group_plan.specs.Added.{added_of, data_end, data_start, disks_added}
 use Rattle.group_plan.specs.Ids.{has_lv_id, has_other_id}
@@ -65,10 +65,15 @@ create_passes : (state : GroupState) (base : Group) (all : List AddedPv) → fir
     → CreatePasses state base all
 create_passes state base all none =
     let parts =
-        five_none (used_row [] all) (area_row state.areas (disks_added all)) (small_row base.extent_size all) (many_row 64 0 (length all))
-            (refused_if (stands_on_disk base.id state.disks) (IdTaken base.id)) none in
-    record { used = parts.0; areas = parts.1; sizes = parts.2; many = parts.3;
-        ids = not_refused (stands_on_disk base.id state.disks) (IdTaken base.id) parts.4 }
+    five_none (used_row [] all) (area_row state.areas (disks_added all)) (small_row base.extent_size all) (many_row 64 0 (length all))
+    (refused_if (stands_on_disk base.id state.disks) (IdTaken base.id)) none in
+    record {
+      used = parts.0;
+      areas = parts.1;
+      sizes = parts.2;
+      many = parts.3;
+      ids = not_refused (stands_on_disk base.id state.disks) (IdTaken base.id) parts.4;
+    }
 
 -- none of those of a group that is extended does
 record ExtendPasses (state : GroupState) (group : Group) (all : List AddedPv) : Type 0 where
@@ -83,11 +88,16 @@ extend_passes : (state : GroupState) (group : Group) (all : List AddedPv) → fi
 extend_passes state group all none =
     let parts =
     six_none (used_row state.disk_of all) (area_row state.areas (state.disk_of ++ disks_added all)) (small_row group.extent_size all)
-        (many_row 64 group.max_pv (length group.pvs + length all)) (refused_if (group.seqno == 4294967295) SeqnoEnd)
-        (other_id_row group all) none
+    (many_row 64 group.max_pv (length group.pvs + length all)) (refused_if (group.seqno == 4294967295) SeqnoEnd)
+    (other_id_row group all) none
     in
-    record { used = parts.0; sizes = parts.2; many = parts.3; seqno = not_refused (group.seqno == 4294967295) SeqnoEnd parts.4;
-        ids = parts.5 }
+    record {
+      used = parts.0;
+      sizes = parts.2;
+      many = parts.3;
+      seqno = not_refused (group.seqno == 4294967295) SeqnoEnd parts.4;
+      ids = parts.5;
+    }
 
 -- ---- ids
 
@@ -126,19 +136,20 @@ id_is_new : (state : GroupState) (id : List ℕ) (added : AddedPv) → stands_on
     → id ≢ added.header.id
 id_is_new state id added none found same =
     let there : get_or state.disks added.disk found.has.disk ≡ found.has.disk =
-        get_or_from_slice_get state.disks added.disk found.has.disk found.has.disk found.has.there in
+    get_or_from_slice_get state.disks added.disk found.has.disk found.has.disk found.has.there in
     let other : has_header_id id found.has.disk ≡ false =
     ap (has_header_id id) (sym there) ∙ none_at (has_header_id id) state.disks added.disk found.has.disk none
-        (slice_get_within state.disks added.disk found.has.disk found.has.there)
+    (slice_get_within state.disks added.disk found.has.disk found.has.there)
     in
     true≢false (sym (has_own id (header_on found.has.disk.contents) added.header found.has.is (sym same)) ∙ other)
 
 fresh_new : (state : GroupState) (id name : List ℕ) (extent_size : ℕ) (all : List AddedPv) → stands_on_disk id state.disks ≡ false
     → Each (IsFoundOn state) all → Each (IsFresh (empty_group id name extent_size)) all
 fresh_new state id name extent_size [] none found = tt
-fresh_new state id name extent_size (added ∷ more) none found =
-    (All-from_recursion (λ other. other ≢ added.header.id) (id ∷ []) (id_is_new state id added none found.0, tt),
-        fresh_new state id name extent_size more none found.1)
+fresh_new state id name extent_size (added ∷ more) none found = (
+  All-from_recursion (λ other. other ≢ added.header.id) (id ∷ []) (id_is_new state id added none found.0, tt),
+  fresh_new state id name extent_size more none found.1,
+)
 
 none_lie : (areas : List (Area × Option Locn)) → list_any (lies_on set.empty) areas ≡ false
 none_lie [] = refl
@@ -148,7 +159,7 @@ some_added : (state : GroupState) (all : List AddedPv) → area_row state.areas 
 unfolding area_row
 some_added state [] none =
     let row : ◌≡◌ {A = Option OpRefusal} (Some NoArea) None = ap (λ (b : Bool). cond (not b) (Some NoArea) None)
-        (sym (none_lie state.areas)) ∙ none in absurd cc
+    (sym (none_lie state.areas)) ∙ none in absurd cc
 some_added state (added ∷ more) none = omega arith
 
 pub created : (state : GroupState) → IsState state → (id name : List ℕ) (extent_size : ℕ) (names : List (List ℕ)) → IsId id
@@ -159,7 +170,7 @@ unfolding extended
 created state is id name extent_size names valid named least most whole none =
     let all : List AddedPv = added_of state names in
     let passes : CreatePasses state (empty_group id name extent_size) all =
-        create_passes state (empty_group id name extent_size) all none in
+    create_passes state (empty_group id name extent_size) all none in
     let found : Each (IsFoundOn state) all = recursion_from_All (IsFoundOn state) all (all_found state is names) in
     let free = all_unused [] all passes.used in
     let count = few_enough 64 0 (length all) passes.many in
@@ -174,8 +185,12 @@ created state is id name extent_size names valid named least most whole none =
     let some : 1 ≤ length all = some_added state all passes.areas in
     record {
       accepted =
-          base_accepted _ good.base (record { pvs = (omega (arith, counted, some), omega (arith, counted, count.0)); lvs = omega arith;
-              max_pv = λ limit. absurd (limit refl); max_lv = λ limit. absurd (limit refl) });
+          base_accepted _ good.base (record {
+            pvs = (omega (arith, counted, some), omega (arith, counted, count.0));
+            lvs = omega arith;
+            max_pv = λ limit. absurd (limit refl);
+            max_lv = λ limit. absurd (limit refl);
+          });
       tree = has_tree _ good.printable;
     }
 
@@ -197,15 +212,15 @@ fresh_one : (state : GroupState) → IsState state → (group : Group) (added : 
     → IsFresh group added
 fresh_one state is group added listed found free other =
     let parts : (same_bytes group.id added.header.id ≡ false) × (has_lv_id group added.header.id ≡ false) =
-        both_false (same_bytes group.id added.header.id) (has_lv_id group added.header.id) other in
+    both_false (same_bytes group.id added.header.id) (has_lv_id group added.header.id) other in
     let apart : Each (λ n. n ≢ added.disk) (disks_of group state.disks) =
-        subst (Each (λ n. n ≢ added.disk)) listed (absent set.empty state.disk_of added.disk free).1 in
+    subst (Each (λ n. n ≢ added.disk)) listed (absent set.empty state.disk_of added.disk free).1 in
     All-from_recursion (λ id. id ≢ added.header.id) (ids_of group) (
       not_same group.id added.header.id parts.0,
       each_both (λ id. id ≢ added.header.id) (map (λ (pv : List ℕ × Pv). pv.1.id) group.pvs) (map (λ (lv : List ℕ × Lv). lv.1.id) group.lvs)
           (pvs_differ state is added found group.pvs apart)
           (ids_differ (λ (lv : Lv). lv.id) added.header.id group.lvs
-              (none_passes (λ (lv : List ℕ × Lv). same_bytes lv.1.id added.header.id) group.lvs parts.1)),
+          (none_passes (λ (lv : List ℕ × Lv). same_bytes lv.1.id added.header.id) group.lvs parts.1)),
     )
 
 fresh_all : (state : GroupState) → IsState state → (group : Group) (all : List AddedPv) → state.disk_of ≡ disks_of group state.disks
@@ -221,7 +236,7 @@ unfolding other_id_row
 all_other group all none =
     recursion_from_All (λ (added : AddedPv). has_other_id group added.header.id ≡ false) all
     (All-from_find (λ (added : AddedPv). has_other_id group added.header.id) all
-        (no_map _ (find (λ (added : AddedPv). has_other_id group added.header.id) all) none))
+    (no_map _ (find (λ (added : AddedPv). has_other_id group added.header.id) all) none))
 
 pub next_is_whole : (state : GroupState) → IsState state → (group : Group) (names : List (List ℕ))
     → state.disk_of ≡ disks_of group state.disks → IsAccepted group → HasTree group
@@ -236,7 +251,7 @@ next_is_whole state is group names listed accepted tree none =
     let numbers = accepted Numbers in
     let volumes = accepted Volumes in
     let count : (length group.pvs + length all ≤ 64) × (group.max_pv ≢ 0 → length group.pvs + length all ≤ group.max_pv) =
-        few_enough 64 group.max_pv (length group.pvs + length all) passes.many in
+    few_enough 64 group.max_pv (length group.pvs + length all) passes.many in
     let below : group.seqno ≢ 4294967295 = λ same. true≢false (sym (eq-eqb group.seqno 4294967295 same) ∙ passes.seqno) in
     let good : IsGood (extended (next_version group) all) =
     good_added (next_version group) all (omega (arith, numbers.extent_size.0)) (omega (arith, count.0, volumes.lvs))
@@ -249,7 +264,7 @@ next_is_whole state is group names listed accepted tree none =
     (ids_are_apart state is all found free.1)
     in
     let counted : length (extended (next_version group) all).pvs ≡ length group.pvs + length all =
-        count_added group.lvs group.extent_size group.pvs all in
+    count_added group.lvs group.extent_size group.pvs all in
     record {
       accepted =
           base_accepted _ good.base (record {
@@ -271,7 +286,7 @@ created_whole state is base new names all are none =
     (subst (λ (g : Group). IsWhole (extended g (added_of state names))) (sym new.empty)
     (created state is base.id base.name base.extent_size names new.valid new.named new.least new.most new.whole
     (subst (λ (g : Group). first_refusal (create_rows state g (added_of state names)) ≡ None) new.empty
-        (subst (λ (l : List AddedPv). first_refusal (create_rows state base l) ≡ None) are none))))
+    (subst (λ (l : List AddedPv). first_refusal (create_rows state base l) ≡ None) are none))))
 
 pub created_few : (state : GroupState) (base : Group) → IsEmptyGroup base → (all : List AddedPv)
     → first_refusal (create_rows state base all) ≡ None → length base.pvs + length base.lvs + length all < 2 ^ 32
@@ -289,7 +304,7 @@ next_whole state is group base names all found next are accepted tree none =
     subst (λ (l : List AddedPv). IsWhole (extended base l)) (sym are)
     (subst (λ (g : Group). IsWhole (extended g (added_of state names))) (sym next)
     (next_is_whole state is group names (listed_are state group is found) accepted tree
-        (subst (λ (l : List AddedPv). first_refusal (extend_rows state group l) ≡ None) are none)))
+    (subst (λ (l : List AddedPv). first_refusal (extend_rows state group l) ≡ None) are none)))
 
 pub next_few : (state : GroupState) (group base : Group) → base ≡ next_version group → IsAccepted group → (all : List AddedPv)
     → first_refusal (extend_rows state group all) ≡ None → length base.pvs + length base.lvs + length all < 2 ^ 32
@@ -297,7 +312,7 @@ next_few state group base next accepted all none =
     let passes : ExtendPasses state group all = extend_passes state group all none in
     let volumes = accepted Volumes in
     let count : (length group.pvs + length all ≤ 64) × (group.max_pv ≢ 0 → length group.pvs + length all ≤ group.max_pv) =
-        few_enough 64 group.max_pv (length group.pvs + length all) passes.many in
+    few_enough 64 group.max_pv (length group.pvs + length all) passes.many in
     let pvs : length base.pvs ≡ length group.pvs = ap (λ (g : Group). length g.pvs) next in
     let lvs : length base.lvs ≡ length group.lvs = ap (λ (g : Group). length g.lvs) next in
     omega (arith, count.0, pvs, lvs, volumes.lvs)

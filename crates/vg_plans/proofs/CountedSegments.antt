@@ -18,14 +18,14 @@ pub counted_next : (lvs : List (List ℕ × Lv)) (count place new many most whol
 counted_next lvs count place new many most whole row is same made counted =
     let rest : ℕ = sum_by segments (drop (place + 1) lvs) in
     let all : sum_by segments (drop place lvs) ≡ many + rest =
-        ap (sum_by segments) (next_got lvs place row is) ∙ sum_by-cons segments row (drop (place + 1) lvs)
-            ∙ ap (λ (n : ℕ). n + rest) (sym same) in
+    ap (sum_by segments) (next_got lvs place row is) ∙ sum_by-cons segments row (drop (place + 1) lvs)
+    ∙ ap (λ (n : ℕ). n + rest) (sym same) in
     capped count many rest most new made ∙ ap (λ (n : ℕ). min (count + n) most) (sym all) ∙ counted
 
 pub counted_all : (lvs : List (List ℕ × Lv)) (count place most whole : ℕ) → length lvs ≤ place → count ≤ most
     → min (count + sum_by segments (drop place lvs)) most ≡ whole → count ≡ whole
 counted_all lvs count place most whole past fits counted =
     let none : min (count + 0) most ≡ min (count + sum_by segments (drop place lvs)) most =
-        ap (λ (l : List (List ℕ × Lv)). min (count + sum_by segments l) most) (sym (drop_all place lvs past)) in
+    ap (λ (l : List (List ℕ × Lv)). min (count + sum_by segments l) most) (sym (drop_all place lvs past)) in
     let own : count ≡ min (count + 0) most = omega (arith, fits) in
     own ∙ none ∙ counted

@@ -10,8 +10,8 @@ use Rattle.volume_rules.specs.Depths.{load}
 use Rattle.volume_rules.specs.Legs.{IsWayDown, LiesOn, runs_of}
 use Rattle.volume_rules.specs.Rules.{Keeps, counts, number_of}
 use Rattle.volume_rules.specs.declared.rule.Rule.{Rule}
-use Rattle.volume_rules.specs.declared.rule.Rule.TheVariants.{Numbers, Ids, Volumes, Segments, Extents, Follows, Stripes, Mirrors, Within,
-    Apart, Depth, Moved, Pvmove, Locked}
+use Rattle.volume_rules.specs.declared.rule.Rule.TheVariants.{Numbers, Ids, Volumes, Segments, Extents, Follows, Stripes, Mirrors, Within}
+use Rattle.volume_rules.specs.declared.rule.Rule.TheVariants.{Apart, Depth, Moved, Pvmove, Locked}
 use Rattle.group_edits.proofs.PrintedIds.{id_again}
 use Rattle.group_edits.proofs.PushedRules.{IsBase}
 use Rattle.vg_plans.specs.Vgcreate.{empty_group}
@@ -66,8 +66,10 @@ module _ (id name : List ℕ) (extent_size : ℕ) where
   }
   keeps least most whole Moved other = (λ k d within. absurd (omega (arith, within)))
   keeps least most whole Pvmove other =
-      record { one = λ a b is_a is_b. absurd (no_row a (is_a.1.0, is_a.0) is_a.1.1);
-          whole = λ number own lv is has. absurd (no_row number (own, lv) is) }
+      record {
+        one = λ a b is_a is_b. absurd (no_row a (is_a.1.0, is_a.0) is_a.1.1);
+        whole = λ number own lv is has. absurd (no_row number (own, lv) is);
+      }
   keeps least most whole Locked other = λ number lv is has. absurd (no_row number (is.0, lv) is.1)
 
   pub empty_base : 8 ≤ extent_size → extent_size ≤ 2 ^ 31 → extent_size % 8 ≡ 0 → IsBase new

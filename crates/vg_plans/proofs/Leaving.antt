@@ -72,7 +72,7 @@ within_group : (state : GroupState) (group : Group) (number : ℕ) → IsState s
     → number < length group.pvs
 within_group state group number is found below =
     let same : length state.disk_of ≡ length group.pvs =
-        ap length (listed_are state group is found) ∙ length-map group.pvs (λ (pv : List ℕ × Pv). disk_with state.disks pv.1.id) in
+    ap length (listed_are state group is found) ∙ length-map group.pvs (λ (pv : List ℕ × Pv). disk_with state.disks pv.1.id) in
     omega (arith, same, below)
 
 -- the number under which the group lists the disk with this number
@@ -99,15 +99,15 @@ module _ (state : GroupState) (vg name : List ℕ) (now : ℕ) where
   next_by None there none = absurd cc
   next_by (Some group) there none =
       let back : List (Option OpRefusal) =
-          option_map_or (leaving_rows state group name now) (pv_named state name) (Some (NotInGroup name) ∷ []) in
+      option_map_or (leaving_rows state group name now) (pv_named state name) (Some (NotInGroup name) ∷ []) in
       let at =
-          listed_on group (pv_named state name) refl
-              (front_passes (unknown_row state (name ∷ []) ∷ []) back
-              (front_passes (group_rows group vg) (unknown_row state (name ∷ []) ∷ back) none)) in
+      listed_on group (pv_named state name) refl
+      (front_passes (unknown_row state (name ∷ []) ∷ []) back
+      (front_passes (group_rows group vg) (unknown_row state (name ∷ []) ∷ back) none)) in
       let rows = none_holds (leaving_rows state group name now at.0) at.2 in
       let may : MayLeave group at.0 =
-          may_leave state group name at.0 (back_passes (leaving_tests state group name at.0)
-              (length_row_on state (remove state.disk_of at.0) (reduced_group group at.0) now ∷ []) at.2) in
+      may_leave state group name at.0 (back_passes (leaving_tests state group name at.0)
+      (length_row_on state (remove state.disk_of at.0) (reduced_group group at.0) now ∷ []) at.2) in
       record {
         old = group;
         there = there;
@@ -119,8 +119,8 @@ module _ (state : GroupState) (vg name : List ℕ) (now : ℕ) where
         fits = rows.1.1.1.1.0;
         whole =
             λ state_is accepted tree. reduced_whole group at.0
-                (within_group state group at.0 state_is there (named_at state name at.0 at.1)) may.unused may.others may.seqno accepted
-                tree;
+            (within_group state group at.0 state_is there (named_at state name at.0 at.1)) may.unused may.others may.seqno accepted
+            tree;
       }
 
   -- so does a vgreduce that no row refuses

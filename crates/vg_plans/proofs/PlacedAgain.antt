@@ -44,7 +44,7 @@ reduced_placed group number readings placed =
     none_misplaced (reduced_group group number) 0 readings
     (each_on group (reduced_group group number)
     (λ reading placed. on_reading group (reduced_group group number) reading
-        (λ found none. none_without (is_this_misplaced group.extent_size reading found) group.pvs number none) placed)
+    (λ found none. none_without (is_this_misplaced group.extent_size reading found) group.pvs number none) placed)
     readings (each_placed group 0 readings placed))
 
 -- ---- a restored group
@@ -67,6 +67,6 @@ restored_placed found said disks none =
     none_misplaced (restored_group found said) 0 (shapes disks)
     (each_on said (restored_group found said)
     (λ reading placed. on_reading said (restored_group found said) reading
-        (λ pv fewer. none_there said.extent_size reading pv said.pvs ∙ fewer) placed)
+    (λ pv fewer. none_there said.extent_size reading pv said.pvs ∙ fewer) placed)
     (shapes disks) (shapes_placed said disks
-        (none_passes (is_misshapen said) disks (test_fails (list_any (is_misshapen said) disks) (BadRule 15) none))))
+    (none_passes (is_misshapen said) disks (test_fails (list_any (is_misshapen said) disks) (BadRule 15) none))))

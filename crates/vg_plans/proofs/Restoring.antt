@@ -24,8 +24,8 @@ use Rattle.group_plan.specs.declared.state.Change.{Change}
 use Rattle.group_plan.specs.declared.state.GroupState.{GroupState}
 use Rattle.vg_plans.proofs.PlacedAgain.{restored_placed}
 use Rattle.vg_plans.proofs.SoundBackup.{disks_all_held, sound_listed, sound_seqnos}
-use Rattle.vg_plans.specs.Vgcfgrestore.{backup_change, backup_rows, broken_rows, restore_rows, sound_rows, sound_tests, unread_rows,
-    vgcfgrestore_change, vgcfgrestore_rows}
+use Rattle.vg_plans.specs.Vgcfgrestore.{backup_change, backup_rows, broken_rows, restore_rows, sound_rows, sound_tests, unread_rows}
+use Rattle.vg_plans.specs.Vgcfgrestore.{vgcfgrestore_change, vgcfgrestore_rows}
 
 -- the change commits the group of a sound backup in place of the one in force, to the disks of its physical volumes
 pub record Restores (state : GroupState) (change : Change) (now : ℕ) : Type 0 where
@@ -56,7 +56,7 @@ backup_restores state now old (Broken said rule) gives there none =
 backup_restores state now old (Sound said) gives there none =
     let next : Group = restored_group old said in
     let tests : first_refusal (sound_tests state old said) ≡ None =
-        back_passes (sound_tests state old said) (length_row_on state (disks_of said state.disks) next now ∷ []) none in
+    back_passes (sound_tests state old said) (length_row_on state (disks_of said state.disks) next now ∷ []) none in
     let rows = none_holds (sound_rows state old said now) none in
     let seqnos = sound_seqnos state old said tests in
     record {
@@ -70,7 +70,7 @@ backup_restores state now old (Sound said) gives there none =
       listed = λ is. sound_listed state is old said there tests;
       has_area =
           λ is. subst (λ (disks : List ℕ). area_row state.areas disks ≡ None)
-              (disks_all_held state said (sound_listed state is old said there tests)) rows.1.0;
+          (disks_all_held state said (sound_listed state is old said there tests)) rows.1.0;
       fits = rows.1.1.1.1.1.1.1.1.1.0;
       placed = restored_placed old said state.disks rows.1.1.1.1.1.0;
       whole = λ old_is said_is tree. restored_whole old said seqnos.0 seqnos.1 old_is said_is tree;

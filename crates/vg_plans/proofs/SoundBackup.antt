@@ -1,6 +1,6 @@
 -- What the rows tell of a backup that none of them refuses.
-use Rattle.std.proofs.Common.{◌≡◌, ◌≢◌, ◌≤◌, ◌<◌, ℕ, ◌+◌, Bool, true, false, not, ◌||◌, ◌==◌, cond, drop, List, [], ◌∷◌, length, map,
-    Option, Some, None, refl, sym, ap, subst, ◌∙◌, arith}
+use Rattle.std.proofs.Common.{◌≡◌, ◌≢◌, ◌≤◌, ◌<◌, ℕ, ◌+◌, Bool, true, false, not, ◌||◌, ◌==◌, cond, drop, List, [], ◌∷◌, length, map}
+use Rattle.std.proofs.Common.{Option, Some, None, refl, sym, ap, subst, ◌∙◌, arith}
 use Rattle.std.specs.Prelude.{All, IfSome, filter, is_some, nat_lt, slice_get}
 use Rattle.std.specs.List.{AllByRecursion as Each, list_any}
 use Rattle.std.specs.Cmp.Lexicographic.{slice_cmp, slice_partial_cmp}
@@ -36,10 +36,11 @@ pub sound_seqnos : (state : GroupState) (found said : Group) → first_refusal (
 sound_seqnos state found said none =
     let rows = none_holds (sound_tests state found said) none in
     let parts =
-        both_false (found.seqno == 4294967295) (said.seqno == 4294967295)
-            (test_fails (found.seqno == 4294967295 || said.seqno == 4294967295) SeqnoEnd rows.1.1.1.1.0) in
-    (λ same. true≢false (sym (eq-eqb found.seqno 4294967295 same) ∙ parts.0),
-        λ same. true≢false (sym (eq-eqb said.seqno 4294967295 same) ∙ parts.1))
+    both_false (found.seqno == 4294967295) (said.seqno == 4294967295)
+    (test_fails (found.seqno == 4294967295 || said.seqno == 4294967295) SeqnoEnd rows.1.1.1.1.0) in (
+      λ same. true≢false (sym (eq-eqb found.seqno 4294967295 same) ∙ parts.0),
+      λ same. true≢false (sym (eq-eqb said.seqno 4294967295 same) ∙ parts.1),
+    )
 
 -- ---- physical volumes
 
@@ -62,7 +63,7 @@ all_listed : (found : Group) (pvs : List (List ℕ × Pv)) → least_of None (id
 all_listed found [] none = tt
 all_listed found (pv ∷ pvs) none =
     let parts =
-        one_listed found pv (filter (λ (row : List ℕ × Pv). not (has_pv_id found row.1.id)) pvs) (has_pv_id found pv.1.id) refl none in
+    one_listed found pv (filter (λ (row : List ℕ × Pv). not (has_pv_id found row.1.id)) pvs) (has_pv_id found pv.1.id) refl none in
     (parts.0, all_listed found pvs parts.1)
 
 -- what holds of the disk of an id holds of one with the same id
@@ -77,7 +78,7 @@ module _ (P : ℕ → Type 0) (disks : List Disk) where
   on_one id [] holds has = absurd cc
   on_one id (pv ∷ pvs) holds has =
       by_test id pv.1.id (same_bytes pv.1.id id) (list_any (λ (row : List ℕ × Pv). same_bytes row.1.id id) pvs) refl has holds.0
-          (on_one id pvs holds.1)
+      (on_one id pvs holds.1)
 
   on_all : (found : Group) (pvs : List (List ℕ × Pv)) → Each P (disks_of found disks)
       → Each (λ (pv : List ℕ × Pv). has_pv_id found pv.1.id ≡ true) pvs → Each P (map (λ (pv : List ℕ × Pv). disk_with disks pv.1.id) pvs)
@@ -90,12 +91,12 @@ sound_on : (P : ℕ → Type 0) (state : GroupState) → IsState state → (foun
 sound_on P state is found said there holds none =
     let rows = none_holds (sound_tests state found said) none in
     let lacked =
-        both_false (is_some (id_lacked found said)) (is_some (id_lacked said found))
-            (test_fails (is_some (id_lacked found said) || is_some (id_lacked said found)) _ rows.1.1.1.1.1.1.1.1.0) in
+    both_false (is_some (id_lacked found said)) (is_some (id_lacked said found))
+    (test_fails (is_some (id_lacked found said) || is_some (id_lacked said found)) _ rows.1.1.1.1.1.1.1.1.0) in
     let all : All P (disks_of found state.disks) = subst (All P) (listed_are state found is there) holds in
     All-from_recursion P (disks_of said state.disks)
     (on_all P state.disks found said.pvs (recursion_from_All P (disks_of found state.disks) all)
-        (all_listed found said.pvs (no_some (id_lacked found said) lacked.0)))
+    (all_listed found said.pvs (no_some (id_lacked found said) lacked.0)))
 
 -- each physical volume of the text's group is on one of 64 disks
 pub sound_disks : (state : GroupState) → IsState state → (found said : Group) → state.group ≡ Some found
@@ -107,7 +108,7 @@ pub sound_listed : (state : GroupState) → IsState state → (found said : Grou
     → first_refusal (sound_tests state found said) ≡ None → All (λ n. n < length state.disks) (disks_of said state.disks)
 sound_listed state is found said there none =
     sound_on (λ n. n < length state.disks) state is found said there
-        (subst (λ (o : Option Group). IfSome o (λ g. All (λ n. n < length state.disks) state.disk_of)) there is.there) none
+    (subst (λ (o : Option Group). IfSome o (λ g. All (λ n. n < length state.disks) state.disk_of)) there is.there) none
 
 -- ---- those that a disk holds
 
@@ -127,13 +128,13 @@ all_held most (n ∷ ns) below =
     let first = below.0 in
     let less : nat_lt n most ≡ true = grind (arith, nat_tests) in
     ap (λ (b : Bool). cond b (n ∷ filter (λ m. nat_lt m most) ns) (filter (λ m. nat_lt m most) ns)) less
-        ∙ ap (λ (l : List ℕ). n ∷ l) (all_held most ns below.1)
+    ∙ ap (λ (l : List ℕ). n ∷ l) (all_held most ns below.1)
 
 pub disks_all_held : (state : GroupState) (said : Group) → All (λ n. n < length state.disks) (disks_of said state.disks)
     → disks_held said state.disks ≡ disks_of said state.disks
 disks_all_held state said below =
     all_held (length state.disks) (disks_of said state.disks)
-        (recursion_from_All (λ n. n < length state.disks) (disks_of said state.disks) below)
+    (recursion_from_All (λ n. n < length state.disks) (disks_of said state.disks) below)
 
 pub held_below : (state : GroupState) → IsState state → (said : Group) → All IsBelow (disks_held said state.disks)
 held_below state is said =

@@ -1,6 +1,6 @@
 -- vgcfgrestore(8): the rows of its refusals, and its change, by what the text gives.
-use Rattle.std.specs.Prelude.{ℕ, Bool, not, ◌||◌, ◌==◌, nat_lt, if◌then◌else◌, List, [], ◌∷◌, ◌++◌, length, map, filter, codes, is_some,
-    unwrap_or, Option, None, Some, option_map}
+use Rattle.std.specs.Prelude.{ℕ, Bool, not, ◌||◌, ◌==◌, nat_lt, if◌then◌else◌, List, [], ◌∷◌, ◌++◌, length, map, filter, codes, is_some}
+use Rattle.std.specs.Prelude.{unwrap_or, Option, None, Some, option_map}
 use Rattle.std.specs.List.{list_any}
 use Rattle.std.specs.Option.{option_map_or}
 use Rattle.std.specs.Ordering.{is_le, nat_cmp}
@@ -17,8 +17,8 @@ use Rattle.scan_rules.specs.Decision.{has_misplaced, same_bytes}
 use Rattle.vg_found.specs.Disks.{disk_shape, disks_of}
 use Rattle.vg_found.specs.declared.disk.Disk.{Disk}
 use Rattle.group_edits.specs.RestoredGroup.{restored_group}
-use Rattle.group_plan.specs.Committing.{change_where_found, length_row_on, named_rows, no_change, rows_where_found, seqno_row,
-    version_change_on}
+use Rattle.group_plan.specs.Committing.{change_where_found, length_row_on, named_rows, no_change, rows_where_found, seqno_row}
+use Rattle.group_plan.specs.Committing.{version_change_on}
 use Rattle.group_plan.specs.Ids.{has_pv_id}
 use Rattle.group_plan.specs.Judging.{area_row, refused_if}
 use Rattle.group_plan.specs.Stripes.{stripes_row}

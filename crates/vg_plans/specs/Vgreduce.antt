@@ -44,7 +44,7 @@ vgreduce_rows state vg name now = rows_where_found state.group vg (reduce_rows s
 abbrev pub leaving_change : GroupState → Group → ℕ → Change
 leaving_change state group number =
     record (version_change_on (remove state.disk_of number) (reduced_group group number))
-        { cleared = set_of (slice_index state.disk_of number ∷ []) }
+    { cleared = set_of (slice_index state.disk_of number ∷ []) }
 
 -- the physical volume on the disk with this name leaves this group
 abbrev pub reduce_change : GroupState → List ℕ → Group → Change

@@ -5,8 +5,8 @@ use Rattle.line_answers.specs.declared.op_refusal.OpRefusal.TheVariants.{NameTak
 use Rattle.meta_model.specs.declared.group.Group.{Group}
 use Rattle.scan_rules.specs.Decision.{same_bytes}
 use Rattle.group_edits.specs.RenamedGroup.{renamed_group}
-use Rattle.group_plan.specs.Committing.{change_where_found, length_row, named_rows, no_area_row, rows_where_found, seqno_row,
-    version_change}
+use Rattle.group_plan.specs.Committing.{change_where_found, length_row, named_rows, no_area_row, rows_where_found, seqno_row}
+use Rattle.group_plan.specs.Committing.{version_change}
 use Rattle.group_plan.specs.Judging.{refused_if}
 use Rattle.group_plan.specs.declared.state.Change.{Change}
 use Rattle.group_plan.specs.declared.state.GroupState.{GroupState}

@@ -28,4 +28,4 @@ pub disks_within : (sizes : List ℕ) (areas : List (Area × Option Locn)) → A
 disks_within sizes areas lie =
     subst (λ (s : FinSet nat_cmp). All (λ (pv : ℕ). pv < length sizes) (disks_in s)) (sym (as_numbers areas empty))
     (of_disks (λ (pv : ℕ). pv < length sizes) (map (λ (a : Area × Option Locn). a.0.pv) areas)
-        (All-map (λ (pv : ℕ). pv < length sizes) (λ (a : Area × Option Locn). a.0.pv) areas (λ k d within. (lie k d within).disk)))
+    (All-map (λ (pv : ℕ). pv < length sizes) (λ (a : Area × Option Locn). a.0.pv) areas (λ k d within. (lie k d within).disk)))

@@ -38,7 +38,7 @@ module _ {X : Type 0} (P : X → Type 0) where
   each_of_marked [] all = All-nil (λ (e : Bool × X). e.0 ≡ true → P e.1)
   each_of_marked (e ∷ es) all =
       All-cons (λ (d : Bool × X). d.0 ≡ true → P d.1) e es (marked_head e.0 e.1 (marked es) all)
-          (each_of_marked es (marked_tail e.0 e.1 (marked es) all))
+      (each_of_marked es (marked_tail e.0 e.1 (marked es) all))
 
   -- what holds of all holds of the marked ones
   marked_cons : (b : Bool) (x : X) (xs : List X) → P x → All P xs → All P (if_marked b x xs)
@@ -69,4 +69,4 @@ module _ {X : Type 0} (R : X → X → Type 0) where
       All-cons (WithMarked (e ∷ es)) e es (first_with e.0 e.1 (marked es) (all_marked (R e.1) es later))
       (λ k d within is.
       marked_cons (Either _) e.0 e.1 (marked es) (inl (each_of_all (R e.1) es later k d within))
-          (unmarked_with es (pairs_later R e.1 (unmarked es) pairs) k d within is))
+      (unmarked_with es (pairs_later R e.1 (unmarked es) pairs) k d within is))

@@ -31,7 +31,7 @@ module _ (found : Found) (shape : HasShape found) where
     apart = some_pairs LieApart (stale_areas found) found.areas some shape.apart;
     few =
         some_all (λ (area : Area × Option Locn). area.0.pv < 64) (stale_areas found) found.areas some
-            (each_few found.disks found.areas are_scanned);
+        (each_few found.disks found.areas are_scanned);
   }
 
   pub stale_lie : All (LiesIn (sizes_of found.disks)) (stale_areas found)

@@ -1,6 +1,6 @@
 -- What every image on the way of a repair keeps, and what is found once it is done.
-use Rattle.std.proofs.Common.{◌≡◌, ◌≤◌, ◌<◌, ◌⊎◌, ℕ, ◌+◌, ◌/◌, true, false, List, length, get_or, Option, inl, inr, ⊎_elim, sym, ap, subst,
-    ◌∙◌, arith}
+use Rattle.std.proofs.Common.{◌≡◌, ◌≤◌, ◌<◌, ◌⊎◌, ℕ, ◌+◌, ◌/◌, true, false, List, length, get_or, Option, inl, inr, ⊎_elim, sym, ap, subst}
+use Rattle.std.proofs.Common.{◌∙◌, arith}
 use Rattle.std.specs.Prelude.{All}
 use Rattle.std.specs.FinSet.{contains}
 use Rattle.std.proofs.lemmas.Bool.{cases_Bool, true≢false}
@@ -23,8 +23,8 @@ use Rattle.group_plan.specs.Judging.{lies_on}
 use Rattle.group_plan.specs.declared.state.NewLabel.{NewLabel}
 use Rattle.change_batches.specs.Batches.{clear_batches}
 use Rattle.change_batches.specs.Sound.{FitsFields}
-use Rattle.change_batches.specs.Laws.{AreCleared, ClearsKeep, HasLabel, IsEmpty, IsKeptOrEmpty, IsKeptOrNew, IsUncleared, LabelsKept,
-    ShowsEntries}
+use Rattle.change_batches.specs.Laws.{AreCleared, ClearsKeep, HasLabel, IsEmpty, IsKeptOrEmpty, IsKeptOrNew, IsUncleared, LabelsKept}
+use Rattle.change_batches.specs.Laws.{ShowsEntries}
 use Rattle.change_batches.proofs.FarAreas.{IsFar}
 use Rattle.change_batches.proofs.ClearedImages.{all_keep, are_cleared, is_kept as clears_kept}
 use Rattle.vg_repair.specs.Batches.{repair_batches, stray_areas, stray_labels, text_batches}
@@ -77,7 +77,7 @@ module _ (found : Found) (shape : HasShape found) (others : StraysAreOthers foun
   far_uncleared pv sector other far = record {
     labels =
         λ k d within. inr (λ same. let low : (get_or labels k d).sector
-            < 4 = (labels_can found shape k d within).sector_below in omega (arith, low, same, far));
+        < 4 = (labels_can found shape k d within).sector_below in omega (arith, low, same, far));
     headers = λ k d within.
         let a : Area × Option Locn = get_or cleared k d in
         ⊎_elim
@@ -125,16 +125,16 @@ module _ (found : Found) (shape : HasShape found) (others : StraysAreOthers foun
     label_first k d within =
         let label : NewLabel = get_or labels k d in
         batches_kept texts base label.disk label.sector
-            (texts_keep_near label.disk label.sector (inr (labels_can found shape k d within).sector_below))
+        (texts_keep_near label.disk label.sector (inr (labels_can found shape k d within).sector_below))
 
     labels_kept : (image : Image) → HasFirstBatches (repair_batches found) base image → LabelsKept labels base image
     labels_kept image h k d within =
         let label : NewLabel = get_or labels k d in
         ⊎_elim
         (λ in_texts. inl (front_kept texts base image label.disk label.sector
-            (texts_keep_near label.disk label.sector (inr (labels_can found shape k d within).sector_below)) in_texts))
+        (texts_keep_near label.disk label.sector (inr (labels_can found shape k d within).sector_below)) in_texts))
         (λ in_clears. ⊎_elim (λ old. inl (old ∙ label_first k d within)) (λ new. inr new)
-            ((while_cleared image in_clears).labels k d within))
+        ((while_cleared image in_clears).labels k d within))
         (first_or_more texts clears base image h)
 
     -- ---- the headers of strays
@@ -146,11 +146,11 @@ module _ (found : Found) (shape : HasShape found) (others : StraysAreOthers foun
     headers_kept image h k d within =
         let a : Area × Option Locn = get_or cleared k d in
         let keep : All (KeepsSector a.0.pv (a.0.start / 512 + 0)) texts =
-            texts_keep_near a.0.pv (a.0.start / 512 + 0) (inl (stray_there k d within)) in
+        texts_keep_near a.0.pv (a.0.start / 512 + 0) (inl (stray_there k d within)) in
         ⊎_elim
         (λ in_texts. inl (front_kept texts base image a.0.pv (a.0.start / 512 + 0) keep in_texts))
         (λ in_clears. ⊎_elim (λ old. inl (old ∙ batches_kept texts base a.0.pv (a.0.start / 512 + 0) keep)) (λ new. inr new)
-            ((while_cleared image in_clears).headers k d within))
+        ((while_cleared image in_clears).headers k d within))
         (first_or_more texts clears base image h)
 
     -- ---- and other sectors
@@ -162,7 +162,7 @@ module _ (found : Found) (shape : HasShape found) (others : StraysAreOthers foun
         ⊎_elim
         (λ in_texts. front_kept texts base image pv sector keep in_texts)
         (λ in_clears. (while_cleared image in_clears).others pv sector (record { labels = other.labels; headers = other.headers })
-            ∙ batches_kept texts base pv sector keep)
+        ∙ batches_kept texts base pv sector keep)
         (first_or_more texts clears base image h)
 
     pub is_kept : (image : Image) → HasFirstBatches (repair_batches found) base image → IsKept found base image
@@ -183,12 +183,12 @@ module _ (found : Found) (shape : HasShape found) (others : StraysAreOthers foun
         (λ k d within sector from.
         let pv : ℕ = (get_or stale k d).0.pv in
         ap (λ (i : Image). i pv sector) last_is ∙ batches_kept clears first pv sector
-            (all_keep found.disks found.areas (are_scanned found shape) found.strays pv sector (stale_uncleared k d within sector from)))
+        (all_keep found.disks found.areas (are_scanned found shape) found.strays pv sector (stale_uncleared k d within sector from)))
 
     pub is_right : All FitsFields labels → IsRight found last
     is_right fields =
         let done : AreCleared found.strays found.disks found.areas (with_batches clears first) =
-            are_cleared found.disks found.areas (are_scanned found shape) found.strays first fields in
+        are_cleared found.disks found.areas (are_scanned found shape) found.strays first fields in
         record {
           stale = stale_right;
           labels = subst (λ (i : Image). All (HasLabel i) labels) (sym last_is) done.labels;

@@ -36,7 +36,7 @@ module _ (text : List ℕ) where
   new_sized : (areas : List (Area × Option Locn)) → Fit areas → AreSized (new_reading text) areas
   new_sized areas fit k d within =
       entry_inside text (get_or areas k d) (is_placed text (get_or areas k d) (fit.held.take k d within)
-          (rooms text areas fit.room k d within))
+      (rooms text areas fit.room k d within))
 
   -- sectors of other places stay
   pub texts_keep : (areas : List (Area × Option Locn)) → Fit areas → (pv sector : ℕ) → AreOutside pv sector areas
@@ -54,7 +54,7 @@ module _ (text : List ℕ) where
     texts_shows (area ∷ areas) fit names image h k d within =
         let all : List (Area × Option Locn) = area ∷ areas in
         commit_shows text all (area_disks all) (held_committed all (omega arith) fit.held) (all_fit text all fit.room) fit.read
-            (text_in base) base (base_shows all base names) (base_sized all base fit.held.take) image h k d within
+        (text_in base) base (base_shows all base names) (base_sized all base fit.held.take) image h k d within
 
     -- and once they are written the text
     texts_shown : (areas : List (Area × Option Locn)) → Fit areas → ShowsEntries areas base
@@ -63,7 +63,7 @@ module _ (text : List ℕ) where
     texts_shown (area ∷ areas) fit names k d within =
         let all : List (Area × Option Locn) = area ∷ areas in
         commit_shown text all (area_disks all) (held_committed all (omega arith) fit.held) (all_fit text all fit.room) fit.read
-            (text_in base) base (base_shows all base names) (base_sized all base fit.held.take) k d within
+        (text_in base) base (base_shows all base names) (base_sized all base fit.held.take) k d within
 
     -- also in images whose sectors are the same there
     pub texts_there : (areas : List (Area × Option Locn)) → Fit areas → ShowsEntries areas base → (image : Image)
@@ -73,5 +73,5 @@ module _ (text : List ℕ) where
     texts_there areas fit names image same k d within =
         let a : Area × Option Locn = get_or areas k d in
         shows_alike (new_reading text) a (with_batches (text_batches text areas) base) image (fit.held.take k d within).0
-            (new_sized areas fit k d within)
+        (new_sized areas fit k d within)
         (λ sector inside. same k d within (a.0.start / 512 + sector) (omega arith)) (texts_shown areas fit names k d within)

@@ -22,8 +22,8 @@ use Rattle.group_plan.specs.Cleared.{unused, unused_label, unused_labels}
 use Rattle.change_batches.specs.Batches.{batch_if, clear_batches, clear_put, label_put}
 use Rattle.vg_repair.specs.Batches.{repair_batches, stray_areas, stray_labels, text_batches}
 use Rattle.vg_repair.specs.Laws.{LeavesAll}
-use Rattle.vg_repair.specs.Repaired.{repaired_area, repaired_areas, repaired_contents, repaired_disk, repaired_disks, repaired_held,
-    repaired_of, with_entry}
+use Rattle.vg_repair.specs.Repaired.{repaired_area, repaired_areas, repaired_contents, repaired_disk, repaired_disks, repaired_held}
+use Rattle.vg_repair.specs.Repaired.{repaired_of, with_entry}
 use Rattle.vg_repair.specs.Stale.{stale_areas, stale_by, stale_in, stale_on, text_of}
 
 no_stray : (pv : ℕ) → set.contains (set.empty {R = nat_cmp}) pv ≡ false
@@ -45,13 +45,13 @@ no_stale : (first : ℕ) (disks : List Disk) → flat_map (stale_on []) (enumera
 no_stale first [] = refl
 no_stale first (disk ∷ disks) =
     ap (λ (l : List (Area × Option Locn)). l ++ flat_map (stale_on []) (enumerate_from (first + 1) disks))
-        (no_stale_on first 0 (areas_on disk.contents)) ∙ no_stale (first + 1) disks
+    (no_stale_on first 0 (areas_on disk.contents)) ∙ no_stale (first + 1) disks
 
 no_labels : (first : ℕ) (disks : List Disk) → filter_map (unused_label none) (enumerate_from first disks) ≡ []
 no_labels first [] = refl
 no_labels first (disk ∷ disks) =
     ap (λ (b : Bool). cons_option (cond b (option_map (λ (pv : ℕ × PvHeader). record { disk = first; sector = pv.0; header = unused pv.1 })
-        (option_and_then pv_in disk.contents)) None) (filter_map (unused_label none) (enumerate_from (first + 1) disks))) (no_stray first)
+    (option_and_then pv_in disk.contents)) None) (filter_map (unused_label none) (enumerate_from (first + 1) disks))) (no_stray first)
     ∙ no_labels (first + 1) disks
 
 no_areas : (areas : List (Area × Option Locn)) → filter (lies_on none) areas ≡ []
@@ -83,7 +83,7 @@ module _ (text : List ℕ) where
   disks_same first [] = refl
   disks_same first (disk ∷ disks) =
       both (ap (λ (c : Option PvFound). record { sectors = disk.sectors; contents = c }) (contents_same first disk.contents))
-          (disks_same (first + 1) disks)
+      (disks_same (first + 1) disks)
 
 -- ---- both
 
@@ -100,7 +100,7 @@ module _ (found : Found) (shape : HasShape found) (stale : found.stale ≡ []) (
   nothing : repair_batches found ≡ []
   nothing =
       ap (λ (l : List (Area × Option Locn)). text_batches (text_of found) l ++ clear_batches found.strays found.disks found.areas)
-          stale_none
+      stale_none
       ∙ ap (λ (l : List NewLabel). batch_if (map label_put l) ++ batch_if (map clear_put (stray_areas found))) labels_none
       ∙ ap (λ (l : List (Area × Option Locn)). batch_if (map clear_put l)) areas_none
 

@@ -50,12 +50,12 @@ module _ {X : Type 0} {Y : Type 0} (g : ℕ × X → Y) where
   enumerate_more first [] x = ap (λ (n : ℕ). (n, x) ∷ []) (omega arith)
   enumerate_more first (y ∷ xs) x =
       ap (λ (l : List (ℕ × X)). (first, y) ∷ l)
-          (enumerate_more (first + 1) xs x ∙ ap (λ (n : ℕ). enumerate_from (first + 1) xs ++ (n, x) ∷ []) (omega arith))
+      (enumerate_more (first + 1) xs x ∙ ap (λ (n : ℕ). enumerate_from (first + 1) xs ++ (n, x) ∷ []) (omega arith))
 
   pub mapped_more : (xs : List X) (x : X) → map g (enumerate_from 0 (xs ++ x ∷ [])) ≡ map g (enumerate_from 0 xs) ++ g (length xs, x) ∷ []
   mapped_more xs x =
       ap (map g) (enumerate_more 0 xs x) ∙ map_both (enumerate_from 0 xs)
-          ∙ ap (λ (n : ℕ). map g (enumerate_from 0 xs) ++ g (n, x) ∷ []) (omega arith)
+      ∙ ap (λ (n : ℕ). map g (enumerate_from 0 xs) ++ g (n, x) ∷ []) (omega arith)
     where
       map_both : (ys : List (ℕ × X)) → map g (ys ++ (0 + length xs, x) ∷ []) ≡ map g ys ++ g (0 + length xs, x) ∷ []
       map_both [] = refl

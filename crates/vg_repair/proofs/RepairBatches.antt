@@ -31,4 +31,4 @@ pub text_added : (text text' : List ℕ) (areas areas' : List (Area × Option Lo
 text_added text text' areas areas' old new same_text same_areas none added =
     subst (λ (t : List ℕ). IsTextAdded t areas' [] new) same_text
     (subst (λ (a : List (Area × Option Locn)). IsTextAdded text a [] new) same_areas
-        (subst (λ (l : List Batch). IsTextAdded text areas l new) none added))
+    (subst (λ (l : List Batch). IsTextAdded text areas l new) none added))

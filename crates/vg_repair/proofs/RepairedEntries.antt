@@ -1,6 +1,6 @@
 -- Once a repair is done, the header of each area names the entry that is found then.
-use Rattle.std.proofs.Common.{◌≡◌, ◌≤◌, ℕ, ◌+◌, ◌/◌, ◌%◌, Bool, true, false, cond, List, [], ◌∷◌, ◌++◌, length, map, get_or, Option, Some,
-    None, inl, inr, ⊎_elim, refl, sym, ap, subst, ◌∙◌, arith}
+use Rattle.std.proofs.Common.{◌≡◌, ◌≤◌, ℕ, ◌+◌, ◌/◌, ◌%◌, Bool, true, false, cond, List, [], ◌∷◌, ◌++◌, length, map, get_or, Option, Some}
+use Rattle.std.proofs.Common.{None, inl, inr, ⊎_elim, refl, sym, ap, subst, ◌∙◌, arith}
 use Rattle.std.specs.Prelude.{All, AllPairs, option_map}
 use Rattle.std.specs.List.{cons_option, enumerate_from, filter_map, flat_map}
 use Rattle.std.specs.Option.{option_map_or}
@@ -87,14 +87,14 @@ module _ (stale : List (ℕ × ℕ)) where
   held_marks_on pv number [] = refl
   held_marks_on pv number (found ∷ founds) =
       held_put (is_among stale pv number) (held_area pv found) (marks_on stale pv (number + 1) founds)
-          ∙ ap (cons_option (held_area pv found)) (held_marks_on pv (number + 1) founds)
+      ∙ ap (cons_option (held_area pv found)) (held_marks_on pv (number + 1) founds)
 
   stale_marks_on : (pv number : ℕ) (founds : List AreaFound)
       → marked (marks_on stale pv number founds) ≡ filter_map (stale_in stale pv) (enumerate_from number founds)
   stale_marks_on pv number [] = refl
   stale_marks_on pv number (found ∷ founds) =
       stale_put (is_among stale pv number) (held_area pv found) (marks_on stale pv (number + 1) founds)
-          ∙ ap (cons_option (stale_in stale pv (number, found))) (stale_marks_on pv (number + 1) founds)
+      ∙ ap (cons_option (stale_in stale pv (number, found))) (stale_marks_on pv (number + 1) founds)
 
   held_marks : (pv : ℕ) (disks : List Disk) → unmarked (marks_of stale pv disks) ≡ held_areas pv disks
   held_marks pv [] = refl
@@ -137,7 +137,7 @@ module _ (stale : List (ℕ × ℕ)) where
     one_now pv number found (Some area) is rest =
         let on : area.0.pv ≡ pv = ap (λ (a : Area). a.pv) (held_on (area_on pv found.area) found.entry area is) in
         ap (λ (p : Option (Area × Option Locn)). cons_option p (map now_of rest))
-            (now_held pv number found area is (set.contains strays pv) (is_among stale pv number))
+        (now_held pv number found area is (set.contains strays pv) (is_among stale pv number))
         ∙ ap (λ (n : ℕ). now_by (set.contains strays n) (is_among stale pv number) area ∷ map now_of rest) (sym on)
 
     now_on : (pv number : ℕ) (founds : List AreaFound)
@@ -161,7 +161,7 @@ module _ (stale : List (ℕ × ℕ)) where
     now_all pv [] = refl
     now_all pv (disk ∷ disks) =
         ap (λ (l : List (Area × Option Locn)). l
-            ++ held_areas (pv + 1) (map (repaired_disk stale strays text) (enumerate_from (pv + 1) disks))) (now_disk pv disk.contents)
+        ++ held_areas (pv + 1) (map (repaired_disk stale strays text) (enumerate_from (pv + 1) disks))) (now_disk pv disk.contents)
         ∙ ap (λ (l : List (Area × Option Locn)). map now_of (marks_on stale pv 0 (areas_on disk.contents)) ++ l) (now_all (pv + 1) disks)
         ∙ sym (map-append now_of (marks_on stale pv 0 (areas_on disk.contents)) (marks_of stale (pv + 1) disks))
 
@@ -188,9 +188,12 @@ module _ (found : Found) (shape : HasShape found) (images : KeepsImages found) (
 
   all_there : HasFirstBatches (repair_batches found) base last
   all_there =
-      record { count = length (repair_batches found); among = omega arith;
-          either = λ pv sector. inl (ap (λ (l : List (List Put)). with_batches l base pv sector)
-          (sym (take_all (length (repair_batches found)) (repair_batches found) (omega arith)))) }
+      record {
+        count = length (repair_batches found);
+        among = omega arith;
+        either = λ pv sector. inl (ap (λ (l : List (List Put)). with_batches l base pv sector)
+            (sym (take_all (length (repair_batches found)) (repair_batches found) (omega arith))));
+      }
 
   right : IsRight found last
   right = images.right base names
@@ -212,13 +215,13 @@ module _ (found : Found) (shape : HasShape found) (images : KeepsImages found) (
         (λ is.
         let t = covers_tells (area_span s.0) a.0.pv at is in
         let never : LieApart s a → ⊥ =
-            λ r. ⊎_elim (λ other. other t.0) (λ lies. ⊎_elim
-                (λ (x : s.0.start + s.0.size ≤ a.0.start). omega (arith, x, t.1, t.2, s_start, s_size))
-                (λ (x : a.0.start + a.0.size ≤ s.0.start). omega (arith, x, t.1, t.2, big)) lies) r in
+        λ r. ⊎_elim (λ other. other t.0) (λ lies. ⊎_elim
+        (λ (x : s.0.start + s.0.size ≤ a.0.start). omega (arith, x, t.1, t.2, s_start, s_size))
+        (λ (x : a.0.start + a.0.size ≤ s.0.start). omega (arith, x, t.1, t.2, big)) lies) r in
         let never' : LieApart a s → ⊥ =
-            λ r. ⊎_elim (λ other. other (sym t.0)) (λ lies. ⊎_elim
-                (λ (x : a.0.start + a.0.size ≤ s.0.start). omega (arith, x, t.1, t.2, big))
-                (λ (x : s.0.start + s.0.size ≤ a.0.start). omega (arith, x, t.1, t.2, s_start, s_size)) lies) r in
+        λ r. ⊎_elim (λ other. other (sym t.0)) (λ lies. ⊎_elim
+        (λ (x : a.0.start + a.0.size ≤ s.0.start). omega (arith, x, t.1, t.2, big))
+        (λ (x : s.0.start + s.0.size ≤ a.0.start). omega (arith, x, t.1, t.2, s_start, s_size)) lies) r in
         absurd (⊎_elim never never' (apart k d within)))
         (λ out. out)
         (cases_Bool (covers (area_span s.0) a.0.pv at))
@@ -253,7 +256,7 @@ module _ (found : Found) (shape : HasShape found) (images : KeepsImages found) (
   named m good far names_it empty shows apart false true is stale = (shows stale).header
   named m good far names_it empty shows apart false false is stale =
       subst (λ (sector : List ℕ). Names m.1.0 m.1.1 sector)
-          (sym (header_same m.1 good far is (subst (All (Either LieApart m.1)) stale_are (apart stale)))) names_it
+      (sym (header_same m.1 good far is (subst (All (Either LieApart m.1)) stale_are (apart stale)))) names_it
 
   pub repaired_entries : ShowsEntries (repaired_of found).areas last
   repaired_entries =
@@ -261,15 +264,15 @@ module _ (found : Found) (shape : HasShape found) (images : KeepsImages found) (
       let fars = each_held IsFar (each_far found shape) in
       let names_all = each_held (IsNamed base) names in
       let empties =
-          each_held (λ (a : Area × Option Locn). lies_on found.strays a ≡ true → IsEmpty last a)
-              (each_of_filtered (IsEmpty last) (lies_on found.strays) found.areas right.headers) in
+      each_held (λ (a : Area × Option Locn). lies_on found.strays a ≡ true → IsEmpty last a)
+      (each_of_filtered (IsEmpty last) (lies_on found.strays) found.areas right.headers) in
       let shows =
-          each_of_marked (ShowsBy (new_reading (text_of found)) last) marks
-              (subst (All (ShowsBy (new_reading (text_of found)) last)) (sym stale_are) right.stale) in
+      each_of_marked (ShowsBy (new_reading (text_of found)) last) marks
+      (subst (All (ShowsBy (new_reading (text_of found)) last)) (sym stale_are) right.stale) in
       let aparts = unmarked_with LieApart marks (subst (AllPairs LieApart) (sym areas_are) shape.apart) in
       subst (All (IsNamed last)) (sym (now_all found.stale found.strays (text_of found) 0 found.disks))
       (All-map (IsNamed last) (now_of found.stale found.strays (text_of found)) marks
       (λ k d within.
       named (get_or marks k d) (goods k d within) (fars k d within) (names_all k d within) (empties k d within) (shows k d within)
-          (aparts k d within)
+      (aparts k d within)
       (set.contains found.strays (get_or marks k d).1.0.pv) (get_or marks k d).0 refl refl))

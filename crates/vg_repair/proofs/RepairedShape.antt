@@ -1,6 +1,6 @@
 -- What is found once a repair is done has the shape of what a scan finds.
-use Rattle.std.proofs.Common.{◌≡◌, ◌≤◌, ◌<◌, ◌↔◌, ℕ, ◌+◌, ◌*◌, Bool, true, false, cond, ltb, List, [], ◌∷◌, length, map, Option, Some, None,
-    IfSome, refl, sym, ap, subst, ◌∙◌}
+use Rattle.std.proofs.Common.{◌≡◌, ◌≤◌, ◌<◌, ◌↔◌, ℕ, ◌+◌, ◌*◌, Bool, true, false, cond, ltb, List, [], ◌∷◌, length, map, Option, Some, None}
+use Rattle.std.proofs.Common.{IfSome, refl, sym, ap, subst, ◌∙◌}
 use Rattle.std.proofs.Math.Path.{fun_ext}
 use Rattle.std.specs.Prelude.{All, find, option_map, slice_get}
 use Rattle.std.specs.List.{enumerate_from, range_with_len}
@@ -45,8 +45,8 @@ use Rattle.change_batches.specs.Sound.{FitsFields}
 use Rattle.change_batches.proofs.LabelsRead.{header_found}
 use Rattle.change_batches.proofs.UnusedLabels.{IsLabelOf}
 use Rattle.vg_repair.specs.Batches.{stray_labels}
-use Rattle.vg_repair.specs.Repaired.{repaired_area, repaired_areas, repaired_contents, repaired_disk, repaired_disks, repaired_held,
-    repaired_of, with_entry}
+use Rattle.vg_repair.specs.Repaired.{repaired_area, repaired_areas, repaired_contents, repaired_disk, repaired_disks, repaired_held}
+use Rattle.vg_repair.specs.Repaired.{repaired_of, with_entry}
 use Rattle.vg_repair.specs.Stale.{is_among, stale_areas, stale_in, stale_on, text_of, too_large, too_large_among}
 use Rattle.vg_repair.proofs.HeldAreas.{stale_held}
 use Rattle.vg_repair.proofs.Numbered.{all_at, all_in, mapped_all, mapped_at, mapped_length, mapped_same}
@@ -63,10 +63,10 @@ pub rooms : (text : List ℕ) (areas : List (Area × Option Locn)) → too_large
 rooms text [] none = All-nil (λ (a : Area × Option Locn). need (length text + 1) ≤ room a.0.size a.1)
 rooms text (a ∷ areas) none =
     let parts =
-        room_first (ltb (room a.0.size a.1) (need (length text + 1))) (a.0.pv, need (length text + 1), room a.0.size a.1)
-            (too_large_among text areas) none in
+    room_first (ltb (room a.0.size a.1) (need (length text + 1))) (a.0.pv, need (length text + 1), room a.0.size a.1)
+    (too_large_among text areas) none in
     All-cons (λ (b : Area × Option Locn). need (length text + 1) ≤ room b.0.size b.1) a areas
-        (ltb-false (room a.0.size a.1) (need (length text + 1)) parts.0) (rooms text areas parts.1)
+    (ltb-false (room a.0.size a.1) (need (length text + 1)) parts.0) (rooms text areas parts.1)
 
 -- ---- an area
 
@@ -101,9 +101,12 @@ module _ (stale : List (ℕ × ℕ)) (strays : set.FinSet nat_cmp) (text : List 
     new_usable area is old =
         let has = has_room area (ap (λ (b : Bool). cond b (held_area pv found) None) old ∙ is) in
         let size : area.0.size ≡ found.area.size = ap (λ (a : Area). a.size) (held_on (area_on pv found.area) found.entry area is) in
-        record { area = usable.area; within = usable.within;
-            text = subst (λ (n : ℕ). LiesInside n (Text (new_entry text area))) size
-            (entry_inside text area (is_placed text area has.0 has.1)).0 }
+        record {
+          area = usable.area;
+          within = usable.within;
+          text = subst (λ (n : ℕ). LiesInside n (Text (new_entry text area))) size
+              (entry_inside text area (is_placed text area has.0 has.1)).0;
+        }
 
     usable_by : (area : Area × Option Locn) → held_area pv found ≡ Some area → (stray old : Bool) → is_among stale pv number ≡ old
         → IsUsable pv sectors (cond stray (with_entry found None) (cond old (with_entry found (Some (new_entry text area))) found))
@@ -163,7 +166,7 @@ module _ (stale : List (ℕ × ℕ)) (strays : set.FinSet nat_cmp) (text : List 
   with_kept id first [] = refl
   with_kept id first (disk ∷ disks) =
       ap (λ (b : Bool). cond b 0 (disk_with (map new_disk (enumerate_from (first + 1) disks)) id + 1))
-          (id_kept id first disk.sectors disk.contents)
+      (id_kept id first disk.sectors disk.contents)
       ∙ ap (λ (n : ℕ). cond (has_header_id id disk) 0 (n + 1)) (with_kept id (first + 1) disks)
 
   pub disks_kept : (group : Group) (disks : List Disk) → disks_of group (repaired_disks stale strays text disks) ≡ disks_of group disks
@@ -197,10 +200,11 @@ module _ (found : Found) (shape : HasShape found) (fits : too_large found ≡ No
         → CanTake held × (need (length text + 1) ≤ room held.0.size held.1)
     has_room number area at held is =
         let on : In (stale_on stale (pv, disk)) held = kept_has (stale_in stale pv) (areas_on disk.contents) held number area at is in
-        let member : In (stale_areas found) held = flat_has (stale_on stale) found.disks held pv disk there on in
-        (all_in CanTake (stale_areas found) held member (stale_held found shape).take,
-            all_in (λ (a : Area × Option Locn). need (length text + 1) ≤ room a.0.size a.1) (stale_areas found) held member
-            (rooms text (stale_areas found) fits))
+        let member : In (stale_areas found) held = flat_has (stale_on stale) found.disks held pv disk there on in (
+          all_in CanTake (stale_areas found) held member (stale_held found shape).take,
+          all_in (λ (a : Area × Option Locn). need (length text + 1) ≤ room a.0.size a.1) (stale_areas found) held member
+              (rooms text (stale_areas found) fits),
+        )
 
     -- a stray's header can be read where its label is written
     stray_reads : (label : ℕ) (header : PvHeader) (areas : List AreaFound) → disk.contents ≡ Some (Whole label header areas)
@@ -212,14 +216,19 @@ module _ (found : Found) (shape : HasShape found) (fits : too_large found ≡ No
         let new : NewLabel = record { disk = pv; sector = label; header = unused header } in
         let labelled : unused_label strays (pv, disk) ≡ Some new =
         ap (λ (b : Bool). cond b (option_map (λ (p : ℕ × PvHeader). record { disk = pv; sector = p.0; header = unused p.1 })
-            (option_and_then pv_in disk.contents)) None) stray
+        (option_and_then pv_in disk.contents)) None) stray
         ∙ ap (λ (c : Option PvFound). option_map (λ (p : ℕ × PvHeader). record { disk = pv; sector = p.0; header = unused p.1 })
         (option_and_then pv_in c)) is
         in
         let member : In (stray_labels found) new = kept_has (unused_label strays) found.disks new pv disk there labelled in
-        let holds : IsLabelOf _ pv new = label_is found shape pv disk there new labelled in
-        (label_bytes new, record { fields = header_found new holds.can (all_in FitsFields (stray_labels found) new member fields)
-            holds.found; areas = reads.1.areas })
+        let holds : IsLabelOf _ pv new = label_is found shape pv disk there new labelled in (
+          label_bytes new,
+          record {
+            fields = header_found new holds.can (all_in FitsFields (stray_labels found) new member fields)
+                holds.found;
+            areas = reads.1.areas;
+          },
+        )
 
     contents_stand : (contents : Option PvFound) → disk.contents ≡ contents → ContentsCanStand pv disk.sectors contents
         → ContentsCanStand pv disk.sectors (option_map (repaired_contents stale strays text pv) contents)
@@ -233,7 +242,7 @@ module _ (found : Found) (shape : HasShape found) (fits : too_large found ≡ No
           (λ number area. area_kept stale strays text pv number area) 0 areas ∙ stands.2 ∙ lists (set.contains strays pv),
       mapped_all (repaired_area stale strays text pv) (IsUsable pv disk.sectors) areas
           (λ number area at. area_usable stale strays text pv disk.sectors number area
-              (all_at (IsUsable pv disk.sectors) areas number area at stands.3)
+          (all_at (IsUsable pv disk.sectors) areas number area at stands.3)
           (λ held old. has_room number area (ap (λ (c : Option PvFound). slice_get (areas_on c) number) is ∙ at) held old)),
     )
       where
@@ -257,7 +266,7 @@ module _ (found : Found) (shape : HasShape found) (fits : too_large found ≡ No
       let w = mapped_at (repaired_disk stale strays text) found.disks pv disk is in
       let old = shape.disks pv w.0 w.1 in
       subst (λ (d : Disk). IsDisk pv d × IsUnread found.unread pv d) w.2
-          (disk_stands pv w.0 w.1 old.0, unread_by pv w.0 w.1 w.0.contents old.1)
+      (disk_stands pv w.0 w.1 old.0, unread_by pv w.0 w.1 w.0.contents old.1)
 
   same_length : length disks ≡ length found.disks
   same_length = mapped_length (repaired_disk stale strays text) found.disks
@@ -297,7 +306,7 @@ never_not_whole found (ReadFailed pv) is not = none_first (range_with_len 0 64) 
     none_first [] e = cc
     none_first (n ∷ numbers) e =
         none_first numbers (sym (ap (λ (b : Bool). cond b (Some n) (find (set.contains found.unread) numbers))
-            (ap (λ (s : set.FinSet nat_cmp). set.contains s n) is.read ∙ set.contains-empty nat_cmp n)) ∙ e)
+        (ap (λ (s : set.FinSet nat_cmp). set.contains s n) is.read ∙ set.contains-empty nat_cmp n)) ∙ e)
 never_not_whole found Partial is not = not.1 is.there
 
 -- what it is made of

@@ -1,6 +1,6 @@
 -- Some elements of a list, in its order, and the stale areas as some of those that are held.
-use Rattle.std.proofs.Common.{◌≡◌, ℕ, suc, ◌+◌, Bool, true, false, cond, List, [], ◌∷◌, ◌++◌, Option, Some, None, ◌⊎◌, inl, inr, refl, sym,
-    subst, arith}
+use Rattle.std.proofs.Common.{◌≡◌, ℕ, suc, ◌+◌, Bool, true, false, cond, List, [], ◌∷◌, ◌++◌, Option, Some, None, ◌⊎◌, inl, inr, refl, sym}
+use Rattle.std.proofs.Common.{subst, arith}
 use Rattle.std.specs.Prelude.{All, AllPairs}
 use Rattle.std.specs.List.{cons_option, enumerate_from, filter_map, flat_map}
 use Rattle.std.proofs.lemmas.List.Elements.{All-cons, All-head, All-nil, All-tail}
@@ -50,7 +50,7 @@ module _ {X : Type 0} (R : X → X → Type 0) where
   some_pairs (x ∷ xs) [] some pairs = absurd some
   some_pairs (x ∷ xs) (y ∷ ys) (inl here) pairs =
       AllPairs-cons R x xs (some_all (R x) xs ys here.1 (subst (λ (z : X). All (R z) ys) (sym here.0) (pairs_first y ys pairs)))
-          (some_pairs xs ys here.1 (pairs_later y ys pairs))
+      (some_pairs xs ys here.1 (pairs_later y ys pairs))
   some_pairs (x ∷ xs) (y ∷ ys) (inr later) pairs = some_pairs (x ∷ xs) ys later (pairs_later y ys pairs)
 
 -- ---- areas
@@ -67,12 +67,12 @@ on_disk : (stale : List (ℕ × ℕ)) (pv number : ℕ) (founds : List AreaFound
 on_disk stale pv number [] = tt
 on_disk stale pv number (found ∷ founds) =
     one_some (is_among stale pv number) (held_area pv found) (filter_map (stale_in stale pv) (enumerate_from (number + 1) founds))
-        (filter_map (held_area pv) founds) (on_disk stale pv (number + 1) founds)
+    (filter_map (held_area pv) founds) (on_disk stale pv (number + 1) founds)
 
 pub stale_some : (stale : List (ℕ × ℕ)) (pv : ℕ) (disks : List Disk)
     → AreSomeOf (flat_map (stale_on stale) (enumerate_from pv disks)) (held_areas pv disks)
 stale_some stale pv [] = tt
 stale_some stale pv (disk ∷ disks) =
     some_append (stale_on stale (pv, disk)) (filter_map (held_area pv) (areas_on disk.contents))
-        (flat_map (stale_on stale) (enumerate_from (pv + 1) disks)) (held_areas (pv + 1) disks)
+    (flat_map (stale_on stale) (enumerate_from (pv + 1) disks)) (held_areas (pv + 1) disks)
     (on_disk stale pv 0 (areas_on disk.contents)) (stale_some stale (pv + 1) disks)

@@ -1,6 +1,6 @@
 -- Elements that are taken off from the end of a list and put down changed, the last one first.
-use Rattle.std.proofs.Common.{◌≡◌, ◌≤◌, ℕ, ◌+◌, List, [], ◌∷◌, ◌++◌, length, map, reverse, Some, sym, ap, subst, ◌∙◌, append_assoc,
-    length-append, arith}
+use Rattle.std.proofs.Common.{◌≡◌, ◌≤◌, ℕ, ◌+◌, List, [], ◌∷◌, ◌++◌, length, map, reverse, Some, sym, ap, subst, ◌∙◌, append_assoc}
+use Rattle.std.proofs.Common.{length-append, arith}
 use Rattle.std.specs.Prelude.{slice_get}
 use Rattle.std.specs.List.{enumerate_from}
 use Rattle.std.proofs.lemmas.List.{append-nil, reverse-append}
@@ -11,7 +11,7 @@ module _ {X : Type 0} {Y : Type 0} (g : ℕ × X → Y) where
       → map g (enumerate_from 0 xs) ++ reverse done ≡ map g (enumerate_from 0 all)
   none_taken xs all done same none =
       ap (λ (d : List Y). map g (enumerate_from 0 xs) ++ reverse d) none ∙ append-nil (map g (enumerate_from 0 xs))
-          ∙ ap (λ (l : List X). map g (enumerate_from 0 l)) same
+      ∙ ap (λ (l : List X). map g (enumerate_from 0 l)) same
 
   pub one_taken : (old rest : List X) (x : X) (done done' whole : List Y) → old ≡ rest ++ x ∷ [] → done' ≡ done ++ g (length rest, x) ∷ []
       → map g (enumerate_from 0 old) ++ reverse done ≡ whole

@@ -1,6 +1,6 @@
 -- The three batches of the commit of the found text to the stale areas.
-use Rattle.std.proofs.Common.{◌≡◌, ◌<◌, ℕ, ◌+◌, Bool, true, false, cond, ltb, List, [], ◌∷◌, ◌++◌, length, map, Option, Some, None, refl,
-    sym, ap, subst, ◌∙◌, arith}
+use Rattle.std.proofs.Common.{◌≡◌, ◌<◌, ℕ, ◌+◌, Bool, true, false, cond, ltb, List, [], ◌∷◌, ◌++◌, length, map, Option, Some, None, refl}
+use Rattle.std.proofs.Common.{sym, ap, subst, ◌∙◌, arith}
 use Rattle.std.specs.Prelude.{All}
 use Rattle.std.proofs.lemmas.List.{append-nil, append_assoc, map-append}
 use Rattle.std.proofs.lemmas.List.Elements.{All-append, All-cons, All-nil}
@@ -34,15 +34,19 @@ pub all_fit : (text : List ℕ) (areas : List (Area × Option Locn)) → too_lar
 all_fit text [] none = refl
 all_fit text (area ∷ areas) none =
     room_here (ltb (room area.0.size area.1) (need (length text + 1))) area.0.pv (need (length text + 1)) (room area.0.size area.1)
-        (too_large_among text areas) (first_too_large text areas) none (all_fit text areas)
+    (too_large_among text areas) (first_too_large text areas) none (all_fit text areas)
 
 -- ---- the areas
 
 -- as a commit asks for them
 pub held_committed : (areas : List (Area × Option Locn)) → 0 < length areas → AreHeld areas → AreCommitted areas (area_disks areas)
 held_committed areas some held =
-    record { some = some; take = held.take; apart = held.apart;
-        on_disks = λ k d within. (held.few k d within, disks_hold areas k d within) }
+    record {
+      some = some;
+      take = held.take;
+      apart = held.apart;
+      on_disks = λ k d within. (held.few k d within, disks_hold areas k d within);
+    }
 
 pub lie_within : (sizes : List ℕ) (areas : List (Area × Option Locn)) → All (LiesIn sizes) areas → AreWithin sizes areas (area_disks areas)
 lie_within sizes areas lie = record { areas_lie = lie; disks_are = disks_within sizes areas lie }
@@ -83,20 +87,20 @@ module _ (text : List ℕ) (areas : List (Area × Option Locn)) (old new : List 
         let within : AreWithin sizes areas (area_disks areas) = lie_within sizes areas lie in
         let none : first_too_large text areas ≡ None = all_fit text areas fit in
         All-cons (CanRun sizes) prepared.texts (prepared.headers ∷ prepared.publish ∷ [])
-            (texts_can_run text areas (area_disks areas) committed none sizes within prepared.texts is.texts is.text_disks)
+        (texts_can_run text areas (area_disks areas) committed none sizes within prepared.texts is.texts is.text_disks)
         (All-cons (CanRun sizes) prepared.headers (prepared.publish ∷ [])
-            (headers_can_run text areas (area_disks areas) committed none sizes within prepared.headers is.headers is.header_disks)
+        (headers_can_run text areas (area_disks areas) committed none sizes within prepared.headers is.headers is.header_disks)
         (All-cons (CanRun sizes) prepared.publish []
-            (publish_can_run text areas (area_disks areas) committed none sizes within prepared.publish is.publish is.publish_disks)
-            (All-nil (CanRun sizes))))
+        (publish_can_run text areas (area_disks areas) committed none sizes within prepared.publish is.publish is.publish_disks)
+        (All-nil (CanRun sizes))))
 
     -- there are
     pub three_added : new ≡ old ++ batches → IsTextAdded text areas old new
     three_added behind = record {
       writes =
           ap (map writes_of) behind ∙ map-append writes_of old batches
-              ∙ ap (λ (l : List (List Put)). map writes_of old ++ l)
-              (same_writes is.texts is.headers is.publish ∙ sym (three text areas some));
+          ∙ ap (λ (l : List (List Put)). map writes_of old ++ l)
+          (same_writes is.texts is.headers is.publish ∙ sym (three text areas some));
       room = fit;
       read = is.read;
       run = λ sizes lie run. subst (All (CanRun sizes)) (sym behind) (All-append (CanRun sizes) old batches run (all_run sizes lie));

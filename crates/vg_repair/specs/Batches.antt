@@ -17,7 +17,7 @@ abbrev pub text_batches : List ℕ → List (Area × Option Locn) → List (List
 text_batches text [] = []
 text_batches text (area ∷ areas) =
     texts_of (map (area_writes text) (area ∷ areas)) ∷ headers_of (map (area_writes text) (area ∷ areas))
-        ∷ publish_of (map (area_writes text) (area ∷ areas)) ∷ []
+    ∷ publish_of (map (area_writes text) (area ∷ areas)) ∷ []
 
 -- ---- strays
 

@@ -53,4 +53,4 @@ pub record KeepsImages (found : Found) : Type 0 where
 abbrev pub LeavesAll : Type 0
 LeavesAll =
     (found : Found) → HasShape found → found.stale ≡ [] → found.strays ≡ set.empty
-        → (repair_batches found ≡ []) × (repaired_of found ≡ found)
+    → (repair_batches found ≡ []) × (repaired_of found ≡ found)

@@ -36,7 +36,7 @@ with_entry found committed = record {
 abbrev pub repaired_held : List (ℕ × ℕ) → set.FinSet nat_cmp → List ℕ → ℕ → ℕ × AreaFound → Area × Option Locn → AreaFound
 repaired_held stale strays text disk found area =
     if set.contains strays disk then with_entry found.1 None else if is_among stale disk found.0 then with_entry found.1
-        (Some (new_entry text area)) else found.1
+    (Some (new_entry text area)) else found.1
 
 -- any area as it is found then
 abbrev pub repaired_area : List (ℕ × ℕ) → set.FinSet nat_cmp → List ℕ → ℕ → ℕ × AreaFound → AreaFound

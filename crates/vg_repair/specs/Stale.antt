@@ -53,7 +53,7 @@ abbrev pub too_large_among : List ℕ → List (Area × Option Locn) → Option 
 too_large_among text [] = None
 too_large_among text (area ∷ areas) =
     if nat_lt (room area.0.size area.1) (need (length text + 1)) then Some (area.0.pv, need (length text + 1), room area.0.size area.1)
-        else too_large_among text areas
+    else too_large_among text areas
 
 -- of the first stale area of a scan that can't take the text that was found: its disk, how many sectors it needs and how many
 -- there are

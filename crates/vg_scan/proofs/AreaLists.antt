@@ -61,7 +61,7 @@ module _ (old new : List GroupCopy) (goes_on : Continues old new) (read all : Li
       → HoldsOfDisk before pv (λ sector_at. AreAreaReadings pv sector_at (take (i + 1) areas) (map (area_of new) all))
   readings_grown areas i d within before there pv so_far reads are is =
       holds_both before pv (λ sector_at. AreAreaReadings pv sector_at (take i areas) (map (area_of old) read))
-          (λ sector_at. IsAreaReading pv sector_at (get_or areas i d) (area_of new area))
+      (λ sector_at. IsAreaReading pv sector_at (get_or areas i d) (area_of new area))
       (λ sector_at. AreAreaReadings pv sector_at (take (i + 1) areas) (map (area_of new) all))
       (λ sector_at a b. readings_more areas i d within pv sector_at a b)
       are
@@ -74,13 +74,13 @@ module _ (old new : List GroupCopy) (goes_on : Continues old new) (read all : Li
   places_grown areas i d within are is =
       subst (λ (l : List AreaFound). HavePlaces l (map (area_of new) all)) (sym (take_more areas i d within))
       (subst (HavePlaces (take i areas ++ get_or areas i d ∷ [])) (sym mapped_more)
-          (places_push (take i areas) (map (area_of old) read) (get_or areas i d) (area_of new area) are is))
+      (places_push (take i areas) (map (area_of old) read) (get_or areas i d) (area_of new area) are is))
 
   -- their numbers
   pub numbers_grown : GivesAtMost (length new) area.gives → AreasGiveAtMost (length new) all
   numbers_grown is =
       subst (AreasGiveAtMost (length new)) (sym pushed)
-          (numbers_push (length new) read area (more_areas (length old) (length new) (continues_count old new goes_on) read numbers) is)
+      (numbers_push (length new) read area (more_areas (length old) (length new) (continues_count old new goes_on) read numbers) is)
 
 -- ---- their texts
 

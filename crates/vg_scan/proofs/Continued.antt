@@ -1,6 +1,6 @@
 -- Copies that are taken in behind others leave what numbers stand for.
-use Rattle.std.proofs.Common.{◌≡◌, ℕ, zero, suc, ◌+◌, ◌<◌, ◌≤◌, List, [], ◌∷◌, ◌++◌, length, map, slice_get, option_map, unwrap_or, Option,
-    Some, None, refl, sym, ap, ◌∙◌, arith, length-append, append_assoc}
+use Rattle.std.proofs.Common.{◌≡◌, ℕ, zero, suc, ◌+◌, ◌<◌, ◌≤◌, List, [], ◌∷◌, ◌++◌, length, map, slice_get, option_map, unwrap_or, Option}
+use Rattle.std.proofs.Common.{Some, None, refl, sym, ap, ◌∙◌, arith, length-append, append_assoc}
 use Rattle.std.proofs.lemmas.List.{append-nil}
 use Rattle.scan_rules.specs.declared.readings.AreaGives.{AreaGives}
 use Rattle.scan_rules.specs.declared.readings.AreaGives.TheVariants.{Nothing, Copy as Numbered, Refused as RefusedFor}
@@ -49,7 +49,7 @@ older_behind : (copies more : List GroupCopy) (areas : List AreaRead) → AreasG
 older_behind copies more [] within = refl
 older_behind copies more (area ∷ areas) within =
     λ i. record { start = area.start; sectors = area.sectors; reading = older_gives copies more area.gives within.0 i }
-        ∷ older_behind copies more areas within.1 i
+    ∷ older_behind copies more areas within.1 i
 
 -- areas that were read before give what they gave
 pub older_areas : (old new : List GroupCopy) (areas : List AreaRead) → Continues old new → AreasGiveAtMost (length old) areas

@@ -1,6 +1,6 @@
 -- What an answer shows of the readings that it stands on.
-use Rattle.std.proofs.Common.{◌≡◌, ◌<◌, ℕ, ◌+◌, Bool, true, false, not, ◌&&◌, cond, eqb, List, [], ◌∷◌, ◌++◌, length, Option, Some, None,
-    refl, sym, ap, arith}
+use Rattle.std.proofs.Common.{◌≡◌, ◌<◌, ℕ, ◌+◌, Bool, true, false, not, ◌&&◌, cond, eqb, List, [], ◌∷◌, ◌++◌, length, Option, Some, None}
+use Rattle.std.proofs.Common.{refl, sym, ap, arith}
 use Rattle.std.specs.Prelude.{option_map, unwrap_or, find, filter_map, All, IfSome}
 use Rattle.std.specs.Option.{option_and_then}
 use Rattle.std.specs.List.{enumerate_from, flat_map, list_any}
@@ -10,10 +10,10 @@ use Rattle.meta_model.specs.declared.group.Group.{Group}
 use Rattle.scan_rules.specs.declared.copy_refusal.CopyRefusal.{CopyRefusal}
 use Rattle.scan_rules.specs.declared.decision.Decided.{Decided}
 use Rattle.scan_rules.specs.Answers.{IsDecided}
-use Rattle.scan_rules.specs.Decision.{Area, AreaReading, Conflict, DuplicatePv, Found, FoundGroup, Held, NoCopy, NoGroup, PvShape, Reading,
-    ScanAnswer, TwoGroups, Unsupported, best, conflict, copies, decide_scan, duplicates, first_duplicate, first_misplaced, found_with,
-    gives, ids_from, is_held, is_listed, is_something, misshapen_by, no_copy, readings_in, refusals, same_bytes, stale_in, sum_agrees,
-    two_groups, unsupported}
+use Rattle.scan_rules.specs.Decision.{Area, AreaReading, Conflict, DuplicatePv, Found, FoundGroup, Held, NoCopy, NoGroup, PvShape, Reading}
+use Rattle.scan_rules.specs.Decision.{ScanAnswer, TwoGroups, Unsupported, best, conflict, copies, decide_scan, duplicates, first_duplicate}
+use Rattle.scan_rules.specs.Decision.{first_misplaced, found_with, gives, ids_from, is_held, is_listed, is_something, misshapen_by, no_copy}
+use Rattle.scan_rules.specs.Decision.{readings_in, refusals, same_bytes, stale_in, sum_agrees, two_groups, unsupported}
 use Rattle.scan_rules.specs.Found.{missing_of}
 use Rattle.vg_found.proofs.KeptLists.{all_kept}
 
@@ -21,7 +21,7 @@ use Rattle.vg_found.proofs.KeptLists.{all_kept}
 abbrev pub HasPlaces : List Reading → ScanAnswer → Type 0
 HasPlaces rs (FoundGroup held stale strays missing) =
     (first_misplaced held.group rs ≡ None) × All (λ (area : ℕ × ℕ). area.0 < length rs) stale × All (λ (pv : ℕ). pv < length rs) strays
-        × (missing ≡ missing_of rs held.group.pvs)
+    × (missing ≡ missing_of rs held.group.pvs)
 HasPlaces rs NoGroup = Unit {0}
 HasPlaces rs (DuplicatePv a b) = Unit {0}
 HasPlaces rs (NoCopy refused) = Unit {0}
@@ -42,7 +42,7 @@ numbered_below : (n count : ℕ) (rs : List Reading) → n + length rs ≡ count
 numbered_below n count [] is = All-nil (λ (d : ℕ × Reading). d.0 < count)
 numbered_below n count (r ∷ rs) is =
     All-cons (λ (d : ℕ × Reading). d.0 < count) (n, r) (enumerate_from (n + 1) rs) (omega arith)
-        (numbered_below (n + 1) count rs (omega arith))
+    (numbered_below (n + 1) count rs (omega arith))
 
 stale_here : (text : List ℕ) (n : ℕ) (reading : Option AreaReading) (area : ℕ) (stale : ℕ × ℕ)
     → option_and_then (λ (r : AreaReading). cond (gives text r) None (Some (n, area))) reading ≡ Some stale → stale.0 ≡ n
@@ -57,7 +57,7 @@ stale_on_disk : (text : List ℕ) (n count : ℕ) (pv : Option Found) → n < co
     (unwrap_or
     (option_map
     (λ (found : Found). filter_map (λ (area : ℕ × Area). option_and_then (λ (r : AreaReading). cond (gives text r) None (Some (n, area.0)))
-        area.1.reading) (enumerate_from 0 found.areas))
+    area.1.reading) (enumerate_from 0 found.areas))
     pv)
     [])
 stale_on_disk text n count None below = All-nil (λ (area : ℕ × ℕ). area.0 < count)
@@ -87,7 +87,7 @@ places rs held well = (
   all_kept (λ (pv : ℕ). pv < length rs) (λ (d : ℕ × Reading). d.0 < length rs)
       (λ (d : ℕ × Reading). cond (not (is_listed held.group d.1) && list_any is_something (readings_in d.1)) (Some d.0) None)
       (λ d pv below is. let same : pv ≡ d.0 = stray_here d.0 pv (not (is_listed held.group d.1) && list_any is_something (readings_in d.1))
-          is in omega (arith, below, same))
+      is in omega (arith, below, same))
       (enumerate_from 0 rs) (numbered_below 0 (length rs) rs (omega arith)),
   refl,
 )
@@ -122,13 +122,13 @@ past_two_groups rs (c ∷ cs) =
 abbrev conflict_with : List Held → Held → Option ScanAnswer
 conflict_with cs b =
     option_map (λ (d : Held). Conflict b.disk d.disk b.group.seqno)
-        (find (λ (d : Held). eqb d.group.seqno b.group.seqno && not (same_bytes d.text b.text)) cs)
+    (find (λ (d : Held). eqb d.group.seqno b.group.seqno && not (same_bytes d.text b.text)) cs)
 
 past_conflict : (rs : List Reading) (cs : List Held) (b : Option Held) → IfSome (option_and_then (conflict_with cs) b) (HasPlaces rs)
 past_conflict rs cs None = tt
 past_conflict rs cs (Some b) =
     refuses rs (λ (d : Held). Conflict b.disk d.disk b.group.seqno) (λ d. tt)
-        (find (λ (d : Held). eqb d.group.seqno b.group.seqno && not (same_bytes d.text b.text)) cs)
+    (find (λ (d : Held). eqb d.group.seqno b.group.seqno && not (same_bytes d.text b.text)) cs)
 
 well_placed : (rs : List Reading) (b : Held) (o : Option ℕ) → first_misplaced b.group rs ≡ o → (h : Bool)
     → HasPlaces rs (unwrap_or (unwrap_or (option_map (λ (disk : ℕ). Some (PvShape disk)) o) (cond h None (Some (PvShape b.disk))))

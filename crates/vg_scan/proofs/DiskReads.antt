@@ -1,6 +1,6 @@
 -- The spans that are read on a disk: each is of the disk, and they are few.
-use Rattle.std.proofs.Common.{◌≡◌, ◌<◌, ◌≤◌, ℕ, ◌+◌, ◌*◌, ◌/◌, ◌++◌, List, [], ◌∷◌, All, get_or, length, map, Option, Some, None, IfSome,
-    Bool, true, false, if◌then◌else◌, refl, sym, ap, subst, ◌∙◌, arith, length-append}
+use Rattle.std.proofs.Common.{◌≡◌, ◌<◌, ◌≤◌, ℕ, ◌+◌, ◌*◌, ◌/◌, ◌++◌, List, [], ◌∷◌, All, get_or, length, map, Option, Some, None, IfSome}
+use Rattle.std.proofs.Common.{Bool, true, false, if◌then◌else◌, refl, sym, ap, subst, ◌∙◌, arith, length-append}
 use Rattle.std.specs.Option.{option_map_or}
 use Rattle.std.proofs.lemmas.List.{append-nil, get_or_append_left, length-map}
 use Rattle.std.proofs.lemmas.List.Elements.{All-append, All-cons, All-map, All-nil}
@@ -60,7 +60,7 @@ text_own area locn =
     let all : ℕ = touched_count area.size locn.offset locn.size in
     let to_end : ℕ = sectors_to_end area.size locn.offset in
     pair_own area.pv (ring_spans area locn.offset locn.size).0 (ring_spans area locn.offset locn.size).1 refl
-        (if_own area.pv _ (span_of_area area 1 _) refl)
+    (if_own area.pv _ (span_of_area area 1 _) refl)
 
 entry_own : (area : Area) (entry : HeaderEntry) → All (IsOn area.pv) (entry_spans area entry)
 entry_own area Ignored = All-nil (IsOn area.pv)
@@ -85,7 +85,7 @@ texts_few : (pv : ℕ) (areas : List AreaFound) → length (text_spans_in pv are
 texts_few pv [] = omega arith
 texts_few pv (found ∷ areas) =
     let long : length (spans_in pv found ++ text_spans_in pv areas) ≡ length (spans_in pv found) + length (text_spans_in pv areas) =
-        length-append (spans_in pv found) (text_spans_in pv areas) in
+    length-append (spans_in pv found) (text_spans_in pv areas) in
     let one : length (spans_in pv found) ≤ 2 = entry_few (area_on pv found.area) found.entry in
     let more : length (text_spans_in pv areas) ≤ 2 * length areas = texts_few pv areas in
     omega arith
@@ -145,7 +145,7 @@ headers_until pv sectors before after refusal until =
     let areas : List Extent = until.0 in
     let u : ReadsUntil pv before (label_span pv ∷ area_spans pv areas) after refusal = until.2 in
     let few : length u.read ≤ length (label_span pv ∷ area_spans pv areas) =
-        front_few u.read u.rest (label_span pv ∷ area_spans pv areas) u.front in
+    front_few u.read u.rest (label_span pv ∷ area_spans pv areas) u.front in
     let long : length (label_span pv ∷ area_spans pv areas) ≡ 1 + length areas = headers_few pv areas in (
       told_reads pv sectors areas before.told after.told u.read until.1
           (front_own pv u.read u.rest (label_span pv ∷ area_spans pv areas) u.front (headers_own pv areas)) (omega arith) u.reads,
@@ -179,9 +179,9 @@ module _ (pv sectors : ℕ) (found : PvFound) (before there after : State) (stan
       let same : length (areas_in found) ≡ length (areas_found found) = as_many pv sectors found stands in
       told_reads pv sectors (areas_found found) before.told after.told read
       (holds_weaker before.told pv (λ sector_at. IsFound sector_at sectors found)
-          (λ sector_at. AreAreasOf sector_at sectors (areas_found found)) (λ sector_at here. are_areas sector_at sectors found here) is)
+      (λ sector_at. AreAreasOf sector_at sectors (areas_found found)) (λ sector_at here. are_areas sector_at sectors found here) is)
       (front_own pv read rest (headers ++ texts) front
-          (All-append (IsOn pv) headers texts (headers_own pv (areas_found found)) (texts_own pv (areas_in found))))
+      (All-append (IsOn pv) headers texts (headers_own pv (areas_found found)) (texts_own pv (areas_in found))))
       (omega arith) reads
 
   -- all of them were read
@@ -205,7 +205,7 @@ module _ (pv sectors : ℕ) (found : PvFound) (before there after : State) (stan
   unfolding headers
   disk_reads reading reads =
       holds_both before.told pv (λ sector_at. IsFound sector_at sectors found) (λ sector_at. IsPvReading pv sector_at (Some found) reading)
-          (λ sector_at. IsDiskRead pv sector_at sectors found reading)
+      (λ sector_at. IsDiskRead pv sector_at sectors found reading)
       (λ sector_at a b. record { contents_is = a; pv_is = b })
       is
       (holds_before before.told there.told headers pv (λ sector_at. IsPvReading pv sector_at (Some found) reading) went.reads reads)

@@ -21,7 +21,7 @@ pub wanting_after : (pv : ℕ) (before after : State) (spans : List Span) (refus
     → ReadsWell before spans after → ReadsUntil pv before spans after refusal
 wanting_after pv before after spans refusal wanting went =
     subst (λ (r : ReadRefusal). ReadsUntil pv before spans after r) (sym wanting)
-        (until_wanting pv before after spans [] spans (append-nil spans) went)
+    (until_wanting pv before after spans [] spans (append-nil spans) went)
 
 -- what the bytes give that were read is what those of the disk give
 pub given_by_bytes : (area : Area) (locn : Locn) (before : State) (bytes : List ℕ) (copies : List GroupCopy)
@@ -32,6 +32,6 @@ pub given_by_bytes : (area : Area) (locn : Locn) (before : State) (bytes : List 
     (λ sector_at. IsStored locn (stored_bytes sector_at area locn) (gives_of copies gives)))
 given_by_bytes area locn before bytes copies read (Ok gives) is =
     holds_weaker before.told area.pv (λ sector_at. bytes ≡ stored_bytes sector_at area locn)
-        (λ sector_at. IsStored locn (stored_bytes sector_at area locn) (gives_of copies gives))
+    (λ sector_at. IsStored locn (stored_bytes sector_at area locn) (gives_of copies gives))
     (λ sector_at same. subst (λ (l : List ℕ). IsStored locn l (gives_of copies gives)) same is) read
 given_by_bytes area locn before bytes copies read (Err refusal) is = tt

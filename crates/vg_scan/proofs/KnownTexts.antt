@@ -1,6 +1,6 @@
 -- A text that was read before is known again by its bytes.
-use Rattle.std.proofs.Common.{◌≡◌, ℕ, ◌+◌, ◌-◌, ◌<◌, ◌++◌, List, [], ◌∷◌, length, take, slice_index_or, slice_get, Bool, true, false, ◌==◌,
-    if◌then◌else◌, option_map, unwrap_or, Option, Some, refl, sym, ap, ◌∙◌, arith}
+use Rattle.std.proofs.Common.{◌≡◌, ℕ, ◌+◌, ◌-◌, ◌<◌, ◌++◌, List, [], ◌∷◌, length, take, slice_index_or, slice_get, Bool, true, false, ◌==◌}
+use Rattle.std.proofs.Common.{if◌then◌else◌, option_map, unwrap_or, Option, Some, refl, sym, ap, ◌∙◌, arith}
 use Rattle.std.proofs.lemmas.Bool.Decides.{nat_tests}
 use Rattle.std.proofs.lemmas.List.{length_push, take_all, take_more}
 use Rattle.sector_base.specs.Checksum.{checksum, lvm_crc_start}

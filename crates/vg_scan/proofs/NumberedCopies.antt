@@ -15,8 +15,8 @@ use Rattle.vg_scan.proofs.Continued.{last_copy, older_copy}
 same_key : (a b : ℕ × ℕ) → is_at (key_cmp a) b ≡ true → a ≡ b
 same_key a b is =
     let parts =
-        and_parts (a.0 == b.0) (a.1 == b.1) (both_tied (a.0 == b.0) (a.1 == b.1) (nat_cmp a.0 b.0) (nat_cmp a.1 b.1) (unsigned_ties a.0 b.0)
-            (unsigned_ties a.1 b.1) ∙ is) in
+    and_parts (a.0 == b.0) (a.1 == b.1) (both_tied (a.0 == b.0) (a.1 == b.1) (nat_cmp a.0 b.0) (nat_cmp a.1 b.1) (unsigned_ties a.0 b.0)
+    (unsigned_ties a.1 b.1) ∙ is) in
     λ i. (eqb-true a.0 b.0 parts.0 i, eqb-true a.1 b.1 parts.1 i)
 
 -- a copy that was taken in before
@@ -31,16 +31,16 @@ pub numbered_more : (old new : BTreeMap (ℕ × ℕ) ℕ) (copies : List GroupCo
     → AreNumbered new (copies ++ copy ∷ [])
 numbered_more old new copies locn copy updates numbered known key number at =
     by (is_at (key_cmp (locn.size, locn.sum)) key) refl (sym (updates.0 key) ∙ at) where
-  by : (here : Bool) → is_at (key_cmp (locn.size, locn.sum)) key ≡ here
-      → cond here (Some (length copies)) (get key_cmp old key) ≡ Some number → WasReadAt (copies ++ copy ∷ []) key number
-  by true is got = (
-    locn,
-    copy,
-    same_key (locn.size, locn.sum) key is,
-    ap (slice_get (copies ++ copy ∷ [])) (sym (same_Some (length copies) number got)) ∙ last_copy copies copy,
-    known,
-  )
-  by false is got = older copies copy key number (numbered key number got)
+      by : (here : Bool) → is_at (key_cmp (locn.size, locn.sum)) key ≡ here
+          → cond here (Some (length copies)) (get key_cmp old key) ≡ Some number → WasReadAt (copies ++ copy ∷ []) key number
+      by true is got = (
+        locn,
+        copy,
+        same_key (locn.size, locn.sum) key is,
+        ap (slice_get (copies ++ copy ∷ [])) (sym (same_Some (length copies) number got)) ∙ last_copy copies copy,
+        known,
+      )
+      by false is got = older copies copy key number (numbered key number got)
 
 -- the same of the copies that there are then
 pub numbered_by : (old new : BTreeMap (ℕ × ℕ) ℕ) (copies grown : List GroupCopy) (locn : Locn) (copy : GroupCopy) (number : ℕ)
@@ -48,7 +48,7 @@ pub numbered_by : (old new : BTreeMap (ℕ × ℕ) ℕ) (copies grown : List Gro
     → Updates key_cmp old new (locn.size, locn.sum) (Some number) → AreNumbered old copies → IsKnown locn copy → AreNumbered new grown
 numbered_by old new copies grown locn copy number last more updates numbered known =
     subst (AreNumbered new) (sym more) (numbered_more old new copies locn copy
-        (subst (λ (n : ℕ). Updates key_cmp old new (locn.size, locn.sum) (Some n)) last updates) numbered known)
+    (subst (λ (n : ℕ). Updates key_cmp old new (locn.size, locn.sum) (Some n)) last updates) numbered known)
 
 -- a number that was put in is taken out again
 pub numbered_less : (old mid new : BTreeMap (ℕ × ℕ) ℕ) (copies same : List GroupCopy) (place : ℕ × ℕ) (number : ℕ)
@@ -56,6 +56,6 @@ pub numbered_less : (old mid new : BTreeMap (ℕ × ℕ) ℕ) (copies same : Lis
     → AreNumbered new same
 numbered_less old mid new copies same place number put out kept numbered key at got =
     by (is_at (key_cmp place) key) refl (sym (out.0 key) ∙ got) where
-  by : (here : Bool) → is_at (key_cmp place) key ≡ here → cond here None (get key_cmp mid key) ≡ Some at → WasReadAt same key at
-  by true is there = absurd cc
-  by false is there = subst (λ (l : List GroupCopy). WasReadAt l key at) (sym kept) (numbered key at (sym (put.2 key is) ∙ there))
+      by : (here : Bool) → is_at (key_cmp place) key ≡ here → cond here None (get key_cmp mid key) ≡ Some at → WasReadAt same key at
+      by true is there = absurd cc
+      by false is there = subst (λ (l : List GroupCopy). WasReadAt l key at) (sym kept) (numbered key at (sym (put.2 key is) ∙ there))

@@ -1,7 +1,7 @@
 -- What stands on disks and how they read is one. That a text has one tree or one cause why it has none, and that what stands on
 -- one disk is one, is given here.
-use Rattle.std.proofs.Common.{◌≡◌, ◌≢◌, ℕ, ◌+◌, ◌/◌, true, List, [], ◌∷◌, map, Option, None, Some, Result, Ok, Err, ◌⊎◌, inl, inr, refl,
-    sym, ap, subst, ◌∙◌}
+use Rattle.std.proofs.Common.{◌≡◌, ◌≢◌, ℕ, ◌+◌, ◌/◌, true, List, [], ◌∷◌, map, Option, None, Some, Result, Ok, Err, ◌⊎◌, inl, inr, refl}
+use Rattle.std.proofs.Common.{sym, ap, subst, ◌∙◌}
 use Rattle.std.specs.FinSet as set
 use Rattle.std.specs.Ordering.{nat_cmp}
 use Rattle.sector_base.specs.Checksum.{checksum, lvm_crc_start}
@@ -33,8 +33,8 @@ use Rattle.scan_rules.specs.declared.copy_refusal.CopyRefusal.{CopyRefusal}
 use Rattle.scan_rules.specs.declared.copy_refusal.CopyRefusal.TheVariants.{HeaderRefused, SumDiffers, TextRefused, GroupRefused, RuleBroken}
 use Rattle.vg_found.specs.declared.disk.Disk.{Disk}
 use Rattle.vg_found.specs.Shape.{IsUnread}
-use Rattle.vg_scan.specs.Readings.{AreAreaReadings, AreDiskReadings, AreReadings, IsAreaReading, IsContents, IsDiskReading, IsGiven,
-    IsPvReading}
+use Rattle.vg_scan.specs.Readings.{AreAreaReadings, AreDiskReadings, AreReadings, IsAreaReading, IsContents, IsDiskReading, IsGiven}
+use Rattle.vg_scan.specs.Readings.{IsPvReading}
 use Rattle.vg_scan.specs.Texts.{IsStored, stored_bytes}
 
 -- ---- bytes that are stored
@@ -53,7 +53,7 @@ abbrev Judged : List ℕ → Conf → Result Group GroupRefusal → AreaReading 
 Judged text tree (Err refusal) given = given ≡ Refused (GroupRefused refusal)
 Judged text tree (Ok group) given =
     (IsAccepted group × (given ≡ Copy group text (passed_over tree)))
-        ⊎ ((rule : Rule) × IsFirstBroken group rule × (given ≡ Refused (RuleBroken rule)))
+    ⊎ ((rule : Rule) × IsFirstBroken group rule × (given ≡ Refused (RuleBroken rule)))
 
 abbrev Read : List ℕ → AreaReading → Type 0
 Read text given = (tree : Conf) × IsTextOf text tree × Judged text tree (group_of tree) given
@@ -120,7 +120,7 @@ module _ (trees : (text : List ℕ) (a b : Conf) → IsTextOf text a → IsTextO
   one_of_text text a b (inr x) (inl y) = absurd (refused text x.0 y.0 y.2 x.1 y.1)
   one_of_text text a b (inr x) (inr y) =
       one_judged text y.0 (group_of y.0) a b (subst (λ (tree : Conf). Judged text tree (group_of tree) a) (trees text x.0 y.0 x.1 y.1) x.2)
-          y.2
+      y.2
 
   one_of_stored : (locn : Locn) (bytes : List ℕ) (a b : AreaReading) → Stored locn bytes a → Stored locn bytes b → a ≡ b
   one_of_stored locn bytes a b (inl x) (inl y) = x.1 ∙ sym y.1
@@ -190,11 +190,11 @@ module _ (trees : (text : List ℕ) (a b : Conf) → IsTextOf text a → IsTextO
   one_disk unread pv sector_at d e x y sectors u v is is' =
       let contents : d.contents ≡ e.contents =
       one_contents sector_at e.sectors d.contents e.contents (λ none. v.1 (u.0 none)) (λ none. u.1 (v.0 none))
-          (subst (λ (n : ℕ). IsContents sector_at n d.contents) sectors is.contents) is'.contents
+      (subst (λ (n : ℕ). IsContents sector_at n d.contents) sectors is.contents) is'.contents
       in
       let read : x.pv ≡ y.pv =
-          one_pv pv sector_at e.contents x.pv y.pv (subst (λ (c : Option PvFound). IsPvReading pv sector_at c x.pv) contents is.pv_is)
-              is'.pv_is in
+      one_pv pv sector_at e.contents x.pv y.pv (subst (λ (c : Option PvFound). IsPvReading pv sector_at c x.pv) contents is.pv_is)
+      is'.pv_is in
       let same : x.sectors ≡ y.sectors = is.sectors_is ∙ sectors ∙ sym is'.sectors_is in
       (λ i. record { sectors = sectors i; contents = contents i }, λ i. record { sectors = same i; pv = read i })
 
@@ -213,10 +213,10 @@ module _ (trees : (text : List ℕ) (a b : Conf) → IsTextOf text a → IsTextO
   one_list image unread pv (d ∷ ds) (e ∷ es) (x ∷ xs) [] sizes are are' = absurd are'
   one_list image unread pv (d ∷ ds) (e ∷ es) (x ∷ xs) (y ∷ ys) sizes are are' =
       let head =
-          one_disk unread pv (image pv) d e x y (first_size d.sectors e.sectors (sectors_of ds) (sectors_of es) sizes) are.0 are'.0 are.1
-              are'.1 in
+      one_disk unread pv (image pv) d e x y (first_size d.sectors e.sectors (sectors_of ds) (sectors_of es) sizes) are.0 are'.0 are.1
+      are'.1 in
       let tail =
-          one_list image unread (pv + 1) ds es xs ys (later_sizes d.sectors e.sectors (sectors_of ds) (sectors_of es) sizes) are.2 are'.2 in
+      one_list image unread (pv + 1) ds es xs ys (later_sizes d.sectors e.sectors (sectors_of ds) (sectors_of es) sizes) are.2 are'.2 in
       (λ i. head.0 i ∷ tail.0 i, λ i. head.1 i ∷ tail.1 i)
     where
       first_size : (a b : ℕ) (as' bs : List ℕ) → a ∷ as' ≡ b ∷ bs → a ≡ b

@@ -1,6 +1,6 @@
 -- What was found by an answer has its shape.
-use Rattle.std.proofs.Common.{◌≡◌, ◌<◌, ◌≤◌, ℕ, suc, Bool, true, false, not, ◌||◌, eqb, List, [], ◌∷◌, length, map, Option, Some, None, ◌⊎◌,
-    inl, inr, refl, sym, ap, subst, ◌∙◌, arith}
+use Rattle.std.proofs.Common.{◌≡◌, ◌<◌, ◌≤◌, ℕ, suc, Bool, true, false, not, ◌||◌, eqb, List, [], ◌∷◌, length, map, Option, Some, None, ◌⊎◌}
+use Rattle.std.proofs.Common.{inl, inr, refl, sym, ap, subst, ◌∙◌, arith}
 use Rattle.std.specs.Prelude.{option_map, unwrap_or, filter, slice_get, All, AllPairs, IfSome}
 use Rattle.std.specs.FinSet as set
 use Rattle.std.specs.List.{list_any}
@@ -13,8 +13,9 @@ use Rattle.meta_model.specs.declared.pv.Pv.{Pv}
 use Rattle.scan_rules.specs.declared.decision.Decided.{Decided}
 use Rattle.scan_rules.specs.declared.readings.GroupCopy.{GroupCopy}
 use Rattle.scan_rules.specs.Answers.{IsDecided}
-use Rattle.scan_rules.specs.Decision.{Conflict, DuplicatePv, Found as PvOf, FoundGroup, NoCopy, NoGroup, PvShape, Reading, SameHeaders,
-    SamePv, ScanAnswer, TwoGroups, Unsupported, decide_scan, first_duplicate, first_misplaced, has_id, ids_from, same_bytes}
+use Rattle.scan_rules.specs.Decision.{Conflict, DuplicatePv, Found as PvOf, FoundGroup, NoCopy, NoGroup, PvShape, Reading, SameHeaders}
+use Rattle.scan_rules.specs.Decision.{SamePv, ScanAnswer, TwoGroups, Unsupported, decide_scan, first_duplicate, first_misplaced, has_id}
+use Rattle.scan_rules.specs.Decision.{ids_from, same_bytes}
 use Rattle.scan_rules.specs.Found.{missing_of}
 use Rattle.scan_rules.proofs.SameShape.{find_same, ids_same}
 use Rattle.vg_found.specs.declared.disk.Disk.{Disk}
@@ -69,7 +70,7 @@ in_list P [] all q there = absurd (false≢true (sym (set.contains-empty nat_cmp
 in_list P (x ∷ l) all q there =
     let cases : (eqb q x || set.contains (set.from_list {R = nat_cmp} l) q) ≡ true =
     ap (λ (t : Bool). t || set.contains (set.from_list {R = nat_cmp} l) q) (sym (unsigned_tied q x))
-        ∙ sym (set.contains-insert nat_cmp_total (set.from_list l) x q) ∙ there
+    ∙ sym (set.contains-insert nat_cmp_total (set.from_list l) x q) ∙ there
     in
     here_or_later (or_cases (eqb q x) (set.contains (set.from_list {R = nat_cmp} l) q) cases) (in_list P l (All-tail P x l all) q)
   where
@@ -100,7 +101,7 @@ any_same_id id [] (b ∷ bs) same = absurd same
 any_same_id id (a ∷ as') [] same = absurd same
 any_same_id id (a ∷ as') (b ∷ bs) same =
     ap (λ (t : Bool). t || list_any (has_id id) as') (same_id_on id a.pv b.pv same.1)
-        ∙ ap (λ (t : Bool). has_id id b || t) (any_same_id id as' bs same.2)
+    ∙ ap (λ (t : Bool). has_id id b || t) (any_same_id id as' bs same.2)
 
 missing_same : (as' bs : List Reading) (pvs : List (List ℕ × Pv)) → SameHeaders as' bs → missing_of as' pvs ≡ missing_of bs pvs
 missing_same as' bs pvs same =
@@ -120,21 +121,21 @@ places_of rs (FoundGroup held stale strays missing) decided is places = record {
   placed = subst (λ (o : Option GroupCopy). IfSome o (λ (copy : GroupCopy). first_misplaced copy.group rs ≡ None)) (sym is.0) places.0;
   missing =
       subst (λ (o : Option GroupCopy). IfSome o (λ (copy : GroupCopy). decided.missing ≡ missing_of rs copy.group.pvs)) (sym is.0)
-          (is.3 ∙ places.3);
+      (is.3 ∙ places.3);
   stale = subst (λ (l : List (ℕ × ℕ)). All (λ (area : ℕ × ℕ). area.0 < length rs) l) (sym is.1) places.1;
   strays =
       λ pv there. in_list (λ (n : ℕ). n < length rs) strays places.2 pv
-          (ap (λ (s : set.FinSet nat_cmp). set.contains s pv) (sym is.2) ∙ there);
+      (ap (λ (s : set.FinSet nat_cmp). set.contains s pv) (sym is.2) ∙ there);
 }
 places_of rs NoGroup decided is places = record {
   placed = subst (λ (o : Option GroupCopy). IfSome o (λ (copy : GroupCopy). first_misplaced copy.group rs ≡ None)) (sym is.0) tt;
   missing = subst (λ (o : Option GroupCopy). IfSome o (λ (copy : GroupCopy). decided.missing ≡ missing_of rs copy.group.pvs)) (sym is.0) tt;
   stale =
       subst (λ (l : List (ℕ × ℕ)). All (λ (area : ℕ × ℕ). area.0 < length rs) l) (sym is.1)
-          (All-nil (λ (area : ℕ × ℕ). area.0 < length rs));
+      (All-nil (λ (area : ℕ × ℕ). area.0 < length rs));
   strays =
       λ pv there. absurd (false≢true (sym (ap (λ (s : set.FinSet nat_cmp). set.contains s pv) is.2 ∙ set.contains-empty nat_cmp pv)
-          ∙ there));
+      ∙ there));
 }
 places_of rs (DuplicatePv a b) decided is places = absurd is
 places_of rs (NoCopy refused) decided is places = absurd is
@@ -164,7 +165,7 @@ has_shape : (disks : List Disk) (unread : set.FinSet nat_cmp) (rs : List Reading
 has_shape disks unread rs a decided found some few have shaped single places is parts disks_are unread_are areas_are disk_of_is =
     let at : HasPlacesOf rs decided = places_of rs a decided is places in
     let count : length rs ≡ length found.disks =
-        sym (headers_length (shapes disks) rs have.headers) ∙ shapes_length disks ∙ ap length (sym disks_are) in
+    sym (headers_length (shapes disks) rs have.headers) ∙ shapes_length disks ∙ ap length (sym disks_are) in
     let take_apart = shaped disks (λ pv disk there. (have.each pv disk there).0) in
     record {
       some = subst (λ (l : List Disk). 1 ≤ length l) (sym disks_are) some;
@@ -174,14 +175,14 @@ has_shape disks unread rs a decided found some few have shaped single places is 
           (each.0, subst (λ (s : set.FinSet nat_cmp). IsUnread s pv disk) (sym unread_are) each.1);
       differ =
           ap (λ (l : List Disk). first_duplicate (ids_from 0 (shapes l))) disks_are
-              ∙ ap first_duplicate (ids_same 0 (shapes disks) rs have.headers) ∙ single;
+          ∙ ap first_duplicate (ids_same 0 (shapes disks) rs have.headers) ∙ single;
       areas = areas_are ∙ ap (held_areas 0) (sym disks_are);
       take = subst (All CanTake) (sym areas_are) take_apart.0;
       apart = subst (AllPairs LieApart) (sym areas_are) take_apart.1;
       placed = of_copy (λ group. first_misplaced group (shapes found.disks) ≡ None) decided.copy found.group parts.group
           (weaker (λ copy. first_misplaced copy.group rs ≡ None) (λ copy. first_misplaced copy.group (shapes found.disks) ≡ None)
           (λ copy none. ap (λ (l : List Disk). first_misplaced copy.group (shapes l)) disks_are
-              ∙ find_same copy.group 0 (shapes disks) rs have.headers ∙ none)
+          ∙ find_same copy.group 0 (shapes disks) rs have.headers ∙ none)
           decided.copy at.placed);
       disk_of = of_copy (λ group. found.disk_of ≡ disks_of group found.disks) decided.copy found.group parts.group
           (weaker (λ copy. found.disk_of ≡ disks_of copy.group disks) (λ copy. found.disk_of ≡ disks_of copy.group found.disks)
@@ -189,19 +190,19 @@ has_shape disks unread rs a decided found some few have shaped single places is 
           decided.copy disk_of_is);
       missing = of_copy (λ group. found.missing ≡ missing_of (shapes found.disks) group.pvs) decided.copy found.group parts.group
           (weaker (λ copy. decided.missing ≡ missing_of rs copy.group.pvs)
-              (λ copy. found.missing ≡ missing_of (shapes found.disks) copy.group.pvs)
+          (λ copy. found.missing ≡ missing_of (shapes found.disks) copy.group.pvs)
           (λ copy same. parts.missing ∙ same ∙ sym (missing_same (shapes disks) rs copy.group.pvs have.headers)
-              ∙ ap (λ (l : List Disk). missing_of (shapes l) copy.group.pvs) (sym disks_are))
+          ∙ ap (λ (l : List Disk). missing_of (shapes l) copy.group.pvs) (sym disks_are))
           decided.copy at.missing);
       stale =
           subst (λ (l : List (ℕ × ℕ)). All (λ (area : ℕ × ℕ). area.0 < length found.disks) l) (sym parts.stale)
-              (subst (λ (n : ℕ). All (λ (area : ℕ × ℕ). area.0 < n) decided.stale) count at.stale);
+          (subst (λ (n : ℕ). All (λ (area : ℕ × ℕ). area.0 < n) decided.stale) count at.stale);
       strays =
           λ pv there. let below : pv < length rs = at.strays pv
-              (ap (λ (s : set.FinSet nat_cmp). set.contains s pv) (sym parts.strays) ∙ there) in omega (arith, below, count);
+          (ap (λ (s : set.FinSet nat_cmp). set.contains s pv) (sym parts.strays) ∙ there) in omega (arith, below, count);
       unread =
           λ pv there. let below : pv < length disks = have.below pv
-              (ap (λ (s : set.FinSet nat_cmp). set.contains s pv) (sym unread_are) ∙ there) in omega (arith, below, ap length disks_are);
+          (ap (λ (s : set.FinSet nat_cmp). set.contains s pv) (sym unread_are) ∙ there) in omega (arith, below, ap length disks_are);
     }
   where
     shapes_length : (l : List Disk) → length (shapes l) ≡ length l
@@ -221,5 +222,5 @@ outcome_of disks unread rs decided found some few have shaped is parts disks_are
   areas = areas_are;
   shape =
       has_shape disks unread rs (decide_scan rs) decided found some few have shaped (no_duplicate rs decided is) (answer_places rs) is parts
-          disks_are unread_are areas_are disk_of_is;
+      disks_are unread_are areas_are disk_of_is;
 }

@@ -1,6 +1,6 @@
 -- The physical volume of a disk, as its areas read.
-use Rattle.std.proofs.Common.{◌≡◌, ◌<◌, ◌≤◌, ℕ, suc, ◌+◌, ◌*◌, ◌^◌, List, [], ◌∷◌, length, map, Option, Some, refl, sym, ap, subst, ◌∙◌,
-    arith}
+use Rattle.std.proofs.Common.{◌≡◌, ◌<◌, ◌≤◌, ℕ, suc, ◌+◌, ◌*◌, ◌^◌, List, [], ◌∷◌, length, map, Option, Some, refl, sym, ap, subst, ◌∙◌}
+use Rattle.std.proofs.Common.{arith}
 use Rattle.std.proofs.lemmas.List.{length-map}
 use Rattle.disk_model.specs.Since.{HoldsOfDisk}
 use Rattle.disk_model.specs.Steps.{Record}
@@ -39,7 +39,7 @@ pub places_passed : (slice areas : List AreaFound) (items all : List AreaRead) (
     → HavePlaces slice (map (area_of copies) items) → HavePlaces areas (map (area_of copies) all)
 places_passed slice areas items all copies here there are =
     subst (λ (l : List AreaFound). HavePlaces l (map (area_of copies) all)) here
-        (subst (λ (l : List AreaRead). HavePlaces slice (map (area_of copies) l)) (sym there) are)
+    (subst (λ (l : List AreaRead). HavePlaces slice (map (area_of copies) l)) (sym there) are)
 
 pub readings_passed : (pv : ℕ) (told : Option Record) (slice areas : List AreaFound) (items all : List AreaRead) (copies : List GroupCopy)
     → slice ≡ areas → all ≡ items
@@ -48,7 +48,7 @@ pub readings_passed : (pv : ℕ) (told : Option Record) (slice areas : List Area
 readings_passed pv told slice areas items all copies here there are =
     subst (λ (l : List AreaFound). HoldsOfDisk told pv (λ sector_at. AreAreaReadings pv sector_at l (map (area_of copies) all))) here
     (subst (λ (l : List AreaRead). HoldsOfDisk told pv (λ sector_at. AreAreaReadings pv sector_at slice (map (area_of copies) l)))
-        (sym there) are)
+    (sym there) are)
 
 module _ (pv sectors label : ℕ) (header : PvHeader) (areas : List AreaFound) (stands : CanStand pv sectors (Whole label header areas))
     (copies : List GroupCopy) (all : List AreaRead)
@@ -67,6 +67,8 @@ module _ (pv sectors label : ℕ) (header : PvHeader) (areas : List AreaFound) (
 
   -- it lies where its header says
   pub shape_read : HasItsShape (Whole label header areas) (pv_read copies (Some (record { id = header.id; areas = all })))
-  shape_read =
-      (refl, subst (λ (l : List Extent). SameAreas (map area_shape l) (map (area_of copies) all)) stands.2
-          (same_areas areas (map (area_of copies) all) places))
+  shape_read = (
+    refl,
+    subst (λ (l : List Extent). SameAreas (map area_shape l) (map (area_of copies) all)) stands.2
+        (same_areas areas (map (area_of copies) all) places),
+  )

@@ -1,6 +1,6 @@
 -- What one disk gives is taken in, and what all disks come to is the scan.
-use Rattle.std.proofs.Common.{◌≡◌, ◌≢◌, ◌<◌, ◌≤◌, ℕ, ◌+◌, List, [], ◌∷◌, ◌++◌, length, map, get_or, Option, Some, None, Result, Ok, Err,
-    refl, sym, ap, subst, ◌∙◌, arith}
+use Rattle.std.proofs.Common.{◌≡◌, ◌≢◌, ◌<◌, ◌≤◌, ℕ, ◌+◌, List, [], ◌∷◌, ◌++◌, length, map, get_or, Option, Some, None, Result, Ok, Err}
+use Rattle.std.proofs.Common.{refl, sym, ap, subst, ◌∙◌, arith}
 use Rattle.std.specs.Prelude.{option_map, IfOk, IsErrAnd, MatchResult}
 use Rattle.std.specs.FinSet as set
 use Rattle.std.specs.Ordering.{nat_cmp}
@@ -67,9 +67,12 @@ read_taken pv old new before mid after sectors contents read r kept size holds s
     taken_in pv old new before mid after sectors (Some contents) read r kept size
     (of_disk.holds_weaker old.told pv (λ sector_at. IsDiskRead pv sector_at (get_or old.sizes pv 0) contents read)
     (λ sector_at. IsDiskReading pv sector_at (record { sectors = sectors; contents = Some contents })
-        (record { sectors = sectors; pv = read }))
-    (λ sector_at is. record { contents = subst (λ (n : ℕ). IsFound sector_at n contents) (sym size) is.contents_is; sectors_is = refl;
-        pv_is = is.pv_is })
+    (record { sectors = sectors; pv = read }))
+    (λ sector_at is. record {
+      contents = subst (λ (n : ℕ). IsFound sector_at n contents) (sym size) is.contents_is;
+      sectors_is = refl;
+      pv_is = is.pv_is;
+    })
     holds)
     (subst (λ (n : ℕ). CanStand pv n contents) (sym size) stands) same faults taken
 
@@ -82,7 +85,7 @@ unread_taken pv old new before mid after sectors fault r kept size cause taken =
     let last : IsLastFault old new pv (Reads cause.1.0) = cause.1.1 in
     taken_in pv old new before mid after sectors None None r kept size
     (of_disk.holds_always old.told pv (λ sector_at. IsDiskReading pv sector_at (record { sectors = sectors; contents = None })
-        (record { sectors = sectors; pv = None })) (λ sector_at. record { contents = tt; sectors_is = refl; pv_is = refl }))
+    (record { sectors = sectors; pv = None })) (λ sector_at. record { contents = tt; sectors_is = refl; pv_is = refl }))
     tt tt (omega (arith, last.one), last.others) taken
 
 -- ---- all disks
@@ -110,7 +113,7 @@ scan_found s0 s count disks unread readings found scanned all is = record {
         readings = readings;
         are = subst (λ (l : List Disk). AreReadings image s0.sizes found.unread l readings) (sym is.disks_are)
             (subst (λ (p : set.FinSet nat_cmp). AreReadings image s0.sizes p disks readings) (sym is.unread_are)
-                (all_read s0 s count disks unread readings scanned all image each));
+            (all_read s0 s count disks unread readings scanned all image each));
         answer = is.answer;
         areas = is.areas ∙ ap (held_areas 0) (sym is.disks_are);
         disk_of = is.shape.disk_of;
@@ -126,8 +129,12 @@ refusal_of : (s0 s : State) (count : ℕ) (disks : List Disk) (unread : set.FinS
     → HoldsNow s0.told (λ image. IsRefusalOfScan image s0.sizes unread refusal) × FailedOn unread s0 s
 refusal_of s0 s count disks unread readings refusal scanned all is = (
   holds_weaker s0.told (λ image. AreDiskReadings image unread 0 disks readings) (λ image. IsRefusalOfScan image s0.sizes unread refusal)
-      (λ image each. record { disks = disks; readings = readings; are = all_read s0 s count disks unread readings scanned all image each;
-          answer = is })
+      (λ image each. record {
+        disks = disks;
+        readings = readings;
+        are = all_read s0 s count disks unread readings scanned all image each;
+        answer = is;
+      })
       scanned.now,
   scanned.faults,
 )

@@ -1,6 +1,7 @@
 -- One disk more was scanned.
-use Rattle.std.proofs.Common.{◌≡◌, ◌≢◌, ◌<◌, ◌≤◌, ℕ, zero, suc, ◌+◌, ◌*◌, ◌^◌, Bool, true, false, ◌||◌, eqb, cond, List, [], ◌∷◌, ◌++◌,
-    length, map, take, get_or, Option, Some, None, ◌⊎◌, inl, inr, refl, sym, ap, subst, ◌∙◌, add-one, arith, length-append}
+use Rattle.std.proofs.Common.{◌≡◌, ◌≢◌, ◌<◌, ◌≤◌, ℕ, zero, suc, ◌+◌, ◌*◌, ◌^◌, Bool, true, false, ◌||◌, eqb, cond, List, [], ◌∷◌, ◌++◌}
+use Rattle.std.proofs.Common.{length, map, take, get_or, Option, Some, None, ◌⊎◌, inl, inr, refl, sym, ap, subst, ◌∙◌, add-one, arith}
+use Rattle.std.proofs.Common.{length-append}
 use Rattle.std.specs.Prelude.{filter, is_none, option_map, slice_get, All}
 use Rattle.std.specs.FinSet as set
 use Rattle.std.specs.Cmp.{nat_cmp_total, unsigned_tied}
@@ -37,7 +38,7 @@ reads_both : (first more : List Span) (old mid new : Record) → OnlyReads old f
     → OnlyReads old (first ++ more) new
 reads_both first more old mid new a b =
     let both =
-        reads_told_both first more (Some old) (Some mid) (Some new) (told_reads old mid first a) (told_reads mid new more b) old refl in
+    reads_told_both first more (Some old) (Some mid) (Some new) (told_reads old mid first a) (told_reads mid new more b) old refl in
     subst (λ (t : Record). OnlyReads old (first ++ more) t) (sym (same_Some new both.0 both.1)) both.2
 
 only_below : (count : ℕ) (sizes : List ℕ) (old new : Record) (reads : ReadsFewBelow count sizes old new)
@@ -53,7 +54,7 @@ none_on pv own (span ∷ spans) all other =
     let here : span.pv ≡ own = All-head (λ (s : Span). s.pv ≡ own) span spans all in
     let apart : eqb span.pv pv ≡ false = grind (arith, nat_tests) in
     ap (λ (b : Bool). cond b (span ∷ spans_on pv spans) (spans_on pv spans)) apart
-        ∙ none_on pv own spans (All-tail (λ (s : Span). s.pv ≡ own) span spans all) other
+    ∙ none_on pv own spans (All-tail (λ (s : Span). s.pv ≡ own) span spans all) other
 
 no_more : (pv : ℕ) (spans : List Span) → length (spans_on pv spans) ≤ length spans
 no_more pv [] = omega arith
@@ -86,13 +87,13 @@ few_of_both image sizes count first more areas few none own are bound pv = of (s
   of : (pv ≡ count) ⊎ (pv ≢ count) → FewOn image sizes (first ++ more) pv
   of (inl same) =
       let here : spans_on pv (first ++ more) ≡ spans_on pv more =
-          on_both pv first more ∙ ap (λ (l : List Span). l ++ spans_on pv more) (none pv (omega (arith, same))) in
+      on_both pv first more ∙ ap (λ (l : List Span). l ++ spans_on pv more) (none pv (omega (arith, same))) in
       let fewer : length (spans_on pv more) ≤ length more = no_more pv more in
       (areas, subst (λ (n : ℕ). AreAreasOf (image n) (get_or sizes n 0) areas) (sym same) are, omega (arith, ap length here, fewer, bound))
   of (inr other) =
       let here : spans_on pv (first ++ more) ≡ spans_on pv first =
       on_both pv first more ∙ ap (λ (l : List Span). spans_on pv first ++ l) (none_on pv count more own other)
-          ∙ append-nil (spans_on pv first)
+      ∙ append-nil (spans_on pv first)
       in
       ((few pv).0, (few pv).1, omega (arith, ap length here, (few pv).2))
 
@@ -100,7 +101,7 @@ none_of_both : (count : ℕ) (first more : List Span) → ((pv : ℕ) → count 
     → All (λ (span : Span). span.pv ≡ count) more → (pv : ℕ) → count + 1 ≤ pv → spans_on pv (first ++ more) ≡ []
 none_of_both count first more none own pv above =
     on_both pv first more ∙ ap (λ (l : List Span). l ++ spans_on pv more) (none pv (omega arith))
-        ∙ none_on pv count more own (λ same. absurd (omega (arith, same, above)))
+    ∙ none_on pv count more own (λ same. absurd (omega (arith, same, above)))
 
 more_reads : (count : ℕ) (sizes : List ℕ) (old mid new : Record) → ReadsFewBelow count sizes old mid
     → ReadsDisk count (get_or sizes count 0) mid new → ReadsFewBelow (count + 1) sizes old new
@@ -108,18 +109,18 @@ more_reads count sizes old mid new a b =
     let first : List Span = spans_read a.since in
     let more : List Span = spans_read b.since in
     let both : OnlyReads old (first ++ more) new =
-        reads_both first more old mid new (only_below count sizes old mid a) (only_disk count (get_or sizes count 0) mid new b) in
+    reads_both first more old mid new (only_below count sizes old mid a) (only_disk count (get_or sizes count 0) mid new b) in
     let same : now_after mid.opened mid.steps ≡ now_after old.opened old.steps =
-        same_now old mid first (only_below count sizes old mid a) in
+    same_now old mid first (only_below count sizes old mid a) in
     let are : AreAreasOf (now_after old.opened old.steps count) (get_or sizes count 0) b.areas =
-        subst (λ (image : Image). AreAreasOf (image count) (get_or sizes count 0) b.areas) same b.are in
+    subst (λ (image : Image). AreAreasOf (image count) (get_or sizes count 0) b.areas) same b.are in
     record {
       since = both.since;
       steps = both.steps;
       reads = both.reads;
       few =
           subst (λ (l : List Span). AreFewReads (now_after old.opened old.steps) sizes l) (sym both.spans_are)
-              (few_of_both (now_after old.opened old.steps) sizes count first more b.areas a.few a.none_above b.own are b.few);
+          (few_of_both (now_after old.opened old.steps) sizes count first more b.areas a.few a.none_above b.own are b.few);
       none_above = λ pv above. ap (spans_on pv) both.spans_are ∙ none_of_both count first more a.none_above b.own pv above;
     }
 
@@ -128,13 +129,13 @@ pub more_told : (count : ℕ) (sizes : List ℕ) (s0 s1 s2 : Option Record) → 
     → BetweenRecords (ReadsDisk count (get_or sizes count 0)) s1 s2 → BetweenRecords (ReadsFewBelow (count + 1) sizes) s0 s2
 more_told count sizes s0 s1 s2 a b =
     between_both (ReadsFewBelow count sizes) (ReadsDisk count (get_or sizes count 0)) (ReadsFewBelow (count + 1) sizes) s0 s1 s2
-        (more_reads count sizes) a b
+    (more_reads count sizes) a b
 
 pub few_told : (count : ℕ) (sizes : List ℕ) (s0 s1 : Option Record) → BetweenRecords (ReadsFewBelow count sizes) s0 s1
     → BetweenRecords (ReadsFew sizes) s0 s1
 few_told count sizes s0 s1 a =
     between_weaker (ReadsFewBelow count sizes) (ReadsFew sizes) s0 s1
-        (λ old new r. record { since = r.since; steps = r.steps; reads = r.reads; few = r.few }) a
+    (λ old new r. record { since = r.since; steps = r.steps; reads = r.reads; few = r.few }) a
 
 -- ---- what the disks hold
 
@@ -146,7 +147,7 @@ holds_more count sizes (Some old) s1 P R Q reads make p q =
     let f = reads old refl in
     let here : HoldsOfDisk (Some f.0) count Q = subst (λ (o : Option Record). HoldsOfDisk o count Q) f.1 q in
     make (now_after old.opened old.steps) p (subst (λ (image : Image). Q (image count))
-        (same_now old f.0 (spans_read f.2.since) (only_below count sizes old f.0 f.2)) here)
+    (same_now old f.0 (spans_read f.2.since) (only_below count sizes old f.0 f.2)) here)
 
 -- a set with one number more, or as it was, has the same below that number
 abbrev with_unread : set.FinSet nat_cmp → ℕ → Option PvFound → set.FinSet nat_cmp
@@ -226,7 +227,7 @@ shapes_more count disks unread readings disk reading at have stands same =
     let more : set.FinSet nat_cmp = unread_with unread count disk in
     let absent : set.contains unread count ≡ false =
     absent_here unread count (λ q there. let below : q < length disks = have.below q there in omega (arith, below, at))
-        (set.contains unread count) refl
+    (set.contains unread count) refl
     in
     let length_is : length (disks ++ disk ∷ []) ≡ count + 1 = length-append disks (disk ∷ []) ∙ omega arith in
     let exactly = none_exactly disk.contents (set.contains more count) (unread_here unread count disk.contents absent) in
@@ -237,12 +238,12 @@ shapes_more count disks unread readings disk reading at have stands same =
                 let within : pv < length disks = slice_get_within disks pv found earlier in
                 let before = have.each pv found earlier in
                 let kept : set.contains more pv ≡ set.contains unread pv =
-                    same_apart unread count disk.contents pv (λ q. absurd (omega (arith, within, at, q))) in
+                same_apart unread count disk.contents pv (λ q. absurd (omega (arith, within, at, q))) in
                 (before.0, (λ none. kept ∙ before.1.0 none, λ is. before.1.1 (sym kept ∙ is)))
             | inr last ↦
                 let here : pv ≡ count = last.0 ∙ at in
                 subst (λ (d : Disk). IsDisk pv d × IsUnread more pv d) last.1
-                    (subst (λ (n : ℕ). IsDisk n disk × IsUnread more n disk) (sym here) (stands, exactly))
+                (subst (λ (n : ℕ). IsDisk n disk × IsUnread more n disk) (sym here) (stands, exactly))
           ];
       below = λ q there.
           elim (same_or_not q count) [
@@ -290,10 +291,10 @@ scanned_more : (count : ℕ) (disks : List Disk) (unread : set.FinSet nat_cmp) (
 scanned_more count disks unread readings after disk s0 s1 s2 so_far d reads sizes_are within least most =
     let size : disk.sectors ≡ get_or s0.sizes count 0 = d.sectors ∙ ap (λ (l : List ℕ). get_or l count 0) sizes_are in
     let stands : IsDisk count disk =
-        record { least = omega (arith, size, least); most = subst (λ (n : ℕ). n ≤ 2 ^ 40) (sym size) most; contents = d.stands } in
+    record { least = omega (arith, size, least); most = subst (λ (n : ℕ). n ≤ 2 ^ 40) (sym size) most; contents = d.stands } in
     let absent : set.contains unread count ≡ false =
     absent_here unread count (λ q there. let below : q
-        < length disks = so_far.shape.below q there in omega (arith, below, so_far.disk_count)) (set.contains unread count) refl
+    < length disks = so_far.shape.below q there in omega (arith, below, so_far.disk_count)) (set.contains unread count) refl
     in
     record {
       disk_count = length-append disks (disk ∷ []) ∙ omega (arith, so_far.disk_count);
@@ -305,15 +306,15 @@ scanned_more count disks unread readings after disk s0 s1 s2 so_far d reads size
           ∙ sym (take_more s0.sizes count 0 within);
       now =
           holds_more count s0.sizes s0.told s1.told (λ image. AreDiskReadings image unread 0 disks readings)
-              (λ image. AreDiskReadings image (unread_with unread count disk) 0 (disks ++ disk ∷ []) (readings ++ d.reading ∷ []))
+          (λ image. AreDiskReadings image (unread_with unread count disk) 0 (disks ++ disk ∷ []) (readings ++ d.reading ∷ []))
           (λ sector_at. IsDiskReading count sector_at disk d.reading) so_far.reads
           (λ image are is.
           push_reading image (unread_with unread count disk) 0 count disks readings disk d.reading (omega (arith, so_far.disk_count))
           (kept_readings image unread (unread_with unread count disk) 0 count disks readings
-              (λ q below. same_apart unread count disk.contents q (λ same. absurd (omega (arith, below, same))))
-              (omega (arith, so_far.disk_count)) are)
+          (λ q below. same_apart unread count disk.contents q (λ same. absurd (omega (arith, below, same))))
+          (omega (arith, so_far.disk_count)) are)
           (none_exactly disk.contents (set.contains (unread_with unread count disk) count) (unread_here unread count disk.contents absent))
-              is)
+          is)
           so_far.now d.now;
       shape = shapes_more count disks unread readings disk d.reading so_far.disk_count so_far.shape stands (d.same_sectors, d.same_pv, tt);
       faults = faults_more count unread disk.contents s0 s1 s2 absent so_far.faults d.faults;
@@ -336,7 +337,7 @@ next_scanned count disks more unread unread_more readings after disk s0 s1 s2 so
     (subst (λ (s : set.FinSet nat_cmp). AreScanned s0 (count + 1) (disks ++ disk ∷ []) s after s2) (sym named)
     (subst (λ (l : List Reading). AreScanned s0 (count + 1) (disks ++ disk ∷ []) (unread_with unread count disk) l s2) (sym d.pushed)
     (scanned_more count disks unread readings after disk s0 s1 s2 so_far d (of_size count s0 s1 s2 sizes_are reads) sizes_are within least
-        most)))
+    most)))
 
 -- the reads where going on was impossible
 pub reads_stopped : (count : ℕ) (disks : List Disk) (unread : set.FinSet nat_cmp) (readings : List Reading) (s0 s1 s2 : State)
@@ -344,7 +345,7 @@ pub reads_stopped : (count : ℕ) (disks : List Disk) (unread : set.FinSet nat_c
     → BetweenRecords (ReadsDisk count (get_or s1.sizes count 0)) s1.told s2.told → BetweenRecords (ReadsFew s0.sizes) s0.told s2.told
 reads_stopped count disks unread readings s0 s1 s2 so_far sizes_are reads =
     few_told (count + 1) s0.sizes s0.told s2.told
-        (more_told count s0.sizes s0.told s1.told s2.told so_far.reads (of_size count s0 s1 s2 sizes_are reads))
+    (more_told count s0.sizes s0.told s1.told s2.told so_far.reads (of_size count s0 s1 s2 sizes_are reads))
 
 -- before the first disk
 pub none_scanned : (disks : List Disk) (unread : set.FinSet nat_cmp) (readings : List Reading) (s : State) → disks ≡ [] → unread ≡ set.empty
@@ -365,8 +366,13 @@ none_scanned disks unread readings s no_disks no_unread no_readings =
       faults = record { rose = λ pv there. absurd (false≢true (sym (set.contains-empty nat_cmp pv) ∙ there)); same = λ pv away. refl };
       reads =
           between_same (ReadsFewBelow 0 s.sizes) s.told s.told refl
-              (λ old. record { since = []; steps = refl; reads = tt; few = λ pv. ([], inl refl, omega arith);
-              none_above = λ pv above. refl });
+          (λ old. record {
+            since = [];
+            steps = refl;
+            reads = tt;
+            few = λ pv. ([], inl refl, omega arith);
+            none_above = λ pv above. refl;
+          });
     })))
   where
     always : (told : Option Record) → HoldsNow told (λ image. AreDiskReadings image set.empty 0 [] [])

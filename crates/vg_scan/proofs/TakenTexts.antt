@@ -20,7 +20,7 @@ module _ (old new : List GroupCopy) (copy : GroupCopy) (number : ℕ) (last : nu
   pub taken_copy : (locn : Locn) (bytes : List ℕ) → IsStored locn bytes (copied copy) → IsStored locn bytes (gives_of new (Numbered number))
   taken_copy locn bytes stored =
       let at : slice_get new number ≡ Some copy =
-          ap (slice_get new) last ∙ ap (λ (l : List GroupCopy). slice_get l (length old)) grown ∙ last_copy old copy in
+      ap (slice_get new) last ∙ ap (λ (l : List GroupCopy). slice_get l (length old)) grown ∙ last_copy old copy in
       subst (IsStored locn bytes) (sym (gives_number new number copy at)) stored
 
   pub taken_number : number < length new

@@ -1,6 +1,6 @@
 -- The sectors of a text, which are read as one span or two.
-use Rattle.std.proofs.Common.{◌≡◌, ◌<◌, ◌≤◌, ℕ, ◌+◌, ◌-◌, ◌/◌, ◌++◌, List, [], ◌∷◌, length, slice_index_or, Option, Some, IfSome, inl, inr,
-    refl, sym, ap, subst, ◌∙◌, arith, length-append}
+use Rattle.std.proofs.Common.{◌≡◌, ◌<◌, ◌≤◌, ℕ, ◌+◌, ◌-◌, ◌/◌, ◌++◌, List, [], ◌∷◌, length, slice_index_or, Option, Some, IfSome, inl, inr}
+use Rattle.std.proofs.Common.{refl, sym, ap, subst, ◌∙◌, arith, length-append}
 use Rattle.std.specs.Option.{option_map_or}
 use Rattle.std.proofs.lemmas.Bool.{cases_lt}
 use Rattle.std.proofs.lemmas.Bool.Decides.{nat_tests}
@@ -78,14 +78,14 @@ module _ (area : Area) (locn : Locn) (spans : Span × Option Span) (are : spans 
       → ReadsUntil area.pv old (text_spans area locn) new refusal
   first_ended refusal pv until =
       until_sooner area.pv old new (spans.0 ∷ []) (option_map_or (λ span. span ∷ []) spans.1 []) (text_spans area locn) refusal
-          (ap spans_of are) (subst (λ (p : ℕ). ReadsUntil p old (spans.0 ∷ []) new refusal) pv until)
+      (ap spans_of are) (subst (λ (p : ℕ). ReadsUntil p old (spans.0 ∷ []) new refusal) pv until)
 
   -- both were read
   pub both_read : (rest : Span) → spans.1 ≡ Some rest → ReadsWell old (spans.0 ∷ []) mid → ReadsWell mid (rest ∷ []) new
       → ReadsWell old (text_spans area locn) new
   both_read rest is a b =
       subst (λ (l : List Span). ReadsWell old l new) (rest_of spans rest is ∙ ap spans_of are)
-          (well_both old mid new (spans.0 ∷ []) (rest ∷ []) a b)
+      (well_both old mid new (spans.0 ∷ []) (rest ∷ []) a b)
 
   -- the second span's read ended it
   pub rest_ended : (rest : Span) (refusal : ReadRefusal) → spans.1 ≡ Some rest → rest.pv ≡ area.pv → ReadsWell old (spans.0 ∷ []) mid
@@ -93,4 +93,4 @@ module _ (area : Area) (locn : Locn) (spans : Span × Option Span) (are : spans 
   rest_ended rest refusal is pv a until =
       subst (λ (l : List Span). ReadsUntil area.pv old l new refusal) (rest_of spans rest is ∙ ap spans_of are)
       (until_after area.pv old mid new (spans.0 ∷ []) (rest ∷ []) refusal a
-          (subst (λ (p : ℕ). ReadsUntil p mid (rest ∷ []) new refusal) pv until))
+      (subst (λ (p : ℕ). ReadsUntil p mid (rest ∷ []) new refusal) pv until))

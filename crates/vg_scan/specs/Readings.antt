@@ -68,6 +68,6 @@ AreDiskReadings image unread pv (disk ∷ disks) (reading ∷ readings) =
 
 -- the disks of these sizes in an image, but those that are unread: what stands on them, and how they read
 pub record AreReadings (image : Image) (sizes : List ℕ) (unread : set.FinSet nat_cmp) (disks : List Disk) (readings : List Reading) : Type 0
-    where
-  pub sizes_is : map (λ (disk : Disk). disk.sectors) disks ≡ sizes
-  pub each : AreDiskReadings image unread 0 disks readings
+  where
+    pub sizes_is : map (λ (disk : Disk). disk.sectors) disks ≡ sizes
+    pub each : AreDiskReadings image unread 0 disks readings

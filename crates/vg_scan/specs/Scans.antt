@@ -1,6 +1,6 @@
 -- What a scan of disks comes to, and what it does to them.
-use Rattle.std.specs.Prelude.{◌≡◌, ◌≤◌, ◌<◌, ℕ, ◌+◌, ◌*◌, true, false, ◌==◌, List, [], length, map, filter, slice_index_or, Option, Some,
-    None, IfSome}
+use Rattle.std.specs.Prelude.{◌≡◌, ◌≤◌, ◌<◌, ℕ, ◌+◌, ◌*◌, true, false, ◌==◌, List, [], length, map, filter, slice_index_or, Option, Some}
+use Rattle.std.specs.Prelude.{None, IfSome}
 use Rattle.std.specs.FinSet as set
 use Rattle.std.specs.Ordering.{nat_cmp}
 use Rattle.sector_base.specs.declared.spans.Span.{Span}
@@ -26,7 +26,7 @@ IsFoundBy (FoundGroup held stale strays missing) found =
     × (found.stale ≡ stale) × (found.strays ≡ set.from_list strays) × (found.missing ≡ missing)
 IsFoundBy NoGroup found =
     (found.group ≡ None) × (found.text ≡ None) × (found.unknown ≡ []) × (found.stale ≡ []) × (found.strays ≡ set.empty)
-        × (found.missing ≡ [])
+    × (found.missing ≡ [])
 IsFoundBy _ found = ⊥
 
 -- what was found is what the disks of an image come to, the unread ones taken as empty
@@ -76,7 +76,7 @@ spans_on pv spans = filter (λ (span : Span). span.pv == pv) spans
 abbrev pub AreFewReads : Image → List ℕ → List Span → Type 0
 AreFewReads image sizes spans =
     (pv : ℕ) → (areas : List Extent) × AreAreasOf (image pv) (slice_index_or sizes pv 0) areas
-        × (length (spans_on pv spans) ≤ 1 + 3 * length areas)
+    × (length (spans_on pv spans) ≤ 1 + 3 * length areas)
 
 -- a scan submits reads alone, few of each disk
 pub record ReadsFew (sizes : List ℕ) (old new : Record) : Type 0 where

@@ -1,6 +1,6 @@
 -- Volumes that a command leaves as they are, or of which it changes one, come from those before.
-use Rattle.std.proofs.Common.{◌≡◌, ◌≤◌, ◌<◌, ℕ, ◌+◌, ◌==◌, Bool, true, false, ◌||◌, if◌then◌else◌, List, [], ◌∷◌, ◌++◌, filter, not, length,
-    Some, inl, inr, ⊎_elim, refl, sym, ap, subst, ◌∙◌, arith}
+use Rattle.std.proofs.Common.{◌≡◌, ◌≤◌, ◌<◌, ℕ, ◌+◌, ◌==◌, Bool, true, false, ◌||◌, if◌then◌else◌, List, [], ◌∷◌, ◌++◌, filter, not, length}
+use Rattle.std.proofs.Common.{Some, inl, inr, ⊎_elim, refl, sym, ap, subst, ◌∙◌, arith}
 use Rattle.std.specs.Str.{bytes_eq}
 use Rattle.std.proofs.lemmas.Bool.Decides.{nat_tests}
 use Rattle.std.proofs.lemmas.Option.{same_Some}
@@ -63,7 +63,7 @@ module _ (whole : List PlacedVolume) (state : PlainState) (step : PlainStep) (im
     rest_stays key k [] le = refl
     rest_stays key k (v ∷ vs) le =
         ap (λ (b : Bool). (if b then f (plain_at opening k v) else plain_at opening k v)
-            ∷ with_key key f (opening_volumes opening (k + 1) vs)) (other_equal k key le)
+        ∷ with_key key f (opening_volumes opening (k + 1) vs)) (other_equal k key le)
         ∙ ap (λ (l : List PlainVolume). plain_at opening k v ∷ l) (rest_stays key (k + 1) vs (omega (arith, le)))
 
   -- the key of the first volume of a name
@@ -81,7 +81,7 @@ module _ (whole : List PlacedVolume) (state : PlainState) (step : PlainStep) (im
   abbrev pub Comes : PlacedVolume → PlainVolume → Type 0
   Comes v p =
       (v.name ≡ p.name) × (length v.places ≡ length p.sectors)
-          × ((x : ℕ) → x < length v.places → ComesFrom whole state step image p.key x (place_at v.places x))
+      × ((x : ℕ) → x < length v.places → ComesFrom whole state step image p.key x (place_at v.places x))
 
   module _ (name : List ℕ) (change : PlacedVolume → PlacedVolume) (f : PlainVolume → PlainVolume) (key : ℕ)
       (unborn : (other x : ℕ) → (key == other) ≡ false → is_born step state other x ≡ false) where
@@ -93,7 +93,7 @@ module _ (whole : List PlacedVolume) (state : PlainState) (step : PlainStep) (im
     come_changed k [] found among own = absurd cc
     come_changed k (v ∷ vs) found among own =
         by (λ no is. come_changed (k + 1) vs is (λ a x place stood. among a x place (inr stood))
-            (λ u e. own u (ap (λ (b : Bool). if b then v.places else places_named vs name) no ∙ e))) (bytes_eq v.name name) refl found
+        (λ u e. own u (ap (λ (b : Bool). if b then v.places else places_named vs name) no ∙ e))) (bytes_eq v.name name) refl found
       where
         by : (bytes_eq v.name name ≡ false → key_of (opening_volumes opening (k + 1) vs) name ≡ Some key
             → AllCome whole state step image (changed_named name change vs) (with_key key f (opening_volumes opening (k + 1) vs)))
@@ -105,23 +105,30 @@ module _ (whole : List PlacedVolume) (state : PlainState) (step : PlainStep) (im
             let here : (x : ℕ) (place : Place) → StoodAt (v ∷ []) key key x place → StoodAt whole 0 key x place =
             λ x place. ⊎_elim (λ at. among key x place (inl (e, at.1, at.2))) (λ none. absurd none) in
             let made : Comes (change v) (f (plain_at opening key v)) =
-                own v (ap (λ (b : Bool). if b then v.places else places_named vs name) named) here in
+            own v (ap (λ (b : Bool). if b then v.places else places_named vs name) named) here in
             subst (λ (b : Bool). AllCome whole state step image (change v ∷ vs)
-                ((if b then f (plain_at opening k v) else plain_at opening k v) ∷ with_key key f (opening_volumes opening (k + 1) vs)))
+            ((if b then f (plain_at opening k v) else plain_at opening k v) ∷ with_key key f (opening_volumes opening (k + 1) vs)))
             (sym (eq_to k key e))
             (subst (λ (l : List PlainVolume). AllCome whole state step image (change v ∷ vs) (f (plain_at opening k v) ∷ l))
-                (sym (rest_stays name change f key (k + 1) vs (omega (arith, e))))
+            (sym (rest_stays name change f key (k + 1) vs (omega (arith, e))))
             (subst (λ (n : ℕ). AllCome whole state step image (change v ∷ vs)
-                (f (plain_at opening n v) ∷ opening_volumes opening (k + 1) vs)) (sym e)
-            (made.0, made.1, made.2, come_kept (k + 1) vs (λ other x le lt. unborn other x (none_equal key other (omega (arith, e, le))))
-                (λ a x place stood. among a x place (inr stood)))))
+            (f (plain_at opening n v) ∷ opening_volumes opening (k + 1) vs)) (sym e) (
+              made.0,
+              made.1,
+              made.2,
+              come_kept (k + 1) vs (λ other x le lt. unborn other x (none_equal key other (omega (arith, e, le))))
+                  (λ a x place stood. among a x place (inr stood)),
+            )))
         by rest false named is =
             let later : k + 1 ≤ key = key_from name (k + 1) vs key is in
             subst (λ (b : Bool). AllCome whole state step image (v ∷ changed_named name change vs)
-                ((if b then f (plain_at opening k v) else plain_at opening k v) ∷ with_key key f (opening_volumes opening (k + 1) vs)))
-            (sym (none_equal k key later))
-            (refl, values_length opening v.places, (λ x lt. stood_comes k x v vs (unborn k x (other_equal key k later)) lt among),
-                rest named is)
+            ((if b then f (plain_at opening k v) else plain_at opening k v) ∷ with_key key f (opening_volumes opening (k + 1) vs)))
+            (sym (none_equal k key later)) (
+              refl,
+              values_length opening v.places,
+              (λ x lt. stood_comes k x v vs (unborn k x (other_equal key k later)) lt among),
+              rest named is,
+            )
 
     -- ---- one volume is gone
 
@@ -130,8 +137,8 @@ module _ (whole : List PlacedVolume) (state : PlainState) (step : PlainStep) (im
     rest_left k [] le = refl
     rest_left k (v ∷ vs) le =
         ap (λ (b : Bool). if not b then plain_at opening k v
-            ∷ filter (λ (p : PlainVolume). not (p.key == key)) (opening_volumes opening (k + 1) vs) else filter
-            (λ (p : PlainVolume). not (p.key == key)) (opening_volumes opening (k + 1) vs)) (other_equal k key le)
+        ∷ filter (λ (p : PlainVolume). not (p.key == key)) (opening_volumes opening (k + 1) vs) else filter
+        (λ (p : PlainVolume). not (p.key == key)) (opening_volumes opening (k + 1) vs)) (other_equal k key le)
         ∙ ap (λ (l : List PlainVolume). plain_at opening k v ∷ l) (rest_left (k + 1) vs (omega (arith, le)))
 
     pub come_without : (k : ℕ) (vs : List PlacedVolume) → key_of (opening_volumes opening k vs) name ≡ Some key → AreAmong whole k vs
@@ -150,17 +157,17 @@ module _ (whole : List PlacedVolume) (state : PlainState) (step : PlainStep) (im
         by rest true is =
             let e : k ≡ key = same_Some k key is in
             subst (λ (b : Bool). AllCome whole state step image vs
-                (if not b then plain_at opening k v ∷ filter (λ (p : PlainVolume). not (p.key == key)) (opening_volumes opening (k + 1) vs)
-                else filter (λ (p : PlainVolume). not (p.key == key)) (opening_volumes opening (k + 1) vs)))
+            (if not b then plain_at opening k v ∷ filter (λ (p : PlainVolume). not (p.key == key)) (opening_volumes opening (k + 1) vs)
+            else filter (λ (p : PlainVolume). not (p.key == key)) (opening_volumes opening (k + 1) vs)))
             (sym (eq_to k key e))
             (subst (λ (l : List PlainVolume). AllCome whole state step image vs l) (sym (rest_left (k + 1) vs (omega (arith, e))))
             (come_kept (k + 1) vs (λ other x le lt. unborn other x (none_equal key other (omega (arith, e, le))))
-                (λ a x place stood. among a x place (inr stood))))
+            (λ a x place stood. among a x place (inr stood))))
         by rest false is =
             let later : k + 1 ≤ key = key_from name (k + 1) vs key is in
             subst (λ (b : Bool). AllCome whole state step image (v ∷ without_named name vs)
-                (if not b then plain_at opening k v ∷ filter (λ (p : PlainVolume). not (p.key == key)) (opening_volumes opening (k + 1) vs)
-                else filter (λ (p : PlainVolume). not (p.key == key)) (opening_volumes opening (k + 1) vs)))
+            (if not b then plain_at opening k v ∷ filter (λ (p : PlainVolume). not (p.key == key)) (opening_volumes opening (k + 1) vs)
+            else filter (λ (p : PlainVolume). not (p.key == key)) (opening_volumes opening (k + 1) vs)))
             (sym (none_equal k key later))
             (refl, values_length opening v.places, (λ x lt. stood_comes k x v vs (unborn k x (other_equal key k later)) lt among), rest is)
 
@@ -196,6 +203,6 @@ places_changed name change g same_name is (v ∷ vs) has =
         ≡ g (if b then v.places else places_named vs name)
     by rest true named has' =
         ap (λ (n : List ℕ). if bytes_eq n name then (change v).places else places_named vs name) (same_name v)
-            ∙ ap (λ (b : Bool). if b then (change v).places else places_named vs name) named ∙ is v
+        ∙ ap (λ (b : Bool). if b then (change v).places else places_named vs name) named ∙ is v
     by rest false named has' =
         ap (λ (b : Bool). if b then v.places else places_named (changed_named name change vs) name) named ∙ rest named has'

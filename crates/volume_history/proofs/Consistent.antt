@@ -1,14 +1,14 @@
 -- The parts make a moment consistent.
-use Rattle.std.proofs.Common.{◌≡◌, ℕ, Bool, true, false, if◌then◌else◌, List, [], ◌∷◌, Contains, Option, Some, None, inl, inr, ⊎_elim, refl,
-    sym, subst}
+use Rattle.std.proofs.Common.{◌≡◌, ℕ, Bool, true, false, if◌then◌else◌, List, [], ◌∷◌, Contains, Option, Some, None, inl, inr, ⊎_elim, refl}
+use Rattle.std.proofs.Common.{sym, subst}
 use Rattle.std.proofs.lemmas.List.Elements.{Contains-push}
 use Rattle.disk_model.specs.CrashValues.{IsImage}
 use Rattle.disk_model.specs.Steps.{Image}
 use Rattle.image_scans.specs.Versions.{Version}
 use Rattle.line_table.specs.Machine.{PlainStep, PlainVolume, plain_after}
 use Rattle.volume_history.proofs.Bases.{source_is_candidate}
-use Rattle.volume_history.specs.Candidates.{Anything, IsConsistent, IsConsistentNow, IsIn, OneOf, ShowsPending, ShowsVolumes, candidates,
-    is_born, is_zeroed, pending_candidates, pending_step, place_at}
+use Rattle.volume_history.specs.Candidates.{Anything, IsConsistent, IsConsistentNow, IsIn, OneOf, ShowsPending, ShowsVolumes, candidates}
+use Rattle.volume_history.specs.Candidates.{is_born, is_zeroed, pending_candidates, pending_step, place_at}
 use Rattle.volume_history.specs.Chronicles.{Chronicle, ChronicleEntry, Origin, in_force, pending}
 use Rattle.volume_history.specs.Commands.{zero_sector}
 use Rattle.volume_history.specs.Parts.{FindsPending, IsZeroAt, KeepsAll, NextHolds, NextPart, NextPlaces, PlaceHolds, Primaries, ScansPart}
@@ -27,9 +27,12 @@ place_shows o es key x place image is holds =
 pub primaries_show : (o : Origin) (es : List ChronicleEntry) (image : Image) → IsImage o.told image
     → (vs : List PlacedVolume) (ps : List PlainVolume) → Primaries o es vs ps → ShowsVolumes image (candidates o es) vs ps
 primaries_show o es image is [] [] primaries = tt
-primaries_show o es image is (v ∷ vs) (p ∷ ps) primaries =
-    (primaries.0, primaries.1, λ x lt. place_shows o es p.key x (place_at v.places x) image is (primaries.2 x lt),
-        primaries_show o es image is vs ps primaries.3)
+primaries_show o es image is (v ∷ vs) (p ∷ ps) primaries = (
+  primaries.0,
+  primaries.1,
+  λ x lt. place_shows o es p.key x (place_at v.places x) image is (primaries.2 x lt),
+  primaries_show o es image is vs ps primaries.3,
+)
 primaries_show o es image is [] (p ∷ ps) primaries = absurd primaries
 primaries_show o es image is (v ∷ vs) [] primaries = absurd primaries
 
@@ -39,25 +42,28 @@ next_shows : (o : Origin) (es : List ChronicleEntry) (step : PlainStep) (key x :
     → IsIn (pending_candidates o es step key x) (image place.disk place.sector)
 next_shows o es step key x place image is (inl b) =
     subst (λ (t : Bool). IsIn (if t then (if is_zeroed step x then OneOf (zero_sector ∷ []) else Anything) else candidates o es key x)
-        (image place.disk place.sector)) (sym b.0) (zero_or (is_zeroed step x) b.1)
+    (image place.disk place.sector)) (sym b.0) (zero_or (is_zeroed step x) b.1)
   where
     zero_or : (t : Bool) → (t ≡ true → IsZeroAt o place)
         → IsIn (if t then OneOf (zero_sector ∷ []) else Anything) (image place.disk place.sector)
     zero_or true h =
         let m = is place.disk place.sector in subst (λ (v : List ℕ). Contains (zero_sector ∷ []) v)
-            (sym ((h refl).each m.0 (image place.disk place.sector) m.1)) (Contains-push [] zero_sector)
+        (sym ((h refl).each m.0 (image place.disk place.sector) m.1)) (Contains-push [] zero_sector)
     zero_or false h = tt
 next_shows o es step key x place image is (inr b) =
     subst (λ (t : Bool). IsIn (if t then (if is_zeroed step x then OneOf (zero_sector ∷ []) else Anything) else candidates o es key x)
-        (image place.disk place.sector)) (sym b.0) (place_shows o es key x place image is b.1)
+    (image place.disk place.sector)) (sym b.0) (place_shows o es key x place image is b.1)
 
 pub next_places_show : (o : Origin) (es : List ChronicleEntry) (step : PlainStep) (image : Image) → IsImage o.told image
     → (vs : List PlacedVolume) (ps : List PlainVolume) → NextPlaces o es step vs ps
     → ShowsVolumes image (pending_candidates o es step) vs ps
 next_places_show o es step image is [] [] places = tt
-next_places_show o es step image is (v ∷ vs) (p ∷ ps) places =
-    (places.0, places.1, λ x lt. next_shows o es step p.key x (place_at v.places x) image is (places.2 x lt),
-        next_places_show o es step image is vs ps places.3)
+next_places_show o es step image is (v ∷ vs) (p ∷ ps) places = (
+  places.0,
+  places.1,
+  λ x lt. next_shows o es step p.key x (place_at v.places x) image is (places.2 x lt),
+  next_places_show o es step image is vs ps places.3,
+)
 next_places_show o es step image is [] (p ∷ ps) places = absurd places
 next_places_show o es step image is (v ∷ vs) [] places = absurd places
 
@@ -67,9 +73,12 @@ pending_consistent o es image is None same scan next = absurd scan
 pending_consistent o es image is (Some p) same scan next = record {
   version = p.1;
   scan = scan;
-  shows = inr (subst (λ (q : Option (ℕ × Option Version)). ShowsPending o es image p.1 q) same
-      (refl, next.0, next_places_show o es (pending_step o es p.0 p.1) image is (volumes_of p.1)
-          (plain_after (plain_state o es) (pending_step o es p.0 p.1)).volumes next.1));
+  shows = inr (subst (λ (q : Option (ℕ × Option Version)). ShowsPending o es image p.1 q) same (
+    refl,
+    next.0,
+    next_places_show o es (pending_step o es p.0 p.1) image is (volumes_of p.1)
+        (plain_after (plain_state o es) (pending_step o es p.0 p.1)).volumes next.1,
+  ));
 }
 
 -- a pending command that leaves the volumes as they are has its part from the primaries
@@ -105,8 +114,12 @@ parts_make_consistent c scans primaries named next image is =
       version = in_force c.origin c.entries;
       scan = old;
       shows =
-          inl (refl, named, primaries_show c.origin c.entries image is (volumes_of (in_force c.origin c.entries))
-              (plain_state c.origin c.entries).volumes primaries);
+          inl (
+            refl,
+            named,
+            primaries_show c.origin c.entries image is (volumes_of (in_force c.origin c.entries))
+                (plain_state c.origin c.entries).volumes primaries,
+          );
     })
     (λ new. pending_consistent c.origin c.entries image is (pending c.entries) refl new next)
     (scans image is)

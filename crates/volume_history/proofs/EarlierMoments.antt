@@ -1,6 +1,6 @@
 -- What is appended later changes no earlier moment.
-use Rattle.std.proofs.Common.{◌≡◌, ◌≤◌, ◌<◌, ℕ, zero, suc, ◌+◌, ◌-◌, Bool, if◌then◌else◌, List, [], ◌∷◌, length, drop, Option, ⊎_elim, refl,
-    sym, ap, subst, ◌∙◌, arith}
+use Rattle.std.proofs.Common.{◌≡◌, ◌≤◌, ◌<◌, ℕ, zero, suc, ◌+◌, ◌-◌, Bool, if◌then◌else◌, List, [], ◌∷◌, length, drop, Option, ⊎_elim, refl}
+use Rattle.std.proofs.Common.{sym, ap, subst, ◌∙◌, arith}
 use Rattle.std.proofs.lemmas.Bool.{cases_lt}
 use Rattle.std.proofs.lemmas.List.{length-drop}
 use Rattle.disk_model.specs.Steps.{Image, Step, now_after}
@@ -10,8 +10,9 @@ use Rattle.lvm_script.specs.declared.line.Line.{Line}
 use Rattle.sector_base.specs.declared.places.Piece.{Piece}
 use Rattle.volume_history.proofs.Bits.{lt_false, lt_true}
 use Rattle.volume_history.specs.Candidates.{IsConsistentMoment, IsConsistentNow}
-use Rattle.volume_history.specs.Chronicles.{Answered, AreUpto, Begun, Changed, Chronicle, ChronicleEntry, Failed, GivenUp, Opened, Origin,
-    Took, begun_in, chronicle_at, in_force, moment_of, now_at, origin_at, origin_on, steps_upto, upto, with_entry, with_step}
+use Rattle.volume_history.specs.Chronicles.{Answered, AreUpto, Begun, Changed, Chronicle, ChronicleEntry, Failed, GivenUp, Opened, Origin}
+use Rattle.volume_history.specs.Chronicles.{Took, begun_in, chronicle_at, in_force, moment_of, now_at, origin_at, origin_on, steps_upto}
+use Rattle.volume_history.specs.Chronicles.{upto, with_entry, with_step}
 use Rattle.volume_history.specs.Placed.{group_name, volumes_of}
 use Rattle.volume_history.specs.Replay.{failed_step, line_step, opening_volumes, plain_state, took_step}
 
@@ -19,8 +20,10 @@ use Rattle.volume_history.specs.Replay.{failed_step, line_step, opening_volumes,
 pub entry_stays : (e : ChronicleEntry) (c : Chronicle) (moment : ℕ) → moment < moment_of e
     → chronicle_at moment (with_entry e c) ≡ chronicle_at moment c
 entry_stays e c moment later =
-    ap (λ (b : Bool). record { origin = origin_at moment c.origin;
-        entries = if b then upto moment c.entries else e ∷ upto moment c.entries }) (lt_true moment (moment_of e) later)
+    ap (λ (b : Bool). record {
+      origin = origin_at moment c.origin;
+      entries = if b then upto moment c.entries else e ∷ upto moment c.entries;
+    }) (lt_true moment (moment_of e) later)
 
 -- a step
 pub step_stays : (step : Step) (c : Chronicle) (moment : ℕ) → moment ≤ length c.origin.told.steps
@@ -45,15 +48,17 @@ pub all_upto : (moment : ℕ) (es : List ChronicleEntry) → AreUpto moment es �
 all_upto moment [] are = refl
 all_upto moment (e ∷ es) are =
     ap (λ (b : Bool). if b then upto moment es else e ∷ upto moment es) (lt_false moment (moment_of e) are.0)
-        ∙ ap (λ (l : List ChronicleEntry). e ∷ l) (all_upto moment es are.1)
+    ∙ ap (λ (l : List ChronicleEntry). e ∷ l) (all_upto moment es are.1)
 
 -- now is the last moment
 pub now_is : (c : Chronicle) → AreUpto (length c.origin.told.steps) c.entries → chronicle_at (length c.origin.told.steps) c ≡ c
 now_is c are =
     let e : length c.origin.told.steps - length c.origin.told.steps ≡ 0 = omega arith in
-    ap (λ (k : ℕ). record { origin = record c.origin
-        { told = record { opened = c.origin.told.opened; steps = drop k c.origin.told.steps } };
-        entries = upto (length c.origin.told.steps) c.entries }) e
+    ap (λ (k : ℕ). record {
+      origin = record c.origin
+          { told = record { opened = c.origin.told.opened; steps = drop k c.origin.told.steps } };
+      entries = upto (length c.origin.told.steps) c.entries;
+    }) e
     ∙ ap (λ (l : List ChronicleEntry). record { origin = c.origin; entries = l }) (all_upto _ c.entries are)
 
 pub upto_longer : (moment later : ℕ) (es : List ChronicleEntry) → moment ≤ later → AreUpto moment es → AreUpto later es
@@ -71,8 +76,8 @@ every_moment_step step c from are so_far now m ge le =
     let e : suc (length c.origin.told.steps) ≡ m = omega arith in
     subst (λ (k : ℕ). IsConsistentMoment (with_step step c) k) e
     (subst (λ (d : Chronicle). IsConsistentNow d)
-        (sym (now_is (with_step step c) (upto_longer (length c.origin.told.steps) (suc (length c.origin.told.steps)) c.entries (omega arith)
-        are))) now))
+    (sym (now_is (with_step step c) (upto_longer (length c.origin.told.steps) (suc (length c.origin.told.steps)) c.entries (omega arith)
+    are))) now))
     (λ (old : m ≤ length c.origin.told.steps). past_stays_step step c m old (so_far m ge old))
     (cases_lt (length c.origin.told.steps) m)
 
@@ -123,22 +128,25 @@ failed_after b piece before image state = plain_after state (failed_step b befor
 pub replay_stays : (step : Step) (o : Origin) (es : List ChronicleEntry) → o.first ≤ length o.told.steps → AreUpto (length o.told.steps) es
     → plain_state (origin_on step o) es ≡ plain_state o es
 replay_stays step o [] first are =
-    ap (λ (i : Image). record { group = group_name o.version; volumes = opening_volumes i 0 (volumes_of o.version);
-        next_key = length (volumes_of o.version) }) (now_stays step o o.first first)
+    ap (λ (i : Image). record {
+      group = group_name o.version;
+      volumes = opening_volumes i 0 (volumes_of o.version);
+      next_key = length (volumes_of o.version);
+    }) (now_stays step o o.first first)
 replay_stays step o (Begun m n line key ∷ es) first are = replay_stays step o es first are.1
 replay_stays step o (Opened m n version ∷ es) first are = replay_stays step o es first are.1
 replay_stays step o (Took m n piece ∷ es) first are =
     ap (λ (s : PlainState). plain_after s (took_step (begun_in es n) piece)) (replay_stays step o es first are.1)
 replay_stays step o (Changed m n version ∷ es) first are =
     ap (λ (f : Option Version). line_after (begun_in es n) version f (now_at (origin_on step o) m) (plain_state (origin_on step o) es))
-        (force_stays step o es)
+    (force_stays step o es)
     ∙ ap (λ (i : Image). line_after (begun_in es n) version (in_force o es) i (plain_state (origin_on step o) es))
     (now_stays step o m are.0)
     ∙ ap (λ (s : PlainState). line_after (begun_in es n) version (in_force o es) (now_at o m) s) (replay_stays step o es first are.1)
 replay_stays step o (GivenUp m n ∷ es) first are = replay_stays step o es first are.1
 replay_stays step o (Failed m n piece ∷ es) first are =
     ap (λ (f : Option Version). failed_after (begun_in es n) piece f (now_at (origin_on step o) m) (plain_state (origin_on step o) es))
-        (force_stays step o es)
+    (force_stays step o es)
     ∙ ap (λ (i : Image). failed_after (begun_in es n) piece (in_force o es) i (plain_state (origin_on step o) es))
     (now_stays step o m are.0)
     ∙ ap (λ (s : PlainState). failed_after (begun_in es n) piece (in_force o es) (now_at o m) s) (replay_stays step o es first are.1)

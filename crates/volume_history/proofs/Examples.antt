@@ -10,11 +10,12 @@ use Rattle.volume_view.specs.InSegments.{leg_spot, met}
 use Rattle.volume_view.specs.Places.{primary}
 use Rattle.line_table.specs.Machine.{key_of, list_of, plain_after, sector_of}
 use Rattle.image_scans.specs.Versions.{Version}
-use Rattle.volume_history.proofs.SmallGroups.{creating, extending, filling, group_removing, listing, making, moving, pvcreating, reading,
-    reducing, removing, renaming, restoring, version_1, version_2, version_3, version_4, version_5, version_6, version_7}
+use Rattle.volume_history.proofs.SmallGroups.{creating, extending, filling, group_removing, listing, making, moving, pvcreating, reading}
+use Rattle.volume_history.proofs.SmallGroups.{reducing, removing, renaming, restoring, version_1, version_2, version_3, version_4}
+use Rattle.volume_history.proofs.SmallGroups.{version_5, version_6, version_7}
 use Rattle.volume_history.specs.Candidates.{Anything, OneOf, base, candidates, pending_candidates, pending_step}
-use Rattle.volume_history.specs.Chronicles.{Answered, Begun, Changed, ChronicleEntry, Failed, GivenUp, Opened, Origin, Took, fenced_by,
-    in_force, is_failed_disk, left_out, may_begin, pending, upto}
+use Rattle.volume_history.specs.Chronicles.{Answered, Begun, Changed, ChronicleEntry, Failed, GivenUp, Opened, Origin, Took, fenced_by}
+use Rattle.volume_history.specs.Chronicles.{in_force, is_failed_disk, left_out, may_begin, pending, upto}
 use Rattle.volume_history.specs.Commands.{number_sector, zero_sector}
 use Rattle.volume_history.specs.Legal.{is_in_order, read_values}
 use Rattle.volume_history.specs.Placed.{place_of, volumes_of}
@@ -45,8 +46,15 @@ steps =
 
 abbrev origin : Origin
 origin =
-    record { told = record { opened = zeros; steps = steps }; first = 0; start = 0; sizes = 99 ∷ []; names = (0 ∷ []) ∷ []; clock = 0;
-        version = None }
+    record {
+      told = record { opened = zeros; steps = steps };
+      first = 0;
+      start = 0;
+      sizes = 99 ∷ [];
+      names = (0 ∷ []) ∷ [];
+      clock = 0;
+      version = None;
+    }
 
 abbrev zero_piece : Piece
 zero_piece = record { volume = 0; first = 0; count = 0; write = false }

@@ -1,8 +1,8 @@
 -- One lawful entry more keeps a legal history.
 use Rattle.std.proofs.Common.{◌≡◌, ◌≤◌, ℕ, suc, ◌-◌, List, [], ◌∷◌, length, drop, sym, ap, subst, arith}
 use Rattle.disk_model.specs.Steps.{Step}
-use Rattle.volume_history.specs.Chronicles.{AreUpto, Chronicle, ChronicleEntry, Origin, moment_of, origin_at, origin_on, with_entry,
-    with_step}
+use Rattle.volume_history.specs.Chronicles.{AreUpto, Chronicle, ChronicleEntry, Origin, moment_of, origin_at, origin_on, with_entry}
+use Rattle.volume_history.specs.Chronicles.{with_step}
 use Rattle.volume_history.specs.Legal.{AllFaithful, AllOrdered, FindsNow, IsFaithful, IsLegalHistory, IsOrdered, last_moment}
 
 pub legal_append : (e : ChronicleEntry) (c : Chronicle)
@@ -45,10 +45,10 @@ legal_step step c legal =
       from = legal.from;
       opening =
           subst (λ (p : Origin). FindsNow p [] c.origin.start c.origin.version) (sym (origin_stays step c.origin c.origin.start by))
-              legal.opening;
+          legal.opening;
       told = omega (arith, legal.told);
       ordered = legal.ordered;
       faithful =
           faithful_stays step c.origin c.entries (ordered_upto c.origin.start (length c.origin.told.steps) c.entries legal.told
-              legal.ordered) legal.faithful;
+          legal.ordered) legal.faithful;
     }

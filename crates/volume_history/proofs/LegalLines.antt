@@ -1,6 +1,6 @@
 -- The histories of one line are legal.
-use Rattle.std.proofs.Common.{◌≡◌, ◌≤◌, ℕ, ◌-◌, ◌&&◌, ◌||◌, Bool, true, false, not, if◌then◌else◌, List, [], ◌∷◌, length, take, drop,
-    Option, Some, None, refl, sym, ap, subst, ◌∙◌, arith, is_some}
+use Rattle.std.proofs.Common.{◌≡◌, ◌≤◌, ℕ, ◌-◌, ◌&&◌, ◌||◌, Bool, true, false, not, if◌then◌else◌, List, [], ◌∷◌, length, take, drop}
+use Rattle.std.proofs.Common.{Option, Some, None, refl, sym, ap, subst, ◌∙◌, arith, is_some}
 use Rattle.std.proofs.lemmas.Bool.{true≢false}
 use Rattle.command_table.specs.declared.command.Path.{Path}
 use Rattle.line_answers.specs.declared.answer.Answer.{Answer}
@@ -13,11 +13,11 @@ use Rattle.volume_history.proofs.CommandKinds.{commit_says, undata}
 use Rattle.volume_history.proofs.Written.{since_seen}
 use Rattle.volume_history.specs.Chronicles.{Begun, Changed, ChronicleEntry, GivenUp, Origin, Took, begun_in, origin_at, pending}
 use Rattle.volume_history.specs.Commands.{commits, failed_pv, is_data, is_good, is_move, is_refused, is_tended, is_wait, may_say, removes}
-use Rattle.volume_history.specs.Legal.{AllFaithful, AllOrdered, FindsNow, GivesMachine, IsFaithful, IsOrdered, LeavesGroup, Makes,
-    is_new_piece, is_pending, keeps_group, key_named, may_answer, may_answer_command, may_answer_data}
+use Rattle.volume_history.specs.Legal.{AllFaithful, AllOrdered, FindsNow, GivesMachine, IsFaithful, IsOrdered, LeavesGroup, Makes}
+use Rattle.volume_history.specs.Legal.{is_new_piece, is_pending, keeps_group, key_named, may_answer, may_answer_command, may_answer_data}
 use Rattle.volume_history.specs.Runs.{zero_piece}
-use Rattle.volume_history.specs.Single.{LeavesAll, MayEnd, answered_entries, begun_entries, taken_entries, end_of, fenced_entries,
-    given_up_entries, made_entries, open_entries}
+use Rattle.volume_history.specs.Single.{LeavesAll, MayEnd, answered_entries, begun_entries, taken_entries, end_of, fenced_entries}
+use Rattle.volume_history.specs.Single.{given_up_entries, made_entries, open_entries}
 
 or_true : (b : Bool) → (b || true) ≡ true
 or_true true = refl
@@ -91,7 +91,7 @@ module _ (o : Origin) (line : Line) (quiet_data : is_data line.command ≡ false
       moments = until;
       order =
           answer_of (begun_entries o line) line a quiet_data says
-              (undone_test (is_good a) (is_refused a) (is_move line.command) (is_wait line.command) bad) refl;
+          (undone_test (is_good a) (is_refused a) (is_move line.command) (is_wait line.command) bad) refl;
       makes = tt;
     },
     begun_ordered,
@@ -125,7 +125,7 @@ module _ (o : Origin) (line : Line) (quiet_data : is_data line.command ≡ false
       moments = omega arith;
       order =
           answer_of (Took (end_of o) 0 (zero_piece 0) ∷ begun_entries o line) line answer.Fine quiet_data says
-              (not_or_true (is_wait line.command)) refl;
+          (not_or_true (is_wait line.command)) refl;
       makes = tt;
     },
     (
@@ -133,7 +133,7 @@ module _ (o : Origin) (line : Line) (quiet_data : is_data line.command ≡ false
         moments = until;
         order =
             take_test (is_data line.command) (commits line.command) (is_new_piece (begun_entries o line) 0 line None (zero_piece 0)) true
-                quiet_data none refl;
+            quiet_data none refl;
         makes = tt;
       },
       begun_ordered,
@@ -142,8 +142,11 @@ module _ (o : Origin) (line : Line) (quiet_data : is_data line.command ≡ false
 
   pub created_faithful : AllFaithful o (taken_entries o line)
   created_faithful = (
-    (tt, kept_not (origin_at (end_of o) o) (Took (end_of o) 0 (zero_piece 0) ∷ begun_entries o line) (end_of o) (removes line.command) true
-        refl refl),
+    (
+      tt,
+      kept_not (origin_at (end_of o) o) (Took (end_of o) 0 (zero_piece 0) ∷ begun_entries o line) (end_of o) (removes line.command) true
+          refl refl,
+    ),
     (tt, (begun_faithful, tt)),
   )
 
@@ -173,10 +176,10 @@ module _ (o : Origin) (line : Line) (quiet_data : is_data line.command ≡ false
             (Some (line, None)) said ≡ true
         ended answer.Fine may =
             answer_of (Changed made 0 version ∷ open_entries o line opened version) line answer.Fine quiet_data
-                (commit_says line.command 0 commit).0 (not_or_true (is_wait line.command)) refl
+            (commit_says line.command 0 commit).0 (not_or_true (is_wait line.command)) refl
         ended (answer.PvFailed pv) may =
             answer_of (Changed made 0 version ∷ open_entries o line opened version) line (answer.PvFailed pv) quiet_data
-                (commit_says line.command pv commit).1 (not_or_true (is_wait line.command)) refl
+            (commit_says line.command pv commit).1 (not_or_true (is_wait line.command)) refl
         ended other may = absurd may
 
     -- or given up
@@ -187,7 +190,7 @@ module _ (o : Origin) (line : Line) (quiet_data : is_data line.command ≡ false
         moments = omega arith;
         order =
             answer_of (GivenUp (end_of o) 0 ∷ open_entries o line opened version) line (answer.PvFailed pv) quiet_data
-                (commit_says line.command pv commit).1 (not_or_true (is_wait line.command)) refl;
+            (commit_says line.command pv commit).1 (not_or_true (is_wait line.command)) refl;
         makes = tt;
       },
       (
@@ -203,7 +206,7 @@ module _ (o : Origin) (line : Line) (quiet_data : is_data line.command ≡ false
         moments = to;
         order =
             answer_of (open_entries o line opened version) line (answer.PvFailed pv) quiet_data (commit_says line.command pv commit).1
-                (not_or_true (is_wait line.command)) refl;
+            (not_or_true (is_wait line.command)) refl;
         makes = tt;
       },
       opened_ordered commit,
@@ -217,7 +220,7 @@ module _ (o : Origin) (line : Line) (quiet_data : is_data line.command ≡ false
           (end_of o)
       made_leaves made =
           kept_not (origin_at (end_of o) o) (Changed made 0 version ∷ open_entries o line opened version) (end_of o) (removes line.command)
-              true refl refl
+          true refl refl
 
       pub made_faithful : (made : ℕ) (said : Answer) → MayEnd said
           → FindsNow (origin_at made o) (open_entries o line opened version) made version
@@ -231,6 +234,7 @@ module _ (o : Origin) (line : Line) (quiet_data : is_data line.command ≡ false
           ((tt, λ keeps. absurd (true≢false (sym keeps ∙ ap (λ (b : Bool). b && true) kept))), (tt, opened_faithful))
 
       pub fenced_faithful : (pv : ℕ) → AllFaithful o (fenced_entries o line opened version pv)
-      fenced_faithful pv =
-          ((tt, kept_not (origin_at (end_of o) o) (open_entries o line opened version) (end_of o) (removes line.command) true refl refl),
-              opened_faithful)
+      fenced_faithful pv = (
+        (tt, kept_not (origin_at (end_of o) o) (open_entries o line opened version) (end_of o) (removes line.command) true refl refl),
+        opened_faithful,
+      )

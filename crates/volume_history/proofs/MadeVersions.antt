@@ -1,7 +1,7 @@
 -- The version that a command makes, command by command.
-use Rattle.std.proofs.Common.{◌≡◌, ◌≤◌, ◌<◌, ℕ, zero, suc, ◌+◌, ◌==◌, ◌&&◌, ◌||◌, nat_le, nat_lt, Bool, true, false, if◌then◌else◌,
-    slice_index_or, List, [], ◌∷◌, ◌++◌, drop, take, length, Option, Some, None, inl, inr, ⊎_elim, refl, sym, ap, subst, ◌∙◌, arith,
-    length-append}
+use Rattle.std.proofs.Common.{◌≡◌, ◌≤◌, ◌<◌, ℕ, zero, suc, ◌+◌, ◌==◌, ◌&&◌, ◌||◌, nat_le, nat_lt, Bool, true, false, if◌then◌else◌}
+use Rattle.std.proofs.Common.{slice_index_or, List, [], ◌∷◌, ◌++◌, drop, take, length, Option, Some, None, inl, inr, ⊎_elim, refl, sym, ap}
+use Rattle.std.proofs.Common.{subst, ◌∙◌, arith, length-append}
 use Rattle.std.specs.Str.{bytes_eq}
 use Rattle.std.proofs.lemmas.Bool.{cases_lt}
 use Rattle.std.proofs.lemmas.Bool.Decides.{nat_tests}
@@ -13,11 +13,11 @@ use Rattle.command_table.specs.declared.amount.Growth.{Growth}
 use Rattle.command_table.specs.declared.command.NewVolume.{NewVolume}
 use Rattle.command_table.specs.declared.command.Path.{Path}
 use Rattle.disk_model.specs.Steps.{Image}
-use Rattle.line_table.specs.Machine.{Created, Extended, Nothing, PlainState, PlainStep, PlainVolume, key_of, plain_after, sectors_of,
-    with_key}
+use Rattle.line_table.specs.Machine.{Created, Extended, Nothing, PlainState, PlainStep, PlainVolume, key_of, plain_after, sectors_of}
+use Rattle.line_table.specs.Machine.{with_key}
 use Rattle.image_scans.specs.Versions.{Version}
-use Rattle.volume_history.proofs.ComingFrom.{come_both, come_changed, come_kept, come_without, found_key, key_from, none_equal, other_equal,
-    places_changed, plain_at}
+use Rattle.volume_history.proofs.ComingFrom.{come_both, come_changed, come_kept, come_without, found_key, key_from, none_equal, other_equal}
+use Rattle.volume_history.proofs.ComingFrom.{places_changed, plain_at}
 use Rattle.volume_history.proofs.Bits.{and_both, eq_to, itself, lt_false, lt_true}
 use Rattle.volume_history.proofs.Quiet.{value_on, values_length}
 use Rattle.volume_history.proofs.RestoredVersions.{restored_version}
@@ -45,7 +45,7 @@ kept c before after same machine unborn named = record {
       subst (λ (vs : List PlacedVolume). AllCome (volumes_of before) state step image vs (plain_after state step).volumes) (sym same)
       (subst (λ (ps : List PlainVolume). AllCome (volumes_of before) state step image (volumes_of before) ps) (sym (machine opening image))
       (come_kept (volumes_of before) state step image opening 0 (volumes_of before) (λ key x le lt. unborn opening image key x)
-          (λ key x place stood. stood)));
+      (λ key x place stood. stood)));
   births = λ opening image key x. unborn opening image key x ∙ sym (unborn opening no_image key x);
 }
 
@@ -100,11 +100,11 @@ sectors_named opening name k (v ∷ vs) key found = by (λ is. sectors_named ope
         ≡ values_on opening (if bytes_eq v.name name then v.places else places_named vs name)
     by rest true named is =
         ap (λ (b : Bool). if b then values_on opening v.places else sectors_of (opening_volumes opening (k + 1) vs) key)
-            (eq_to k key (same_Some k key is))
+        (eq_to k key (same_Some k key is))
         ∙ sym (ap (λ (b : Bool). values_on opening (if b then v.places else places_named vs name)) named)
     by rest false named is =
         ap (λ (b : Bool). if b then values_on opening v.places else sectors_of (opening_volumes opening (k + 1) vs) key)
-            (none_equal k key (key_from [] empty_state Nothing opening opening name (k + 1) vs key is))
+        (none_equal k key (key_from [] empty_state Nothing opening opening name (k + 1) vs key is))
         ∙ rest is ∙ sym (ap (λ (b : Bool). values_on opening (if b then v.places else places_named vs name)) named)
 
 grown_sectors : (opening : Image) (more : List (List ℕ)) (name : List ℕ) (k : ℕ) (vs : List PlacedVolume) (key : ℕ)
@@ -121,7 +121,7 @@ grown_sectors opening more name k (v ∷ vs) key found =
     here : Bool → List (List ℕ)
     here b =
         sectors_of ((if b then record (plain_at opening k v) { sectors = values_on opening v.places ++ more } else plain_at opening k v)
-            ∷ with_key key (λ (p : PlainVolume). record p { sectors = p.sectors ++ more }) (opening_volumes opening (k + 1) vs)) key
+        ∷ with_key key (λ (p : PlainVolume). record p { sectors = p.sectors ++ more }) (opening_volumes opening (k + 1) vs)) key
 
     by : (key_of (opening_volumes opening (k + 1) vs) name ≡ Some key
         → sectors_of (with_key key (λ (p : PlainVolume). record p { sectors = p.sectors ++ more }) (opening_volumes opening (k + 1) vs)) key
@@ -133,8 +133,8 @@ grown_sectors opening more name k (v ∷ vs) key found =
     by rest true named is =
         let same : (k == key) ≡ true = eq_to k key (same_Some k key is) in
         ap (λ (b : Bool). sectors_of ((if b then record (plain_at opening k v) { sectors = values_on opening v.places ++ more }
-            else plain_at opening k v) ∷ with_key key (λ (p : PlainVolume). record p { sectors = p.sectors ++ more })
-            (opening_volumes opening (k + 1) vs)) key) same
+        else plain_at opening k v) ∷ with_key key (λ (p : PlainVolume). record p { sectors = p.sectors ++ more })
+        (opening_volumes opening (k + 1) vs)) key) same
         ∙ ap (λ (b : Bool). if b then values_on opening v.places
         ++ more else sectors_of (with_key key (λ (p : PlainVolume). record p { sectors = p.sectors ++ more })
         (opening_volumes opening (k + 1) vs)) key) same
@@ -142,8 +142,8 @@ grown_sectors opening more name k (v ∷ vs) key found =
     by rest false named is =
         let differ : (k == key) ≡ false = none_equal k key (key_from [] empty_state Nothing opening opening name (k + 1) vs key is) in
         ap (λ (b : Bool). sectors_of ((if b then record (plain_at opening k v) { sectors = values_on opening v.places ++ more }
-            else plain_at opening k v) ∷ with_key key (λ (p : PlainVolume). record p { sectors = p.sectors ++ more })
-            (opening_volumes opening (k + 1) vs)) key) differ
+        else plain_at opening k v) ∷ with_key key (λ (p : PlainVolume). record p { sectors = p.sectors ++ more })
+        (opening_volumes opening (k + 1) vs)) key) differ
         ∙ ap (λ (b : Bool). if b then values_on opening v.places else sectors_of
         (with_key key (λ (p : PlainVolume). record p { sectors = p.sectors ++ more }) (opening_volumes opening (k + 1) vs)) key) differ
         ∙ rest is ∙ sym (ap (λ (b : Bool). values_on opening (if b then v.places else places_named vs name) ++ more) named)
@@ -195,7 +195,7 @@ sectors_last opening k [] p own = ap (λ (b : Bool). if b then p.sectors else []
 sectors_last opening k (v ∷ vs) p own =
     let e : k + length (v ∷ vs) ≡ (k + 1) + length vs = omega arith in
     ap (λ (b : Bool). if b then values_on opening v.places else sectors_of (opening_volumes opening (k + 1) vs ++ p ∷ [])
-        (k + length (v ∷ vs))) (none_equal k (k + length (v ∷ vs)) (omega arith))
+    (k + length (v ∷ vs))) (none_equal k (k + length (v ∷ vs)) (omega arith))
     ∙ ap (λ (n : ℕ). sectors_of (opening_volumes opening (k + 1) vs ++ p ∷ []) n) e ∙ sectors_last opening (k + 1) vs p (own ∙ e)
 
 module _ (before after : Option Version) where
@@ -215,7 +215,7 @@ module _ (before after : Option Version) where
         let step : PlainStep = command_step (command.Lvrename vg old new) before after state image in
         subst (λ (l : List PlacedVolume). AllCome vs state step image l (plain_after state step).volumes) (sym is.0)
         (come_changed vs state step image opening old (named_so new) (λ (v : PlainVolume). record v { name = new }) (key_at opening old)
-            (λ other x no. refl) 0 vs (found_key opening old vs is.1) (λ key x place stood. stood)
+        (λ other x no. refl) 0 vs (found_key opening old vs is.1) (λ key x place stood. stood)
         (λ v e here. (refl, values_length opening v.places, λ x lt. inr (refl, here x (place_at v.places x) (inl (refl, lt, refl))))));
     births = λ opening image key x. refl;
   }
@@ -228,7 +228,7 @@ module _ (before after : Option Version) where
         let step : PlainStep = command_step (command.Lvremove path) before after state image in
         subst (λ (l : List PlacedVolume). AllCome vs state step image l (plain_after state step).volumes) (sym is.0)
         (come_without vs state step image opening path.lv (λ v. v) (λ (v : PlainVolume). v) (key_at opening path.lv) (λ other x no. refl) 0
-            vs (found_key opening path.lv vs is.1) (λ key x place stood. stood));
+        vs (found_key opening path.lv vs is.1) (λ key x place stood. stood));
     births = λ opening image key x. refl;
   }
 
@@ -242,10 +242,10 @@ module _ (before after : Option Version) where
         let left : ℕ = length (places_named (volumes_of after) path.lv) in
         let places : places_named (volumes_of after) path.lv ≡ take is.0 (places_named vs path.lv) =
         ap (λ (l : List PlacedVolume). places_named l path.lv) is.1
-            ∙ places_changed path.lv (cut_to is.0) (take is.0) (λ v. refl) (λ v. refl) vs is.2 in
+        ∙ places_changed path.lv (cut_to is.0) (take is.0) (λ v. refl) (λ v. refl) vs is.2 in
         subst (λ (l : List PlacedVolume). AllCome vs state step image l (plain_after state step).volumes) (sym is.1)
         (come_changed vs state step image opening path.lv (cut_to is.0) (λ (v : PlainVolume). record v { sectors = take left v.sectors })
-            (key_at opening path.lv) (λ other x no. refl) 0 vs (found_key opening path.lv vs is.2) (λ key x place stood. stood)
+        (key_at opening path.lv) (λ other x no. refl) 0 vs (found_key opening path.lv vs is.2) (λ key x place stood. stood)
         (λ v e here.
         let cut : left ≡ length (take is.0 v.places) = ap length places ∙ ap (λ (l : List Place). length (take is.0 l)) e in (
           refl,
@@ -266,14 +266,14 @@ module _ (before after : Option Version) where
         let step : PlainStep = Extended key more in
         let found = found_key opening path.lv vs is.2 in
         let old : sectors_of (opening_volumes opening 0 vs) key ≡ values_on opening (places_named vs path.lv) =
-            sectors_named opening path.lv 0 vs key found in
+        sectors_named opening path.lv 0 vs key found in
         subst (λ (st : PlainStep). AllCome vs state st image (volumes_of after) (plain_after state st).volumes)
-            (sym (step_is opening image))
+        (sym (step_is opening image))
         (subst (λ (l : List PlacedVolume). AllCome vs state step image l (plain_after state step).volumes) (sym is.1)
         (come_changed vs state step image opening path.lv (grown_by is.0) (λ (v : PlainVolume). record v { sectors = v.sectors ++ more })
-            key
+        key
         (λ other x no. ap (λ (b : Bool). b && (nat_le (length (sectors_of (opening_volumes opening 0 vs) other)) x
-            && nat_lt x (length (sectors_of (opening_volumes opening 0 vs) other) + length more))) no) 0 vs found (λ k x place stood. stood)
+        && nat_lt x (length (sectors_of (opening_volumes opening 0 vs) other) + length more))) no) 0 vs found (λ k x place stood. stood)
         (λ v e here.
         let count : length (sectors_of (opening_volumes opening 0 vs) key) ≡ length v.places =
         ap length old ∙ ap (λ (l : List Place). length (values_on opening l)) e ∙ sym (values_length opening v.places) in (
@@ -296,10 +296,10 @@ module _ (before after : Option Version) where
                 and_both (key == key) (nat_le (length (sectors_of (opening_volumes opening 0 vs) key)) x
                     && nat_lt x (length (sectors_of (opening_volumes opening 0 vs) key) + length more)) (eq_to key key refl)
                     (and_both (nat_le (length (sectors_of (opening_volumes opening 0 vs) key)) x)
-                        (nat_lt x (length (sectors_of (opening_volumes opening 0 vs) key) + length more))
+                    (nat_lt x (length (sectors_of (opening_volumes opening 0 vs) key) + length more))
                     (le_true (length (sectors_of (opening_volumes opening 0 vs) key)) x (omega (arith, high, count)))
-                        (lt_true x (length (sectors_of (opening_volumes opening 0 vs) key) + length more)
-                        (omega (arith, lt, long, new, count)))),
+                    (lt_true x (length (sectors_of (opening_volumes opening 0 vs) key) + length more)
+                    (omega (arith, lt, long, new, count)))),
                 ap (λ (l : List (List ℕ)). slice_index_or l x [])
                     (grown_sectors opening more path.lv 0 vs key found ∙ ap (λ (l : List Place). values_on opening l ++ more) e)
                     ∙ grown_value opening image v.places is.0 x high lt,
@@ -322,10 +322,10 @@ module _ (before after : Option Version) where
       step_is opening image =
           let places : places_named (volumes_of after) path.lv ≡ places_named vs path.lv ++ is.0 =
           ap (λ (l : List PlacedVolume). places_named l path.lv) is.1
-              ∙ places_changed path.lv (grown_by is.0) (λ l. l ++ is.0) (λ v. refl) (λ v. refl) vs is.2 in
+          ∙ places_changed path.lv (grown_by is.0) (λ l. l ++ is.0) (λ v. refl) (λ v. refl) vs is.2 in
           let count : length (sectors_of (opening_volumes opening 0 vs) (key_at opening path.lv)) ≡ length (places_named vs path.lv) =
           ap length (sectors_named opening path.lv 0 vs (key_at opening path.lv) (found_key opening path.lv vs is.2))
-              ∙ sym (values_length opening (places_named vs path.lv)) in
+          ∙ sym (values_length opening (places_named vs path.lv)) in
           ap (λ (l : List (List ℕ)). Extended (key_at opening path.lv) l)
           (ap (λ (n : ℕ). drop n (values_on image (places_named (volumes_of after) path.lv))) count
           ∙ ap (λ (l : List Place). drop (length (places_named vs path.lv)) (values_on image l)) places
@@ -341,14 +341,14 @@ module _ (before after : Option Version) where
         let own : PlainVolume = record { key = length vs; name = new.lv; sectors = sectors } in
         let zero_less : 0 + length vs ≡ length vs = omega arith in
         let count : length is.0.places ≡ length sectors =
-            values_length image is.0.places ∙ sym (zeroed_length 8 (values_on image is.0.places)) in
+        values_length image is.0.places ∙ sym (zeroed_length 8 (values_on image is.0.places)) in
         subst (λ (st : PlainStep). AllCome vs state st image (volumes_of after) (plain_after state st).volumes)
-            (sym (step_is opening image))
+        (sym (step_is opening image))
         (subst (λ (l : List PlacedVolume). AllCome vs state step image l (plain_after state step).volumes) (sym is.2)
         (come_both vs state step image opening vs (is.0 ∷ []) (opening_volumes opening 0 vs) (own ∷ [])
         (come_kept vs state step image opening 0 vs
-            (λ key x le lt. ap (λ (b : Bool). b && nat_lt x (length sectors)) (other_equal (length vs) key (omega (arith, lt))))
-            (λ key x place stood. stood)) (
+        (λ key x le lt. ap (λ (b : Bool). b && nat_lt x (length sectors)) (other_equal (length vs) key (omega (arith, lt))))
+        (λ key x place stood. stood)) (
           is.1,
           count,
           λ x lt. inl (
@@ -383,7 +383,7 @@ module _ (before after : Option Version) where
       step_is opening image =
           ap (λ (l : List Place). Created new.lv (zeroed 8 (values_on image l)))
           (ap (λ (l : List PlacedVolume). places_named l new.lv) is.2
-              ∙ places_last new.lv vs is.0 is.3 (ap (λ (n : List ℕ). bytes_eq n new.lv) is.1 ∙ itself new.lv))
+          ∙ places_last new.lv vs is.0 is.3 (ap (λ (n : List ℕ). bytes_eq n new.lv) is.1 ∙ itself new.lv))
 
 -- where there is no group there is no volume
 no_volumes : volumes_of None ≡ []
@@ -407,7 +407,7 @@ changes_make (command.Lvextend path growth pvs) before after is = extended befor
 changes_make (command.Lvcreate new) before after is = created before after new is
 changes_make (command.Vgremove vg) before after is =
     kept (command.Vgremove vg) before after (ap (λ (v : Option Version). volumes_of v) is.1 ∙ no_volumes ∙ sym is.0) (λ o i. refl)
-        (λ o i k x. refl) (λ o i. ap (λ (v : Option Version). group_name v) is.1)
+    (λ o i k x. refl) (λ o i. ap (λ (v : Option Version). group_name v) is.1)
 changes_make (command.Vgcfgrestore vg text) before after is = restored_version before after vg text is.0 is.1 is.2
 changes_make _ before after is = absurd is
 

@@ -1,14 +1,14 @@
 -- Two versions that a scan of one image finds with the same disks left out are one.
-use Rattle.std.proofs.Common.{◌≡◌, ◌<◌, ◌↔◌, ℕ, ◌+◌, Bool, true, None, List, [], ◌∷◌, length, map, Option, option_map, sym, ap, subst, ◌∙◌,
-    arith}
+use Rattle.std.proofs.Common.{◌≡◌, ◌<◌, ◌↔◌, ℕ, ◌+◌, Bool, true, None, List, [], ◌∷◌, length, map, Option, option_map, sym, ap, subst, ◌∙◌}
+use Rattle.std.proofs.Common.{arith}
 use Rattle.std.proofs.lemmas.List.{length-map}
 use Rattle.std.specs.FinSet as set
 use Rattle.std.specs.Ordering.{nat_cmp}
 use Rattle.disk_model.specs.Steps.{Image}
 use Rattle.image_scans.specs.Versions.{FindsVersion, Version, version_in}
 use Rattle.meta_model.specs.declared.group.Group.{Group}
-use Rattle.scan_rules.specs.Decision.{Reading, ScanAnswer, DuplicatePv, NoCopy, Unsupported, TwoGroups, Conflict, PvShape, NoGroup,
-    FoundGroup, decide_scan}
+use Rattle.scan_rules.specs.Decision.{Reading, ScanAnswer, DuplicatePv, NoCopy, Unsupported, TwoGroups, Conflict, PvShape, NoGroup}
+use Rattle.scan_rules.specs.Decision.{FoundGroup, decide_scan}
 use Rattle.vg_found.specs.Disks.{disks_of}
 use Rattle.vg_found.specs.Shape.{IsUnread}
 use Rattle.vg_found.specs.declared.disk.Disk.{Disk}
@@ -48,12 +48,12 @@ one_group (PvShape a) f g is is' = absurd is
 abbrev pub DisksAreOne : Type 0
 DisksAreOne =
     (image : Image) (sizes : List ℕ) (unread : set.FinSet nat_cmp) (ds es : List Disk) (xs ys : List Reading)
-        → AreReadings image sizes unread ds xs → AreReadings image sizes unread es ys → ds ≡ es
+    → AreReadings image sizes unread ds xs → AreReadings image sizes unread es ys → ds ≡ es
 
 abbrev pub ReadingsAreOne : Type 0
 ReadingsAreOne =
     (image : Image) (sizes : List ℕ) (unread : set.FinSet nat_cmp) (ds es : List Disk) (xs ys : List Reading)
-        → AreReadings image sizes unread ds xs → AreReadings image sizes unread es ys → xs ≡ ys
+    → AreReadings image sizes unread ds xs → AreReadings image sizes unread es ys → xs ≡ ys
 
 -- what is found with one group on the same disks is one version
 same_version : (f g : Found) → f.group ≡ g.group → f.disks ≡ g.disks → version_in f ≡ version_in g
@@ -69,12 +69,12 @@ read_the_same : (sizes : List ℕ) (image : Image) (out : ℕ → Bool) (f g : F
 read_the_same sizes image out f g readings left left' are =
     let many : length (map (λ (disk : Disk). disk.sectors) g.disks) ≡ length sizes = ap (λ (l : List ℕ). length l) are.sizes_is in
     let known : length (map (λ (disk : Disk). disk.sectors) g.disks) ≡ length g.disks =
-        length-map g.disks (λ (disk : Disk). disk.sectors) in
+    length-map g.disks (λ (disk : Disk). disk.sectors) in
     record {
       sizes_is = are.sizes_is;
       each =
           read_by image g.unread f.unread 0 g.disks readings
-              (λ k lt. left' k (omega (arith, lt, many, known)) ∙ sym (left k (omega (arith, lt, many, known)))) are.each;
+          (λ k lt. left' k (omega (arith, lt, many, known)) ∙ sym (left k (omega (arith, lt, many, known)))) are.each;
     }
 
 pub one_version : DisksAreOne → ReadingsAreOne → (sizes : List ℕ) (image : Image) (out : ℕ → Bool) (version other : Option Version)
@@ -85,6 +85,6 @@ one_version disks_one readings_one sizes image out version other f g =
     sym f.version_is
     ∙ same_version f.found g.found
     (one_group (decide_scan g.scan.readings) f.found g.found
-        (subst (λ (l : List Reading). IsFoundBy (decide_scan l) f.found) readings f.scan.answer) g.scan.answer)
+    (subst (λ (l : List Reading). IsFoundBy (decide_scan l) f.found) readings f.scan.answer) g.scan.answer)
     (disks_one image sizes f.found.unread f.found.disks g.found.disks f.scan.readings g.scan.readings f.scan.are are)
     ∙ g.version_is

@@ -1,6 +1,6 @@
 -- The moments of the history of one line: before it, while it runs, while its commit runs, and from its answer on.
-use Rattle.std.proofs.Common.{◌≡◌, ◌≤◌, ◌<◌, ℕ, ◌-◌, Bool, if◌then◌else◌, List, [], ◌∷◌, ◌++◌, length, drop, Option, inl, ⊎_elim, refl, sym,
-    ap, subst, ◌∙◌, arith}
+use Rattle.std.proofs.Common.{◌≡◌, ◌≤◌, ◌<◌, ℕ, ◌-◌, Bool, if◌then◌else◌, List, [], ◌∷◌, ◌++◌, length, drop, Option, inl, ⊎_elim, refl, sym}
+use Rattle.std.proofs.Common.{ap, subst, ◌∙◌, arith}
 use Rattle.std.proofs.lemmas.Bool.{cases_lt}
 use Rattle.disk_model.specs.Moments.{at_moment}
 use Rattle.disk_model.specs.Steps.{Image}
@@ -11,8 +11,8 @@ use Rattle.volume_history.proofs.Consistent.{parts_make_consistent}
 use Rattle.volume_history.proofs.EarlierMoments.{all_upto, now_before}
 use Rattle.volume_history.proofs.Reshaped.{HasNoBase, opening_primaries}
 use Rattle.volume_history.specs.Candidates.{IsConsistentMoment, IsConsistentNow}
-use Rattle.volume_history.specs.Chronicles.{AreUpto, Chronicle, ChronicleEntry, Origin, in_force, left_out, moment_of, now_at, origin_at,
-    pending, upto}
+use Rattle.volume_history.specs.Chronicles.{AreUpto, Chronicle, ChronicleEntry, Origin, in_force, left_out, moment_of, now_at, origin_at}
+use Rattle.volume_history.specs.Chronicles.{pending, upto}
 use Rattle.volume_history.specs.Parts.{NextPart, Primaries, ScansPart}
 use Rattle.volume_history.specs.Placed.{group_name, volumes_of}
 use Rattle.volume_history.specs.Quiet.{AllUntouched}
@@ -29,14 +29,14 @@ upto_over : (m k : ℕ) (late early : List ChronicleEntry) → AllAt k late → 
 upto_over m k [] early at lt = refl
 upto_over m k (e ∷ late) early at lt =
     ap (λ (b : Bool). if b then upto m (late ++ early) else e ∷ upto m (late ++ early))
-        (lt_true m (moment_of e) (subst (λ (j : ℕ). m < j) (sym at.0) lt))
+    (lt_true m (moment_of e) (subst (λ (j : ℕ). m < j) (sym at.0) lt))
     ∙ upto_over m k late early at.1 lt
 
 upto_none : (m k : ℕ) (es : List ChronicleEntry) → AllAt k es → m < k → upto m es ≡ []
 upto_none m k [] at lt = refl
 upto_none m k (e ∷ es) at lt =
     ap (λ (b : Bool). if b then upto m es else e ∷ upto m es) (lt_true m (moment_of e) (subst (λ (j : ℕ). m < j) (sym at.0) lt))
-        ∙ upto_none m k es at.1 lt
+    ∙ upto_none m k es at.1 lt
 
 -- from it on they are there
 at_upto : (m k : ℕ) (es : List ChronicleEntry) → AllAt k es → k ≤ m → AreUpto m es
@@ -71,7 +71,7 @@ pub untouched_then : (o : Origin) → IsStill o → (m : ℕ) → o.first ≤ m 
     → AllUntouched (now_at (origin_at m o) o.first) (volumes_of o.version) (at_moment m o.told)
 untouched_then o still m ge le =
     subst (λ (i : Image). AllUntouched i (volumes_of o.version) (at_moment m o.told)) (sym (now_before o o.first m ge le))
-        (still.untouched m ge le)
+    (still.untouched m ge le)
 
 -- a phase in which the version of the start is in force, and no sector of it has another base than the opening
 pub opening_phase : (o : Origin) → IsStill o → (es : List ChronicleEntry) (m : ℕ) → o.first ≤ m → m ≤ end_of o
@@ -83,7 +83,7 @@ opening_phase o still es m ge le none opening force scans next = record {
   primaries =
       subst (λ (v : Option Version). Primaries (origin_at m o) es (volumes_of v) (plain_state (origin_at m o) es).volumes) (sym force)
       (subst (λ (s : PlainState). Primaries (origin_at m o) es (volumes_of o.version) s.volumes) (sym opening)
-          (opening_primaries (origin_at m o) es none (untouched_then o still m ge le)));
+      (opening_primaries (origin_at m o) es none (untouched_then o still m ge le)));
   name = ap (λ (v : Option Version). group_name v) force ∙ sym (ap (λ (s : PlainState). s.group) opening);
   next = next;
 }
@@ -93,7 +93,7 @@ pub phase_before : (o : Origin) → IsStill o → (m : ℕ) → o.first ≤ m �
 phase_before o still m ge le last =
     opening_phase o still [] m ge last (λ key x. refl) refl refl
     (λ image is. inl (finds_with o.sizes image none_out (left_out (origin_at m o) [] (length (origin_at m o).told.steps)) o.version
-        (λ pv. refl) (still.before m ge le image is))) tt
+    (λ pv. refl) (still.before m ge le image is))) tt
 
 -- The moments of a line that begins at the start, opens its commit at one moment, makes it at another, and is answered at the end:
 -- its entries of each, and what makes each phase consistent.
@@ -130,7 +130,7 @@ module _ (o : Origin) (still : IsStill o) (late behind middle early : List Chron
   behind_upto : (m : ℕ) → made ≤ m → AreUpto m (behind ++ (middle ++ early))
   behind_upto m on =
       both_upto m behind (middle ++ early) (at_upto m made behind p.at_made on)
-          (middle_upto m (let opens = p.on in omega (arith, opens, on)))
+      (middle_upto m (let opens = p.on in omega (arith, opens, on)))
 
   -- before the end, before it was made, before it was opened
   unanswered : (m : ℕ) → m < end_of o → upto m whole.entries ≡ upto m (behind ++ (middle ++ early))
@@ -153,21 +153,21 @@ module _ (o : Origin) (still : IsStill o) (late behind middle early : List Chron
       (λ (first : m < opened).
       ⊎_elim
       (λ (early_on : m < o.start). phase_is m [] (unopened m lt before first ∙ upto_none m o.start early p.at_start early_on)
-          (phase_before o still m ge (omega (arith, early_on)) le))
+      (phase_before o still m ge (omega (arith, early_on)) le))
       (λ (on : o.start ≤ m). phase_is m early (unopened m lt before first ∙ all_upto m early (early_upto m on)) (p.begun m on first))
       (cases_lt m o.start))
       (λ (on : opened ≤ m). phase_is m (middle ++ early) (unmade m lt before ∙ all_upto m (middle ++ early) (middle_upto m on))
-          (p.running m on before))
+      (p.running m on before))
       (cases_lt m opened))
       (λ (on : made ≤ m). phase_is m (behind ++ (middle ++ early))
-          (unanswered m lt ∙ all_upto m (behind ++ (middle ++ early)) (behind_upto m on)) (p.kept m on lt))
+      (unanswered m lt ∙ all_upto m (behind ++ (middle ++ early)) (behind_upto m on)) (p.kept m on lt))
       (cases_lt m made))
       (λ (on : end_of o ≤ m).
       let e : end_of o ≡ m = omega (arith, on, le) in
       let to = p.to in
       phase_is m (late ++ (behind ++ (middle ++ early)))
       (all_upto m (late ++ (behind ++ (middle ++ early)))
-          (both_upto m late (behind ++ (middle ++ early)) (at_upto m (end_of o) late p.at_end on) (behind_upto m (omega (arith, to, on)))))
+      (both_upto m late (behind ++ (middle ++ early)) (at_upto m (end_of o) late p.at_end on) (behind_upto m (omega (arith, to, on)))))
       (subst (λ (k : ℕ). IsPhase o (late ++ (behind ++ (middle ++ early))) k) e p.after))
       (cases_lt m (end_of o))
 

@@ -1,6 +1,6 @@
 -- A history that leaves the volumes as they are is consistent where no place of a volume is written.
-use Rattle.std.proofs.Common.{◌≡◌, ◌≤◌, ◌<◌, ℕ, zero, suc, ◌+◌, ◌==◌, ◌&&◌, Bool, true, false, if◌then◌else◌, slice_index_or, List, [], ◌∷◌,
-    length, Option, Some, None, refl, sym, ap, subst, ◌∙◌, arith}
+use Rattle.std.proofs.Common.{◌≡◌, ◌≤◌, ◌<◌, ℕ, zero, suc, ◌+◌, ◌==◌, ◌&&◌, Bool, true, false, if◌then◌else◌, slice_index_or, List, [], ◌∷◌}
+use Rattle.std.proofs.Common.{length, Option, Some, None, refl, sym, ap, subst, ◌∙◌, arith}
 use Rattle.std.proofs.lemmas.Bool.Decides.{nat_tests}
 use Rattle.disk_model.specs.CrashValues.{MayLeave}
 use Rattle.disk_model.specs.Moments.{at_moment}
@@ -14,8 +14,8 @@ use Rattle.volume_history.proofs.CommandKinds.{quiet_command}
 use Rattle.volume_history.proofs.Consistent.{next_by_keeps, parts_make_consistent}
 use Rattle.volume_history.proofs.EarlierMoments.{now_before}
 use Rattle.volume_history.specs.Candidates.{IsConsistentMoment, IsConsistentNow, base_from, is_born, is_ok, no_image, place_at, writes_line}
-use Rattle.volume_history.specs.Chronicles.{Answered, Begun, Changed, Chronicle, ChronicleEntry, Failed, GivenUp, Opened, Origin, Took,
-    begun_in, chronicle_at, in_force, now_at, pending, piece_covers}
+use Rattle.volume_history.specs.Chronicles.{Answered, Begun, Changed, Chronicle, ChronicleEntry, Failed, GivenUp, Opened, Origin, Took}
+use Rattle.volume_history.specs.Chronicles.{begun_in, chronicle_at, in_force, now_at, pending, piece_covers}
 use Rattle.volume_history.specs.Commands.{writes}
 use Rattle.volume_history.specs.Parts.{KeepsAll, Primaries, ScansPart}
 use Rattle.volume_history.specs.Placed.{Place, PlacedVolume, values_on, volumes_of}
@@ -73,14 +73,14 @@ quiet_volumes o (Begun m n line key ∷ es) q = quiet_volumes o es q.1
 quiet_volumes o (Opened m n version ∷ es) q = quiet_volumes o es q
 quiet_volumes o (Took m n piece ∷ es) q =
     ap (λ (s : PlainStep). (plain_after (plain_state o es) s).volumes) (took_nothing (begun_in es n) piece (begun_quiet es n q).writes)
-        ∙ quiet_volumes o es q
+    ∙ quiet_volumes o es q
 quiet_volumes o (Changed m n version ∷ es) q =
     (begun_quiet es n q).step (in_force o es) version (plain_state o es) (now_at o m) ∙ quiet_volumes o es q
 quiet_volumes o (GivenUp m n ∷ es) q = quiet_volumes o es q
 quiet_volumes o (Failed m n piece ∷ es) q =
     ap (λ (s : PlainStep). (plain_after (plain_state o es) s).volumes)
-        (failed_nothing (begun_in es n) (in_force o es) (plain_state o es) (now_at o m) piece (begun_quiet es n q).writes)
-        ∙ quiet_volumes o es q
+    (failed_nothing (begun_in es n) (in_force o es) (plain_state o es) (now_at o m) piece (begun_quiet es n q).writes)
+    ∙ quiet_volumes o es q
 quiet_volumes o (Answered m n answer ∷ es) q = quiet_volumes o es q
 
 -- and the base of each sector is the opening
@@ -100,7 +100,7 @@ quiet_base o all key x (Took m n piece ∷ es) q =
     ∙ quiet_base o all key x es q
 quiet_base o all key x (Changed m n version ∷ es) q =
     ap (λ (b : Bool). if b then Changed m n version ∷ es else base_from o all key x es)
-        ((begun_quiet es n q).births (in_force o es) version (plain_state o es) no_image key x)
+    ((begun_quiet es n q).births (in_force o es) version (plain_state o es) no_image key x)
     ∙ quiet_base o all key x es q
 quiet_base o all key x (GivenUp m n ∷ es) q = quiet_base o all key x es q
 quiet_base o all key x (Failed m n piece ∷ es) q = quiet_base o all key x es q
@@ -121,9 +121,10 @@ OwnSectors whole (p ∷ ps) = (sectors_of whole p.key ≡ p.sectors) × OwnSecto
 
 own_more : (q : PlainVolume) (whole ps : List PlainVolume) → KeysFrom (q.key + 1) ps → OwnSectors whole ps → OwnSectors (q ∷ whole) ps
 own_more q whole [] keys own = tt
-own_more q whole (p ∷ ps) keys own =
-    (ap (λ (b : Bool). if b then q.sectors else sectors_of whole p.key) (other q.key p.key keys.0) ∙ own.0,
-        own_more q whole ps keys.1 own.1)
+own_more q whole (p ∷ ps) keys own = (
+  ap (λ (b : Bool). if b then q.sectors else sectors_of whole p.key) (other q.key p.key keys.0) ∙ own.0,
+  own_more q whole ps keys.1 own.1,
+)
   where
     other : (a b : ℕ) → a + 1 ≤ b → (a == b) ≡ false
     other a b le = grind (arith, nat_tests)
@@ -211,4 +212,4 @@ pub quiet_consistent : (c : Chronicle) (moment : ℕ) → c.origin.first ≤ mom
 quiet_consistent c moment ge le is =
     quiet_now (chronicle_at moment c) is.quiet is.scans
     (subst (λ (i : Image). AllUntouched i (volumes_of c.origin.version) (at_moment moment c.origin.told))
-        (sym (now_before c.origin c.origin.first moment ge le)) is.untouched)
+    (sym (now_before c.origin c.origin.first moment ge le)) is.untouched)

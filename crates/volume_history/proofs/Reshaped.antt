@@ -1,7 +1,7 @@
 -- A version that a command makes of another is shown while it is pending, and once it is made, where no place of a volume is
 -- touched and what it creates has one value.
-use Rattle.std.proofs.Common.{◌≡◌, ℕ, ◌+◌, Bool, true, false, if◌then◌else◌, slice_index_or, List, [], ◌∷◌, Option, inl, inr, ⊎_elim, refl,
-    sym, ap, subst, ◌∙◌}
+use Rattle.std.proofs.Common.{◌≡◌, ℕ, ◌+◌, Bool, true, false, if◌then◌else◌, slice_index_or, List, [], ◌∷◌, Option, inl, inr, ⊎_elim, refl}
+use Rattle.std.proofs.Common.{sym, ap, subst, ◌∙◌}
 use Rattle.std.proofs.lemmas.Bool.{true≢false}
 use Rattle.command_table.specs.declared.command.Command.{Command}
 use Rattle.disk_model.specs.CrashValues.{MayLeave}
@@ -77,7 +77,7 @@ module _ (o : Origin) where
       → Primaries o es (volumes_of o.version) (opening_state o).volumes
   opening_primaries es none untouched =
       in_force_from es 0 (volumes_of o.version) (volumes_of o.version) (λ key x place stood. stood)
-          (λ key x place stood. stood_holds es key x (none key x) untouched place stood)
+      (λ key x place stood. stood_holds es key x (none key x) untouched place stood)
 
   -- ---- the pending version
 
@@ -114,14 +114,14 @@ module _ (o : Origin) where
   next_places es none opening untouched c next makes zeroed =
       next_from es none opening untouched (command_step c o.version next (opening_state o) no_image) (volumes_of next)
       (plain_after (opening_state o) (command_step c o.version next (opening_state o) no_image)).volumes
-          (makes.volumes first_image no_image) zeroed
+      (makes.volumes first_image no_image) zeroed
 
   -- ---- the version that was made
 
   module _ (es : List ChronicleEntry) (none : HasNoBase es) (untouched : AllUntouched first_image (volumes_of o.version) o.told)
       (done : List ChronicleEntry) (step : PlainStep) (image : Image)
       (born_base : (key x : ℕ) → is_born step (opening_state o) key x ≡ true
-          → sector_of (plain_state o (base o done key x)) key x ≡ sector_of (plain_after (opening_state o) step) key x)
+      → sector_of (plain_state o (base o done key x)) key x ≡ sector_of (plain_after (opening_state o) step) key x)
       (old_base : (key x : ℕ) → is_born step (opening_state o) key x ≡ false → base o done key x ≡ []) where
     made_from : (vs : List PlacedVolume) (ps : List PlainVolume) → AllCome (volumes_of o.version) (opening_state o) step image vs ps
         → AllUntouched image vs o.told → AllZeroed o step (opening_state o) vs ps → Primaries o done vs ps
@@ -135,9 +135,13 @@ module _ (o : Origin) where
           ⊎_elim
           (λ born. record {
             each =
-                λ write value may. (Base, tt, born_base p.key x born.0 ∙ born.1
-                    ∙ of_value x (place_at v.places x) (is_zeroed step x) refl (zeroed.0 x lt born.0)
-                    (untouched_at image v.places o.told x lt after.0 write value may) write may);
+                λ write value may. (
+                  Base,
+                  tt,
+                  born_base p.key x born.0 ∙ born.1
+                      ∙ of_value x (place_at v.places x) (is_zeroed step x) refl (zeroed.0 x lt born.0)
+                      (untouched_at image v.places o.told x lt after.0 write value may) write may,
+                );
           })
           (λ stood. stood_holds done p.key x (old_base p.key x stood.0) untouched (place_at v.places x) stood.1)
           (come.2 x lt),
@@ -178,4 +182,4 @@ zeroes_stand o c version none makes image =
     let state : PlainState = opening_state o in
     let step : PlainStep = command_step c o.version version state image in
     zeroed_by o (volumes_of o.version) step state image (λ x. none_zeroed c none o.version version state image x) (volumes_of version)
-        (plain_after state step).volumes (makes.volumes (now_at o o.first) image)
+    (plain_after state step).volumes (makes.volumes (now_at o o.first) image)

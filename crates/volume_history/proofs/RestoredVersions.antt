@@ -1,14 +1,14 @@
 -- The version that a vgcfgrestore makes: volumes that stood keep their keys, whatever their order, and each sector stays at its
 -- place or has what stands at its new one.
-use Rattle.std.proofs.Common.{◌≡◌, ◌≤◌, ◌<◌, ℕ, zero, suc, ◌+◌, ◌==◌, ◌&&◌, ◌||◌, Bool, true, false, if◌then◌else◌, slice_index_or, List,
-    [], ◌∷◌, drop, length, map, Option, Some, None, inl, inr, ⊎_elim, refl, sym, ap, subst, ◌∙◌, arith}
+use Rattle.std.proofs.Common.{◌≡◌, ◌≤◌, ◌<◌, ℕ, zero, suc, ◌+◌, ◌==◌, ◌&&◌, ◌||◌, Bool, true, false, if◌then◌else◌, slice_index_or, List}
+use Rattle.std.proofs.Common.{[], ◌∷◌, drop, length, map, Option, Some, None, inl, inr, ⊎_elim, refl, sym, ap, subst, ◌∙◌, arith}
 use Rattle.std.specs.Prelude.{◌⊎◌}
 use Rattle.std.specs.Str.{bytes_eq}
 use Rattle.std.proofs.lemmas.Option.{same_Some}
 use Rattle.command_table.specs.declared.command.Command.TheVariants.{Vgcfgrestore}
 use Rattle.disk_model.specs.Steps.{Image}
-use Rattle.line_table.specs.Machine.{PlainState, PlainStep, PlainVolume, Restored, RestoredVolume, key_of, restored_sectors,
-    restored_volume, sectors_of}
+use Rattle.line_table.specs.Machine.{PlainState, PlainStep, PlainVolume, Restored, RestoredVolume, key_of, restored_sectors}
+use Rattle.line_table.specs.Machine.{restored_volume, sectors_of}
 use Rattle.image_scans.specs.Versions.{Version}
 use Rattle.volume_history.proofs.Bits.{and_cases, either, eq_of, eq_to, itself, same_text}
 use Rattle.volume_history.proofs.ComingFrom.{none_equal, other_equal}
@@ -70,7 +70,7 @@ same_place : (o p : Place) → ((o.disk == p.disk) && (o.sector == p.sector)) �
 same_place o p same =
     let parts = and_cases (o.disk == p.disk) (o.sector == p.sector) same in
     ap (λ (d : ℕ). record { disk = d; sector = o.sector }) (eq_of o.disk p.disk parts.0)
-        ∙ ap (λ (s : ℕ). record { disk = p.disk; sector = s }) (eq_of o.sector p.sector parts.1)
+    ∙ ap (λ (s : ℕ). record { disk = p.disk; sector = s }) (eq_of o.sector p.sector parts.1)
 
 stays_there : (image : Image) (olds places : List Place) (x : ℕ) → x < length places → is_given (moved image olds places) x ≡ false
     → (x < length olds) × (place_at olds x ≡ place_at places x)
@@ -121,8 +121,11 @@ stood_at : (us : List PlacedVolume) (first key : ℕ) (v : PlacedVolume) (x : �
     → place_at v.places x ≡ place → StoodAt us first key x place
 stood_at [] first key v x place has lt at = absurd has
 stood_at (u ∷ us) first key v x place (inl here) lt at =
-    inl (here.0, subst (λ (w : PlacedVolume). x < length w.places) (sym here.1) lt,
-        ap (λ (w : PlacedVolume). place_at w.places x) here.1 ∙ at)
+    inl (
+      here.0,
+      subst (λ (w : PlacedVolume). x < length w.places) (sym here.1) lt,
+      ap (λ (w : PlacedVolume). place_at w.places x) here.1 ∙ at,
+    )
 stood_at (u ∷ us) first key v x place (inr later) lt at = inr (stood_at us (first + 1) key v x place later lt at)
 
 -- an earlier volume has another name
@@ -137,8 +140,8 @@ other_name name (u ∷ us) first key v none (inl here) =
     by same true named is = cc
     by same false named is =
         let e : bytes_eq u.name name ≡ true =
-            ap (λ (w : PlacedVolume). bytes_eq w.name name) here.1 ∙ ap (λ (n : List ℕ). bytes_eq n name) (sym (same_text name v.name same))
-                ∙ itself name in
+        ap (λ (w : PlacedVolume). bytes_eq w.name name) here.1 ∙ ap (λ (n : List ℕ). bytes_eq n name) (sym (same_text name v.name same))
+        ∙ itself name in
         cc
 other_name name (u ∷ us) first key v none (inr later) = other_name name us (first + 1) key v (rest (bytes_eq u.name name) none) later
   where
@@ -166,7 +169,7 @@ stood opening (u ∷ us) first id old names is = by (stood opening us (first + 1
           key = first;
           found =
               ap (λ (w : PlacedVolume). if bytes_eq u.name w.name then Some first else key_of (opening_volumes opening (first + 1) us)
-                  w.name) (sym e)
+              w.name) (sym e)
               ∙ ap (λ (b : Bool). if b then Some first else key_of (opening_volumes opening (first + 1) us) u.name) (itself u.name);
           has = inl (refl, e);
           own = ap (λ (w : PlacedVolume). bytes_eq w.id id) (sym e) ∙ same;
@@ -177,7 +180,7 @@ stood opening (u ∷ us) first id old names is = by (stood opening us (first + 1
           key = rest.key;
           found =
               ap (λ (b : Bool). if b then Some first else key_of (opening_volumes opening (first + 1) us) old.name)
-                  (other_name u.name us (first + 1) rest.key old names.0 rest.has) ∙ rest.found;
+              (other_name u.name us (first + 1) rest.key old names.0 rest.has) ∙ rest.found;
           has = inr rest.has;
           own = rest.own;
         }
@@ -194,7 +197,7 @@ abbrev AreFound : List PlainVolume → List RestoredVolume → List RestoredVolu
 AreFound volumes whole [] = Unit {0}
 AreFound volumes whole (r ∷ rs) =
     ((x : ℕ) → is_replaced whole r.key x ≡ is_given r.sectors x)
-        × (sectors_of (map (restored_volume volumes) whole) r.key ≡ (restored_volume volumes r).sectors)
+    × (sectors_of (map (restored_volume volumes) whole) r.key ≡ (restored_volume volumes r).sectors)
     × AreFound volumes whole rs
 
 found_more : (volumes : List PlainVolume) (q : RestoredVolume) (whole rs : List RestoredVolume) → AreOthers q.key rs
@@ -235,9 +238,11 @@ module _ (before : List PlacedVolume) (opening image : Image) (names : HaveOwnNa
   -- a new volume's key is another than those of the volumes behind it
   new_others : (key next : ℕ) (vs : List PlacedVolume) → length before ≤ key → key + 1 ≤ next → AreOthers key (given next vs)
   new_others key next [] from less = tt
-  new_others key next (v ∷ vs) from less =
-      (by (volume_of_id before v.id) refl, let more = next_more next (volume_of_id before v.id) in new_others key
-          (next_after next (volume_of_id before v.id)) vs from (omega (arith, less, more)))
+  new_others key next (v ∷ vs) from less = (
+    by (volume_of_id before v.id) refl,
+    let more = next_more next (volume_of_id before v.id) in new_others key
+        (next_after next (volume_of_id before v.id)) vs from (omega (arith, less, more)),
+  )
     where
       by : (o : Option PlacedVolume) → volume_of_id before v.id ≡ o → (key == (restored_as volumes image v next o).key) ≡ false
       by None is = none_equal key next less
@@ -254,7 +259,7 @@ module _ (before : List PlacedVolume) (opening image : Image) (names : HaveOwnNa
       let parts = other_id (bytes_eq v.id id) refl none in (
         by parts.0 (volume_of_id before v.id) refl,
         let more = next_more next (volume_of_id before v.id) in
-        old_others id old s (next_after next (volume_of_id before v.id)) vs (omega (arith, from, more)) parts.1,
+            old_others id old s (next_after next (volume_of_id before v.id)) vs (omega (arith, from, more)) parts.1,
       )
     where
       other_id : (b : Bool) → bytes_eq v.id id ≡ b → (if b then Some v else volume_of_id vs id) ≡ None
@@ -268,7 +273,7 @@ module _ (before : List PlacedVolume) (opening image : Image) (names : HaveOwnNa
       by differ (Some other) is =
           let t : Stood opening before 0 v.id other = stood opening before 0 v.id other names is in
           ap (λ (n : ℕ). s.key == n) (key_is v next other t)
-              ∙ ⊎_elim (λ same. one t (eq_of s.key t.key same)) (λ no. no) (either (s.key == t.key))
+          ∙ ⊎_elim (λ same. one t (eq_of s.key t.key same)) (λ no. no) (either (s.key == t.key))
         where
           one : (t : Stood opening before 0 v.id other) → s.key ≡ t.key → (s.key == t.key) ≡ false
           one t same =
@@ -276,7 +281,7 @@ module _ (before : List PlacedVolume) (opening image : Image) (names : HaveOwnNa
               let own : bytes_eq other.id v.id ≡ true = t.own in
               let ids : bytes_eq v.id id ≡ true =
               ap (λ (i : List ℕ). bytes_eq i id) (sym (same_text other.id v.id own)) ∙ ap (λ (w : PlacedVolume). bytes_eq w.id id) (sym e)
-                  ∙ s.own in
+              ∙ s.own in
               cc
 
   -- each volume of the text is found by its key
@@ -290,12 +295,12 @@ module _ (before : List PlacedVolume) (opening image : Image) (names : HaveOwnNa
           (restored_as volumes image v next o ∷ given (next_after next o) vs)
       by rest None is =
           found_first volumes (restored_as volumes image v next None) (given (next + 1) vs)
-              (new_others next (next + 1) vs from (omega arith)) (rest (next + 1) (omega (arith, from)))
+          (new_others next (next + 1) vs from (omega arith)) (rest (next + 1) (omega (arith, from)))
       by rest (Some old) is =
           let s : Stood opening before 0 v.id old = stood opening before 0 v.id old names is in
           found_first volumes (restored_as volumes image v next (Some old)) (given next vs)
           (subst (λ (k : ℕ). AreOthers k (given next vs)) (sym (key_is v next old s)) (old_others v.id old s next vs from ids.0))
-              (rest next from)
+          (rest next from)
 
   -- ---- where they come from
 
@@ -368,7 +373,7 @@ replaced_alike before plain a b next (v ∷ vs) key x = by (λ more. replaced_al
         ≡ (if (restored_as plain b v next o).key == key then is_given (restored_as plain b v next o).sectors x else rest b o)
     by same None =
         ap (λ (g : Bool). if next == key then g else rest a None) (given_alike a b [] v.places x)
-            ∙ ap (λ (r : Bool). if next == key then is_given (moved b [] v.places) x else r) (same (next + 1))
+        ∙ ap (λ (r : Bool). if next == key then is_given (moved b [] v.places) x else r) (same (next + 1))
     by same (Some old) =
         ap (λ (g : Bool). if key_or (key_of plain old.name) == key then g else rest a (Some old)) (given_alike a b old.places v.places x)
         ∙ ap (λ (r : Bool). if key_or (key_of plain old.name) == key then is_given (moved b old.places v.places) x else r) (same next)
@@ -382,8 +387,8 @@ restored_version before after vg text names ids named = record {
       let ws : List PlacedVolume = volumes_of after in
       let whole : List RestoredVolume = restored vs (opening_volumes opening 0 vs) image (length vs) ws in
       come_restored vs opening image names (state_before before opening) refl whole (next_restored vs (length vs) ws) (length vs) ws
-          (are_found vs opening image names (length vs) ws (omega arith) ids);
+      (are_found vs opening image names (length vs) ws (omega arith) ids);
   births =
       λ opening image key x. replaced_alike (volumes_of before) (opening_volumes opening 0 (volumes_of before)) image no_image
-          (length (volumes_of before)) (volumes_of after) key x;
+      (length (volumes_of before)) (volumes_of after) key x;
 }

@@ -102,8 +102,16 @@ making = line (command.Vgcreate (70 ∷ []) 1 ((0 ∷ []) ∷ []))
 
 abbrev pub creating : Line
 creating =
-    line (command.Lvcreate (record { vg = 70 ∷ []; lv = 5 ∷ []; amount = Extents 10; stripes = 1; stripe_size = 0; mirrors = 0;
-        contiguous = false; pvs = [] }))
+    line (command.Lvcreate (record {
+      vg = 70 ∷ [];
+      lv = 5 ∷ [];
+      amount = Extents 10;
+      stripes = 1;
+      stripe_size = 0;
+      mirrors = 0;
+      contiguous = false;
+      pvs = [];
+    }))
 
 abbrev pub extending : Line
 extending = line (command.Lvextend path (To (Extents 11)) [])

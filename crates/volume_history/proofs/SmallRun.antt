@@ -1,7 +1,7 @@
 -- A whole small run: a vgcreate on one disk, where scans find no group while the header's sector is as it was, and the group
 -- from when it is written. So the premises of the laws on commits can be met.
-use Rattle.std.proofs.Common.{◌≡◌, ◌≤◌, ◌⊎◌, ℕ, true, IsTrue, List, [], ◌∷◌, Option, Some, None, inl, inr, ⊎_elim, refl, sym, ap, subst,
-    arith}
+use Rattle.std.proofs.Common.{◌≡◌, ◌≤◌, ◌⊎◌, ℕ, true, IsTrue, List, [], ◌∷◌, Option, Some, None, inl, inr, ⊎_elim, refl, sym, ap, subst}
+use Rattle.std.proofs.Common.{arith}
 use Rattle.std.proofs.lemmas.Bool.Decides.{nat_tests}
 use Rattle.disk_model.proofs.Bringing.{every_moment}
 use Rattle.disk_model.specs.Brought.{BringOnly}
@@ -37,7 +37,7 @@ header = record { pv = 0; first = 0; count = 1 }
 abbrev pub steps : List Step
 steps =
     Completed 2 (Flushing 0) true [] ∷ Submitted 2 (Flushing 0) ∷ Completed 1 (Writing header (new_header ∷ [])) true []
-        ∷ Submitted 1 (Writing header (new_header ∷ [])) ∷ []
+    ∷ Submitted 1 (Writing header (new_header ∷ [])) ∷ []
 
 abbrev pub told : Record
 told = record { opened = opened; steps = steps }
@@ -68,9 +68,11 @@ flushed image is = let m = is 0 0 in at m.0 (image 0 0) m.1
   where
     at : (write : Option ℕ) (value : List ℕ) → MayLeave opened steps 0 0 write value → value ≡ new_header
     at write value may =
-        ⊎_elim (λ old. absurd (may.1 refl (inr (refl,
-            inr (refl, subst (λ (w : Option ℕ). HasCompleted (Submitted 1 (Writing header (new_header ∷ [])) ∷ []) w) (sym old.0) tt)))))
-            (λ new. new.2) may.0
+        ⊎_elim (λ old. absurd (may.1 refl (inr (
+          refl,
+          inr (refl, subst (λ (w : Option ℕ). HasCompleted (Submitted 1 (Writing header (new_header ∷ [])) ∷ []) w) (sym old.0) tt),
+        ))))
+        (λ new. new.2) may.0
 
 module _ (no_group : (image : Image) → image 0 0 ≡ old_header → FindsVersion (99 ∷ []) image none_out None)
     (one_group : (image : Image) → image 0 0 ≡ new_header → FindsVersion (99 ∷ []) image none_out (Some version_1))
@@ -107,7 +109,7 @@ module _ (no_group : (image : Image) → image 0 0 ≡ old_header → FindsVersi
     untouched = tt;
     found =
         finds_with (99 ∷ []) (now_at (origin_of told) 4) none_out (left_out (origin_of told) [] 4) (Some version_1) (λ pv. refl)
-            (one_group (now_at (origin_of told) 4) refl);
+        (one_group (now_at (origin_of told) 4) refl);
   }
 
   -- so the run has its history

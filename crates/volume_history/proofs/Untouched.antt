@@ -37,7 +37,7 @@ still_possible opened older [] zero pv sector write value le none may = may
 still_possible opened older [] (suc k) pv sector write value le none may = absurd (omega (arith, le))
 still_possible opened older (step ∷ newer) zero pv sector write value le none may =
     still_possible opened older newer zero pv sector write value (omega arith) none.1
-        (brings_none opened (newer ++ older) step pv sector write value none.0 may)
+    (brings_none opened (newer ++ older) step pv sector write value none.0 may)
 still_possible opened older (step ∷ newer) (suc k) pv sector write value le none may =
     still_possible opened older newer k pv sector write value (omega (arith, le)) none.1 may
 
@@ -53,9 +53,10 @@ places_untouched : (image opened : Image) (older newer : List Step) (k : ℕ) (p
     → AreUntouched image places (record { opened = opened; steps = older })
     → AreUntouched image places (record { opened = opened; steps = drop k (newer ++ older) })
 places_untouched image opened older newer k [] le none are = tt
-places_untouched image opened older newer k (p ∷ ps) le none are =
-    (λ write value may. are.0 write value (still_possible opened older newer k p.disk p.sector write value le none.0 may),
-        places_untouched image opened older newer k ps le none.1 are.1)
+places_untouched image opened older newer k (p ∷ ps) le none are = (
+  λ write value may. are.0 write value (still_possible opened older newer k p.disk p.sector write value le none.0 may),
+  places_untouched image opened older newer k ps le none.1 are.1,
+)
 
 -- the places of the volumes stay untouched at every moment of steps that bring nothing there
 pub all_untouched : (image opened : Image) (older newer : List Step) (k : ℕ) (vs : List PlacedVolume) → k ≤ length newer
@@ -94,9 +95,10 @@ AllConsistent from c = (m : ℕ) → from ≤ m → m ≤ length c.origin.told.s
 act_keeps : (from : ℕ) (a : Act) (c : Chronicle) → AreUpto (length c.origin.told.steps) c.entries → IsTimely a c → AllConsistent from c
     → IsConsistentNow (acted a c)
     → AreUpto (length (acted a c).origin.told.steps) (acted a c).entries × AllConsistent from (acted a c)
-act_keeps from (Tells step) c are timely so_far now =
-    (upto_longer (length c.origin.told.steps) (suc (length c.origin.told.steps)) c.entries (omega arith) are,
-        every_moment_step step c from are so_far now)
+act_keeps from (Tells step) c are timely so_far now = (
+  upto_longer (length c.origin.told.steps) (suc (length c.origin.told.steps)) c.entries (omega arith) are,
+  every_moment_step step c from are so_far now,
+)
 act_keeps from (Enters e) c are timely so_far now = ((omega (arith, timely), are), every_moment_entry e c from are timely so_far now)
 
 -- the induction: a run whose acts each leave now consistent is consistent at every moment

@@ -1,6 +1,6 @@
 -- The values of the placed volumes are the view of the group.
-use Rattle.std.proofs.Common.{◌≡◌, ◌<◌, ℕ, zero, suc, ◌+◌, ◌*◌, Bool, true, false, if◌then◌else◌, List, [], ◌∷◌, map, Option, Some, refl,
-    sym, ap, subst, ◌∙◌, arith, option_map, unwrap_or, slice_get}
+use Rattle.std.proofs.Common.{◌≡◌, ◌<◌, ℕ, zero, suc, ◌+◌, ◌*◌, Bool, true, false, if◌then◌else◌, List, [], ◌∷◌, map, Option, Some, refl}
+use Rattle.std.proofs.Common.{sym, ap, subst, ◌∙◌, arith, option_map, unwrap_or, slice_get}
 use Rattle.std.specs.List.{range_with_len}
 use Rattle.disk_model.specs.Steps.{Image}
 use Rattle.image_scans.specs.Versions.{Version}
@@ -30,7 +30,7 @@ at_place_of : (image : Image) (version : Version) (lv sector : ℕ) (at : At) �
 unfolding place_of content
 at_place_of image version lv sector at is =
     ap (λ (o : Option At). image (unwrap_or (option_map (on_disk version.disk_of) o) no_place).disk
-        (unwrap_or (option_map (on_disk version.disk_of) o) no_place).sector) is
+    (unwrap_or (option_map (on_disk version.disk_of) o) no_place).sector) is
     ∙ sym (ap (λ (o : Option At). unwrap_or (option_map (at_place image version.disk_of) o) []) is)
 
 -- a placed volume with what its places hold
@@ -46,24 +46,24 @@ first_seen false image v vs c rest same more = more
 
 module _ (image : Image) (version : Version)
     (stand : (lv sector : ℕ) (volume : List ℕ × Lv) → slice_get version.group.lvs lv ≡ Some volume
-        → sector < extents_of volume.1 * version.group.extent_size → (at : At) × (primary version.group lv sector ≡ Some at)) where
+    → sector < extents_of volume.1 * version.group.extent_size → (at : At) × (primary version.group lv sector ≡ Some at)) where
   placed_seen : (number : ℕ) (lvs : List (List ℕ × Lv))
       → ((k : ℕ) (volume : List ℕ × Lv) → slice_get lvs k ≡ Some volume → slice_get version.group.lvs (number + k) ≡ Some volume)
       → map (seen image) (placed_from version number lvs) ≡ views_from image version.group version.disk_of number lvs
   placed_seen number [] all = refl
   placed_seen number (lv ∷ lvs) all =
       let here : slice_get version.group.lvs number ≡ Some lv =
-          subst (λ (n : ℕ). slice_get version.group.lvs n ≡ Some lv) (omega arith) (all zero lv refl) in
+      subst (λ (n : ℕ). slice_get version.group.lvs n ≡ Some lv) (omega arith) (all zero lv refl) in
       first_seen lv.1.status.visible image (record { id = lv.1.id; name = lv.0; places = places_of version number lv.1 })
-          (placed_from version (number + 1) lvs)
+      (placed_from version (number + 1) lvs)
       (contents image version.group version.disk_of number lv.1) (views_from image version.group version.disk_of (number + 1) lvs)
       (map_both (λ (p : Place). image p.disk p.sector) (place_of version number)
-          (range_with_len 0 (extents_of lv.1 * version.group.extent_size))
+      (range_with_len 0 (extents_of lv.1 * version.group.extent_size))
       ∙ map_same (λ (x : ℕ). image (place_of version number x).disk (place_of version number x).sector)
       (content image version.group version.disk_of number) 0 (extents_of lv.1 * version.group.extent_size)
       (λ sector lt. let at = stand number sector lv here (omega (arith, lt)) in at_place_of image version number sector at.0 at.1))
       (placed_seen (number + 1) lvs (λ k volume is. subst (λ (n : ℕ). slice_get version.group.lvs n ≡ Some volume) (omega arith)
-          (all (suc k) volume is)))
+      (all (suc k) volume is)))
 
   pub volumes_seen : map (seen image) (volumes_of (Some version)) ≡ view image version.group version.disk_of
   unfolding volumes_of view

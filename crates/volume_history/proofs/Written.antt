@@ -1,6 +1,6 @@
 -- Whether a line has written, by a test of spans.
-use Rattle.std.proofs.Common.{◌≡◌, ◌≤◌, ℕ, zero, suc, ◌+◌, ◌-◌, ◌||◌, Bool, true, false, List, [], ◌∷◌, length, take, drop, refl, ap, subst,
-    ◌∙◌, arith}
+use Rattle.std.proofs.Common.{◌≡◌, ◌≤◌, ℕ, zero, suc, ◌+◌, ◌-◌, ◌||◌, Bool, true, false, List, [], ◌∷◌, length, take, drop, refl, ap, subst}
+use Rattle.std.proofs.Common.{◌∙◌, arith}
 use Rattle.sector_base.specs.declared.spans.Span.{Span}
 use Rattle.disk_model.specs.Steps.{Completed, Flushing, Reading, Step, Submitted, Writing}
 use Rattle.volume_history.proofs.EarlierMoments.{steps_before, told_length}
@@ -31,7 +31,7 @@ unwritten_part own a (suc b) [] none = none_written own a
 unwritten_part own a (suc b) (step ∷ steps) none =
     let e : a + suc b ≡ suc (a + b) = omega arith in
     unwritten_part own a b steps (later_unwritten own step (take (a + b) steps)
-        (subst (λ (k : ℕ). has_written own (take k (step ∷ steps)) ≡ false) e none))
+    (subst (λ (k : ℕ). has_written own (take k (step ∷ steps)) ≡ false) e none))
 
 -- the steps since the start by a moment
 abbrev pub since_start : Origin → ℕ → List Step

@@ -1,6 +1,6 @@
 -- Two wrong runs are refused: a command that is answered before its header is flushed, and a fill that is.
-use Rattle.std.proofs.Common.{◌≡◌, ◌<◌, ℕ, zero, suc, true, slice_index_or, List, [], ◌∷◌, Contains, Option, Some, None, inl, ⊎_elim, refl,
-    ap, subst, arith}
+use Rattle.std.proofs.Common.{◌≡◌, ◌<◌, ℕ, zero, suc, true, slice_index_or, List, [], ◌∷◌, Contains, Option, Some, None, inl, ⊎_elim, refl}
+use Rattle.std.proofs.Common.{ap, subst, arith}
 use Rattle.std.specs.Hash.{le_bytes}
 use Rattle.line_answers.specs.declared.answer.Answer.TheVariants as answer
 use Rattle.disk_model.specs.Steps.{Submitted, Record, Writing}
@@ -34,8 +34,8 @@ module _ (no_group : FindsVersion (99 ∷ []) opened none_out None)
   wrong c =
       ⊎_elim
       (λ force. differ c.version (one c.version
-          (finds_with (99 ∷ []) opened (left_out (origin_at 1 (origin_of early_told))
-          (done_entries (origin_of early_told) making 0 (Some version_1)) 1) none_out c.version (λ pv. refl) c.scan)) force.0)
+      (finds_with (99 ∷ []) opened (left_out (origin_at 1 (origin_of early_told))
+      (done_entries (origin_of early_told) making 0 (Some version_1)) 1) none_out c.version (λ pv. refl) c.scan)) force.0)
       (λ none. none)
       c.shows
 
@@ -49,12 +49,14 @@ holding = version_of 1 (volume_5 0 1 ∷ [])
 abbrev unflushed : Chronicle
 unflushed = record {
   origin =
-      record (origin_of (record { opened = opened;
-          steps = Submitted 1 (Writing (record { pv = 0; first = 10; count = 1 }) (number_sector 7 ∷ [])) ∷ [] }))
-          { version = Some holding };
+      record (origin_of (record {
+        opened = opened;
+        steps = Submitted 1 (Writing (record { pv = 0; first = 10; count = 1 }) (number_sector 7 ∷ [])) ∷ [];
+      }))
+      { version = Some holding };
   entries =
       Answered 1 0 answer.Fine ∷ Took 1 0 (record { volume = 0; first = 0; count = 1; write = true }) ∷ Begun 0 0 (filling 0 1 7) (Some 0)
-          ∷ [];
+      ∷ [];
 }
 
 different : (n : ℕ) → n ≡ 7 → n ≡ 0 → ⊥
@@ -74,7 +76,7 @@ unflushed_wrong c =
     ⊎_elim
     (λ force.
     let f : ShowsInForce unflushed.origin unflushed.entries opened (Some holding) =
-        subst (λ (v : Option Version). ShowsInForce unflushed.origin unflushed.entries opened v) force.0 force in
+    subst (λ (v : Option Version). ShowsInForce unflushed.origin unflushed.entries opened v) force.0 force in
     only_seven (f.2.2 0 (omega arith)))
     (λ none. none)
     c.shows

@@ -9,16 +9,17 @@ use Rattle.volume_view.specs.View.{view}
 use Rattle.image_scans.specs.Versions.{FindsVersion, Version}
 use Rattle.volume_history.specs.Placed.{Place, PlacedVolume, group_name, values_on, volumes_of}
 use Rattle.volume_history.specs.Commands.{commits, is_data, is_good, may_say, removes}
-use Rattle.volume_history.specs.Chronicles.{AreUpto, ChronicleEntry, Answered, Origin, Chronicle, moment_of, chronicle_at, in_force,
-    origin_at, origin_on, pending, with_step, with_entry}
+use Rattle.volume_history.specs.Chronicles.{AreUpto, ChronicleEntry, Answered, Origin, Chronicle, moment_of, chronicle_at, in_force}
+use Rattle.volume_history.specs.Chronicles.{origin_at, origin_on, pending, with_step, with_entry}
 use Rattle.volume_history.specs.Replay.{plain_state}
 use Rattle.volume_history.specs.Legal.{IsFaithful, IsLegalHistory, IsOrdered}
 use Rattle.volume_history.specs.Candidates.{base, candidates, IsConsistentMoment, IsConsistentNow, IsIn}
 use Rattle.volume_history.specs.Parts.{NextPart, PlaceHolds, Primaries, ScansPart}
 use Rattle.volume_history.specs.Quiet.{IsQuietMoment}
 use Rattle.volume_history.specs.Runs.{HasHistory, Run, journal_of, lines_of}
-use Rattle.volume_history.specs.Single.{CommitLaw, CreateLaw, CreatedLaw, DoneLaw, GivenUpLaw, LeavesAll, LeavesDisk, MadeLaw, MayEnd,
-    StaysLaw, taken_entries, done_entries, end_of, fenced_entries, given_up_entries, made_entries, answered_entries}
+use Rattle.volume_history.specs.Single.{CommitLaw, CreateLaw, CreatedLaw, DoneLaw, GivenUpLaw, LeavesAll, LeavesDisk, MadeLaw, MayEnd}
+use Rattle.volume_history.specs.Single.{StaysLaw, taken_entries, done_entries, end_of, fenced_entries, given_up_entries, made_entries}
+use Rattle.volume_history.specs.Single.{answered_entries}
 use Rattle.volume_history.specs.Sources.{HoldsFrom, IsSource, MovesNone, Source, value_of}
 
 -- an earlier moment stays what it was, whatever is told or entered later
@@ -32,7 +33,7 @@ PastStays =
 abbrev pub ReplayStays : Type 0
 ReplayStays =
     (step : Step) (o : Origin) (es : List ChronicleEntry) → o.first ≤ length o.told.steps → AreUpto (length o.told.steps) es
-        → plain_state (origin_on step o) es ≡ plain_state o es
+    → plain_state (origin_on step o) es ≡ plain_state o es
 
 -- one lawful entry more keeps a history legal, and so does one step more that is told
 abbrev pub HistoriesGrow : Type 0
@@ -46,13 +47,13 @@ HistoriesGrow =
 abbrev pub BasesStay : Type 0
 BasesStay =
     (o : Origin) (es : List ChronicleEntry) (key x : ℕ) (e : ChronicleEntry) → MovesNone o es key x e
-        → base o (e ∷ es) key x ≡ base o es key x
+    → base o (e ∷ es) key x ≡ base o es key x
 
 -- what has a source is a candidate
 abbrev pub SourcesAreCandidates : Type 0
 SourcesAreCandidates =
     (o : Origin) (es : List ChronicleEntry) (key x : ℕ) (s : Source) → IsSource o es key x s
-        → IsIn (candidates o es key x) (value_of o es key x s)
+    → IsIn (candidates o es key x) (value_of o es key x s)
 
 -- an answer ok keeps a sector at its place where the place holds from the new base on
 abbrev pub AnswersKeep : Type 0
@@ -65,7 +66,7 @@ AnswersKeep =
 abbrev pub PartsMakeConsistent : Type 0
 PartsMakeConsistent =
     (c : Chronicle) → ScansPart c.origin c.entries
-        → Primaries c.origin c.entries (volumes_of (in_force c.origin c.entries)) (plain_state c.origin c.entries).volumes
+    → Primaries c.origin c.entries (volumes_of (in_force c.origin c.entries)) (plain_state c.origin c.entries).volumes
     → group_name (in_force c.origin c.entries) ≡ (plain_state c.origin c.entries).group → NextPart c.origin c.entries (pending c.entries)
     → IsConsistentNow c
 
@@ -73,13 +74,13 @@ PartsMakeConsistent =
 abbrev pub QuietIsConsistent : Type 0
 QuietIsConsistent =
     (c : Chronicle) (moment : ℕ) → c.origin.first ≤ moment → moment ≤ length c.origin.told.steps → IsQuietMoment c moment
-        → IsConsistentMoment c moment
+    → IsConsistentMoment c moment
 
 -- a scan of an image that leaves the same disks out finds one version at most
 abbrev pub ScansAreOne : Type 0
 ScansAreOne =
     (sizes : List ℕ) (image : Image) (out : ℕ → Bool) (version other : Option Version) → FindsVersion sizes image out version
-        → FindsVersion sizes image out other
+    → FindsVersion sizes image out other
     → version ≡ other
 
 -- the values at the places of the volumes of an accepted version, with the volumes' names, are the view of its group
@@ -107,7 +108,7 @@ NoLine = (o : Origin) → StaysLaw o → Tells o []
 abbrev pub UndoneLine : Type 0
 UndoneLine =
     (o : Origin) (line : Line) (answer : Answer) → StaysLaw o → is_data line.command ≡ false → LeavesDisk o line → LeavesAll o line
-        → is_good answer ≡ false
+    → is_good answer ≡ false
     → may_say line.command answer ≡ true → Tells o (answered_entries o line answer)
 
 -- a line that was done, and commits and writes nothing: a report
@@ -120,26 +121,26 @@ DoneLine =
 abbrev pub DoneCommit : Type 0
 DoneCommit =
     (o : Origin) (line : Line) (opened : ℕ) (version : Option Version) → CommitLaw o line opened version → DoneLaw o version
-        → Tells o (done_entries o line opened version)
+    → Tells o (done_entries o line opened version)
 
 -- one that was made at a moment, and then answered ok, or failed on what came behind it
 abbrev pub MadeCommit : Type 0
 MadeCommit =
     (o : Origin) (line : Line) (opened made : ℕ) (version : Option Version) (said : Answer) → CommitLaw o line opened version
-        → MadeLaw o opened made version → MayEnd said
+    → MadeLaw o opened made version → MayEnd said
     → Tells o (made_entries o line opened made version said)
 
 -- one that was given up; a removal isn't
 abbrev pub GivenUpCommit : Type 0
 GivenUpCommit =
     (o : Origin) (line : Line) (opened : ℕ) (version : Option Version) (pv : ℕ) → CommitLaw o line opened version → GivenUpLaw o
-        → removes line.command ≡ false → Tells o (given_up_entries o line opened version pv)
+    → removes line.command ≡ false → Tells o (given_up_entries o line opened version pv)
 
 -- one that fences the group
 abbrev pub FencedCommit : Type 0
 FencedCommit =
     (o : Origin) (line : Line) (opened : ℕ) (version : Option Version) (pv : ℕ) → CommitLaw o line opened version
-        → Tells o (fenced_entries o line opened version pv)
+    → Tells o (fenced_entries o line opened version pv)
 
 -- a pvcreate that was done
 abbrev pub DoneCreate : Type 0

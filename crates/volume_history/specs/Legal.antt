@@ -1,6 +1,6 @@
 -- Legal histories: what each entry needs of those before it.
-use Rattle.std.specs.Prelude.{◌≡◌, ◌≤◌, ◌<◌, ◌⊎◌, ℕ, ◌+◌, ◌-◌, nat_lt, Bool, true, false, not, ◌==◌, ◌&&◌, ◌||◌, IsTrue, if◌then◌else◌,
-    List, [], ◌∷◌, length, map, take, Option, Some, None, slice_index_or, is_some}
+use Rattle.std.specs.Prelude.{◌≡◌, ◌≤◌, ◌<◌, ◌⊎◌, ℕ, ◌+◌, ◌-◌, nat_lt, Bool, true, false, not, ◌==◌, ◌&&◌, ◌||◌, IsTrue, if◌then◌else◌}
+use Rattle.std.specs.Prelude.{List, [], ◌∷◌, length, map, take, Option, Some, None, slice_index_or, is_some}
 use Rattle.std.specs.List.{range_with_len}
 use Rattle.std.specs.Option.{option_and_then, option_map_or}
 use Rattle.std.specs.Str.{bytes_eq}
@@ -20,11 +20,11 @@ use Rattle.lv_plans.specs.Allocating.{Takes}
 use Rattle.group_ops.specs.Laws.{state_in}
 use Rattle.group_ops.specs.Planning.{IsBackupOf, IsPlanned, asks_of, change_of, refusal_of}
 use Rattle.image_scans.specs.Versions.{FindsVersion, Version}
-use Rattle.volume_history.specs.Commands.{is_data, is_wait, is_move, is_tended, failed_pv, is_good, is_judged_again, is_refused, may_say,
-    writes, commits, covers_sector, range_of, removes, value_for, volume_named}
-use Rattle.volume_history.specs.Chronicles.{ChronicleEntry, Begun, Opened, Took, Changed, GivenUp, Failed, Answered, Origin, Chronicle,
-    origin_at, moment_of, now_at, begun_in, count_begun, is_number, is_open, open_among, every, pending, in_force, may_begin, piece_covers,
-    steps_upto, took_at, settled_at, has_took, left_out}
+use Rattle.volume_history.specs.Commands.{is_data, is_wait, is_move, is_tended, failed_pv, is_good, is_judged_again, is_refused, may_say}
+use Rattle.volume_history.specs.Commands.{writes, commits, covers_sector, range_of, removes, value_for, volume_named}
+use Rattle.volume_history.specs.Chronicles.{ChronicleEntry, Begun, Opened, Took, Changed, GivenUp, Failed, Answered, Origin, Chronicle}
+use Rattle.volume_history.specs.Chronicles.{origin_at, moment_of, now_at, begun_in, count_begun, is_number, is_open, open_among, every}
+use Rattle.volume_history.specs.Chronicles.{pending, in_force, may_begin, piece_covers, steps_upto, took_at, settled_at, has_took, left_out}
 use Rattle.volume_history.specs.Replay.{plain_state, shown_at}
 
 -- ---- the order of entries, which needs no content
@@ -61,7 +61,7 @@ abbrev pub may_take : List ChronicleEntry → ℕ → Option (Line × Option ℕ
 may_take es number None piece = false
 may_take es number (Some l) piece =
     if is_data l.0.command then is_new_piece es number l.0 l.1 piece
-        else (not (commits l.0.command) && is_zero_piece piece && not (has_took es number))
+    else (not (commits l.0.command) && is_zero_piece piece && not (has_took es number))
 
 -- whether a piece of a line may fail
 abbrev pub may_fail : List ChronicleEntry → ℕ → Option (Line × Option ℕ) → Piece → Bool

@@ -1,8 +1,8 @@
 -- Histories that leave the volumes as they are.
 use Rattle.std.specs.Prelude.{◌≡◌, ℕ, Bool, true, false, List, [], ◌∷◌, Option, Some, None}
 use Rattle.command_table.specs.declared.command.Command.{Command}
-use Rattle.command_table.specs.declared.command.Command.TheVariants.{Vgremove, Vgcfgrestore, Lvcreate, Lvextend, Lvreduce, Lvremove,
-    Lvrename, Read, Fill, Write}
+use Rattle.command_table.specs.declared.command.Command.TheVariants.{Vgremove, Vgcfgrestore, Lvcreate, Lvextend, Lvreduce, Lvremove}
+use Rattle.command_table.specs.declared.command.Command.TheVariants.{Lvrename, Read, Fill, Write}
 use Rattle.disk_model.specs.CrashValues.{MayLeave}
 use Rattle.disk_model.specs.Steps.{Image, Record}
 use Rattle.line_table.specs.Machine.{plain_after}
@@ -51,7 +51,7 @@ abbrev pub AreUntouched : Image → List Place → Record → Type 0
 AreUntouched image [] told = Unit {0}
 AreUntouched image (p ∷ ps) told =
     ((write : Option ℕ) (value : List ℕ) → MayLeave told.opened told.steps p.disk p.sector write value → value ≡ image p.disk p.sector)
-        × AreUntouched image ps told
+    × AreUntouched image ps told
 
 -- the same of all places of the volumes
 abbrev pub AllUntouched : Image → List PlacedVolume → Record → Type 0

@@ -12,8 +12,8 @@ use Rattle.line_table.specs.Machine.{plain_after}
 use Rattle.image_scans.specs.Versions.{FindsVersion, Version}
 use Rattle.volume_history.specs.Placed.{volumes_of}
 use Rattle.volume_history.specs.Commands.{commits, created_disk, is_created_at, removes}
-use Rattle.volume_history.specs.Chronicles.{ChronicleEntry, Begun, Opened, Took, Changed, GivenUp, Answered, Origin, has_written, now_at,
-    origin_at, steps_upto}
+use Rattle.volume_history.specs.Chronicles.{ChronicleEntry, Begun, Opened, Took, Changed, GivenUp, Answered, Origin, has_written, now_at}
+use Rattle.volume_history.specs.Chronicles.{origin_at, steps_upto}
 use Rattle.volume_history.specs.Legal.{FindsNow, Makes}
 use Rattle.volume_history.specs.Quiet.{AllUntouched}
 use Rattle.volume_history.specs.Replay.{command_step, opening_state}
@@ -92,7 +92,7 @@ pub record StaysLaw (o : Origin) : Type 0 where
 abbrev pub LeavesDisk : Origin → Line → Type 0
 LeavesDisk o line =
     (disk : ℕ) → created_disk o.names line.command ≡ Some disk
-        → has_written (is_created_at line.command disk) (take (end_of o - o.start) o.told.steps) ≡ false
+    → has_written (is_created_at line.command disk) (take (end_of o - o.start) o.told.steps) ≡ false
 
 -- nor any write, where it is to remove the group
 abbrev pub LeavesAll : Origin → Line → Type 0

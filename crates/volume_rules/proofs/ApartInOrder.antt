@@ -38,7 +38,7 @@ apart_in_order group =
           apart_from (get_or runs i d) (get_or runs j d)
           (subst (λ x. NoExtentInBoth x (run_to_sort (get_or runs j d))) (get_or-map run_to_sort runs i d e (omega arith))
           (subst (NoExtentInBoth (get_or (map run_to_sort runs) i e)) (get_or-map run_to_sort runs j d e (omega arith))
-              (apart i j e less (omega arith)))),
+          (apart i j e less (omega arith)))),
     )
 
 -- a run of extents that lie in no leg lies apart from all

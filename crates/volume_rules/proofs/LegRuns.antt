@@ -1,6 +1,6 @@
 -- Each leg of a group has its run in the list of runs.
-use Rattle.std.proofs.Common.{◌≡◌, ℕ, zero, suc, ◌+◌, ◌<◌, ◌⊎◌, List, [], ◌∷◌, ◌++◌, length, get_or, Some, inl, inr, refl, sym, ap, subst,
-    ◌∙◌, arith}
+use Rattle.std.proofs.Common.{◌≡◌, ℕ, zero, suc, ◌+◌, ◌<◌, ◌⊎◌, List, [], ◌∷◌, ◌++◌, length, get_or, Some, inl, inr, refl, sym, ap, subst}
+use Rattle.std.proofs.Common.{◌∙◌, arith}
 use Rattle.std.specs.Prelude.{AllPairs, Contains, slice_get}
 use Rattle.std.specs.List.{AllByRecursion}
 use Rattle.std.proofs.lemmas.Bool.{cases_order}
@@ -32,11 +32,11 @@ run_of_leg lv segment count number (x ∷ legs) zero leg is =
     let run : ℕ → Leg → LegRun = λ n l. record { lv = lv; segment = segment; leg = n; on = l.on; first = l.first; count = count } in
     let there : run number x ≡ run (number + 0) leg = ap (λ (n : ℕ). run n x) here ∙ ap (run (number + 0)) same in
     subst (λ (r : LegRun). Contains (run number x ∷ runs_of_legs lv segment count (number + 1) legs) r) there
-        (contains_first (run number x) _)
+    (contains_first (run number x) _)
 run_of_leg lv segment count number (x ∷ legs) (suc k) leg is =
     contains_later _ _ _
     (subst (λ (n : ℕ). Contains (runs_of_legs lv segment count (number + 1) legs)
-        (record { lv = lv; segment = segment; leg = n; on = leg.on; first = leg.first; count = count }))
+    (record { lv = lv; segment = segment; leg = n; on = leg.on; first = leg.first; count = count }))
     (omega arith) (run_of_leg lv segment count (number + 1) legs k leg is))
 
 -- of a leg of a segment by its number
@@ -49,43 +49,61 @@ run_of_segment lv number (x ∷ segments) zero segment j leg is at =
     let same : segment ≡ x = sym (same_Some x segment is) in
     let at' : slice_get (legs_of x.kind) j ≡ Some leg = ap (λ (s : Segment). slice_get (legs_of s.kind) j) (sym same) ∙ at in
     let run : ℕ → Segment → LegRun =
-        λ n s. record { lv = lv; segment = n; leg = 0 + j; on = leg.on; first = leg.first; count = leg_share s.count s.kind } in
+    λ n s. record { lv = lv; segment = n; leg = 0 + j; on = leg.on; first = leg.first; count = leg_share s.count s.kind } in
     let there : run number x ≡ run (number + 0) segment = ap (λ (n : ℕ). run n x) (omega arith) ∙ ap (run (number + 0)) (sym same) in
     subst (λ (r : LegRun). Contains (runs_of_segments lv number (x ∷ segments)) r) there
     (Contains-append_left (runs_of_legs lv number (leg_share x.count x.kind) 0 (legs_of x.kind)) (runs_of_segments lv (number + 1) segments)
-        (run number x)
+    (run number x)
     (run_of_leg lv number (leg_share x.count x.kind) 0 (legs_of x.kind) j leg at'))
 run_of_segment lv number (x ∷ segments) (suc k) segment j leg is at =
     let run : ℕ → LegRun =
-        λ n. record { lv = lv; segment = n; leg = 0 + j; on = leg.on; first = leg.first; count = leg_share segment.count segment.kind } in
+    λ n. record { lv = lv; segment = n; leg = 0 + j; on = leg.on; first = leg.first; count = leg_share segment.count segment.kind } in
     Contains-append_right (runs_of_legs lv number (leg_share x.count x.kind) 0 (legs_of x.kind)) (runs_of_segments lv (number + 1) segments)
-        (run (number + suc k))
+    (run (number + suc k))
     (subst (λ (n : ℕ). Contains (runs_of_segments lv (number + 1) segments) (run n)) (omega arith)
-        (run_of_segment lv (number + 1) segments k segment j leg is at))
+    (run_of_segment lv (number + 1) segments k segment j leg is at))
 
 -- of a leg of a volume
 run_of_volume : (number : ℕ) (lvs : List (List ℕ × Lv)) (n : ℕ) (lv : List ℕ × Lv) (k : ℕ) (segment : Segment) (j : ℕ) (leg : Leg)
     → slice_get lvs n ≡ Some lv → slice_get lv.1.segments k ≡ Some segment → slice_get (legs_of segment.kind) j ≡ Some leg
-    → Contains (runs_of_volumes number lvs) (record { lv = number + n; segment = 0 + k; leg = 0 + j; on = leg.on; first = leg.first;
-    count = leg_share segment.count segment.kind })
+    → Contains (runs_of_volumes number lvs) (record {
+      lv = number + n;
+      segment = 0 + k;
+      leg = 0 + j;
+      on = leg.on;
+      first = leg.first;
+      count = leg_share segment.count segment.kind;
+    })
 run_of_volume number [] n lv k segment j leg is at on = cc
 run_of_volume number (x ∷ lvs) zero lv k segment j leg is at on =
     let same : x ≡ lv = same_Some x lv is in
     let at' : slice_get x.1.segments k ≡ Some segment = ap (λ (v : List ℕ × Lv). slice_get v.1.segments k) same ∙ at in
     let run : ℕ → LegRun =
-        λ v. record { lv = v; segment = 0 + k; leg = 0 + j; on = leg.on; first = leg.first;
-            count = leg_share segment.count segment.kind } in
+    λ v. record {
+      lv = v;
+      segment = 0 + k;
+      leg = 0 + j;
+      on = leg.on;
+      first = leg.first;
+      count = leg_share segment.count segment.kind;
+    } in
     let here : number ≡ number + 0 = omega arith in
     subst (λ (v : ℕ). Contains (runs_of_volumes number (x ∷ lvs)) (run v)) here
     (Contains-append_left (runs_of_segments number 0 x.1.segments) (runs_of_volumes (number + 1) lvs) (run number)
-        (run_of_segment number 0 x.1.segments k segment j leg at' on))
+    (run_of_segment number 0 x.1.segments k segment j leg at' on))
 run_of_volume number (x ∷ lvs) (suc n) lv k segment j leg is at on =
     let run : ℕ → LegRun =
-        λ v. record { lv = v; segment = 0 + k; leg = 0 + j; on = leg.on; first = leg.first;
-            count = leg_share segment.count segment.kind } in
+    λ v. record {
+      lv = v;
+      segment = 0 + k;
+      leg = 0 + j;
+      on = leg.on;
+      first = leg.first;
+      count = leg_share segment.count segment.kind;
+    } in
     Contains-append_right (runs_of_segments number 0 x.1.segments) (runs_of_volumes (number + 1) lvs) (run (number + suc n))
     (subst (λ (v : ℕ). Contains (runs_of_volumes (number + 1) lvs) (run v)) (omega arith)
-        (run_of_volume (number + 1) lvs n lv k segment j leg is at on))
+    (run_of_volume (number + 1) lvs n lv k segment j leg is at on))
 
 -- the run of a leg of the group
 pub run_of : (group : Group) (n : ℕ) (lv : List ℕ × Lv) (k : ℕ) (segment : Segment) (j : ℕ) (leg : Leg)
@@ -95,7 +113,7 @@ pub run_of : (group : Group) (n : ℕ) (lv : List ℕ × Lv) (k : ℕ) (segment 
 unfolding runs_of
 run_of group n lv k segment j leg is at on =
     let run : LegRun =
-        record { lv = 0 + n; segment = 0 + k; leg = 0 + j; on = leg.on; first = leg.first; count = leg_share segment.count segment.kind } in
+    record { lv = 0 + n; segment = 0 + k; leg = 0 + j; on = leg.on; first = leg.first; count = leg_share segment.count segment.kind } in
     (run, run_of_volume 0 group.lvs n lv k segment j leg is at on, omega arith, omega arith, omega arith, refl, refl, refl)
 
 -- two elements of a list whose pairs are related are the same, or related one way or the other
@@ -165,12 +183,12 @@ segments_are : (lvs : List (List ℕ × Lv)) (base nth : ℕ) (volume : List ℕ
 segments_are lvs base nth volume n [] is here = tt
 segments_are lvs base nth volume n (s ∷ segments) is here =
     join_all (IsRunOf lvs base) (runs_of_legs (base + nth) n (leg_share s.count s.kind) 0 (legs_of s.kind))
-        (runs_of_segments (base + nth) (n + 1) segments)
+    (runs_of_segments (base + nth) (n + 1) segments)
     (legs_are lvs base nth volume n s 0 (legs_of s.kind) is
-        (subst (λ (i : ℕ). slice_get volume.1.segments i ≡ Some s) (omega arith) (here zero s refl))
-        (λ i leg there. subst (λ (x : ℕ). slice_get (legs_of s.kind) x ≡ Some leg) (omega arith) there))
+    (subst (λ (i : ℕ). slice_get volume.1.segments i ≡ Some s) (omega arith) (here zero s refl))
+    (λ i leg there. subst (λ (x : ℕ). slice_get (legs_of s.kind) x ≡ Some leg) (omega arith) there))
     (segments_are lvs base nth volume (n + 1) segments is
-        (λ i l there. subst (λ (x : ℕ). slice_get volume.1.segments x ≡ Some l) (omega arith) (here (suc i) l there)))
+    (λ i l there. subst (λ (x : ℕ). slice_get volume.1.segments x ≡ Some l) (omega arith) (here (suc i) l there)))
 
 volumes_are : (lvs : List (List ℕ × Lv)) (base : ℕ) → AllByRecursion (IsRunOf lvs base) (runs_of_volumes base lvs)
 volumes_are [] base = tt
@@ -178,15 +196,25 @@ volumes_are (v ∷ lvs) base =
     join_all (IsRunOf (v ∷ lvs) base) (runs_of_segments base 0 v.1.segments) (runs_of_volumes (base + 1) lvs)
     (subst (λ (b : ℕ). AllByRecursion (IsRunOf (v ∷ lvs) base) (runs_of_segments b 0 v.1.segments)) (omega arith)
     (segments_are (v ∷ lvs) base 0 v 0 v.1.segments refl
-        (λ i s there. subst (λ (x : ℕ). slice_get v.1.segments x ≡ Some s) (omega arith) there)))
+    (λ i s there. subst (λ (x : ℕ). slice_get v.1.segments x ≡ Some s) (omega arith) there)))
     (weaker_all (IsRunOf lvs (base + 1)) (IsRunOf (v ∷ lvs) base) (runs_of_volumes (base + 1) lvs)
-    (λ run is. record { nth = suc is.nth; volume = is.volume; segment = is.segment; leg = is.leg; lv_is = omega (arith, is.lv_is);
-        is_volume = is.is_volume; is_segment = is.is_segment; is_leg = is.is_leg; on_is = is.on_is; first_is = is.first_is;
-        count_is = is.count_is })
+    (λ run is. record {
+      nth = suc is.nth;
+      volume = is.volume;
+      segment = is.segment;
+      leg = is.leg;
+      lv_is = omega (arith, is.lv_is);
+      is_volume = is.is_volume;
+      is_segment = is.is_segment;
+      is_leg = is.is_leg;
+      on_is = is.on_is;
+      first_is = is.first_is;
+      count_is = is.count_is;
+    })
     (volumes_are lvs (base + 1)))
 
 pub run_is : (group : Group) (run : LegRun) → Contains (runs_of group) run → IsRunOf group.lvs 0 run
 unfolding runs_of
 run_is group run within =
     All-contains (IsRunOf group.lvs 0) (runs_of_volumes 0 group.lvs) run
-        (All-from_recursion (IsRunOf group.lvs 0) (runs_of_volumes 0 group.lvs) (volumes_are group.lvs 0)) within
+    (All-from_recursion (IsRunOf group.lvs 0) (runs_of_volumes 0 group.lvs) (volumes_are group.lvs 0)) within

@@ -1,6 +1,6 @@
 -- The test of moving volumes is the rule's: a way down meets the PVMOVE volume.
-use Rattle.std.proofs.Common.{◌≡◌, ℕ, zero, suc, ◌≤◌, ◌↔◌, Bool, true, false, ◌||◌, IsTrue, List, [], ◌∷◌, length, Option, Some, None,
-    ⊎_elim, refl, sym, ap, subst, ◌∙◌, arith}
+use Rattle.std.proofs.Common.{◌≡◌, ℕ, zero, suc, ◌≤◌, ◌↔◌, Bool, true, false, ◌||◌, IsTrue, List, [], ◌∷◌, length, Option, Some, None}
+use Rattle.std.proofs.Common.{⊎_elim, refl, sym, ap, subst, ◌∙◌, arith}
 use Rattle.std.specs.Prelude.{Contains, slice_get, option_map, unwrap_or}
 use Rattle.std.specs.List.{list_any}
 use Rattle.std.proofs.lemmas.Bool.{or_cases, false≢true}
@@ -17,8 +17,8 @@ any_is : (test : ℕ → Bool) (xs : List ℕ) → list_any test xs ≡ true →
 any_is test [] is = absurd (false≢true is)
 any_is test (x ∷ xs) is =
     ⊎_elim (λ here. (x, contains_first x xs, here))
-        (λ later. let rest = any_is test xs later in (rest.0, contains_later x rest.0 xs rest.1, rest.2))
-        (or_cases (test x) (list_any test xs) is)
+    (λ later. let rest = any_is test xs later in (rest.0, contains_later x rest.0 xs rest.1, rest.2))
+    (or_cases (test x) (list_any test xs) is)
 
 or_second : (a b : Bool) → b ≡ true → (a || b) ≡ true
 or_second true b is = refl
@@ -49,7 +49,7 @@ pvmove_of group lv (Some v) is has = (v.1, (v.0, is), true_is v.1.status.pvmove 
 of_pvmove : (group : Group) (lv : ℕ) → IsPvmove group lv → has_pvmove group lv ≡ true
 of_pvmove group lv is =
     ap (λ (o : Option (List ℕ × Lv)). unwrap_or (option_map (λ (v : List ℕ × Lv). v.1.status.pvmove) o) false) is.1.1
-        ∙ is_true is.0.status.pvmove is.2
+    ∙ is_true is.0.status.pvmove is.2
 
 moving_from : (group : Group) (steps lv : ℕ) → leads_to_pvmove group steps lv ≡ true → IsMoving group lv
 moving_from group zero lv is = ([], tt, (lv, contains_first lv [], pvmove_of group lv (slice_get group.lvs lv) refl is))
@@ -72,7 +72,7 @@ moving_to group zero lv (b ∷ way) last is (suc k, lt, same) pvmove short = abs
 moving_to group (suc steps) lv (b ∷ way) last is (suc k, lt, same) pvmove short =
     or_second (has_pvmove group lv) _
     (is_any (λ below. leads_to_pvmove group steps below) (named_by group lv) b (names_from group lv b is.0)
-        (moving_to group steps b way last is.1 (k, omega arith, same) pvmove (omega arith)))
+    (moving_to group steps b way last is.1 (k, omega arith, same) pvmove (omega arith)))
 
 pub moving_is : (group : Group) (lv : ℕ) → DepthIsAtMostThree group → (leads_to_pvmove group 4 lv ≡ true) ↔ IsMoving group lv
 moving_is group lv depth = (

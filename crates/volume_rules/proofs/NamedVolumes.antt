@@ -40,7 +40,7 @@ segment_names : (segments : List Segment) (k : ℕ) (s : Segment) (m : ℕ) → 
 segment_names [] k s m is within = cc
 segment_names (x ∷ segments) zero s m is within =
     Contains-append_left (in_legs (legs_of x.kind)) (in_segments segments) m
-        (subst (λ (y : Segment). Contains (in_legs (legs_of y.kind)) m) (sym (same_Some x s is)) within)
+    (subst (λ (y : Segment). Contains (in_legs (legs_of y.kind)) m) (sym (same_Some x s is)) within)
 segment_names (x ∷ segments) (suc k) s m is within =
     Contains-append_right (in_legs (legs_of x.kind)) (in_segments segments) m (segment_names segments k s m is within)
 
@@ -50,9 +50,9 @@ names_from group lv m lies =
     let number : is.nth ≡ lv = omega (arith, is.lv_is, lies.2) in
     let volume : slice_get group.lvs lv ≡ Some is.volume = ap (λ (k : ℕ). slice_get group.lvs k) (sym number) ∙ is.is_volume in
     subst (λ (o : Option (List ℕ × Lv)). Contains (in_segments (unwrap_or (option_map (λ (v : List ℕ × Lv). v.1.segments) o) [])) m)
-        (sym volume)
+    (sym volume)
     (segment_names is.volume.1.segments lies.0.segment is.segment m is.is_segment
-        (leg_names (legs_of is.segment.kind) lies.0.leg is.leg m is.is_leg (sym is.on_is ∙ lies.3)))
+    (leg_names (legs_of is.segment.kind) lies.0.leg is.leg m is.is_leg (sym is.on_is ∙ lies.3)))
 
 -- each that is named
 each_leg : (P : ℕ → Type 0) (legs : List Leg) → ((j : ℕ) (leg : Leg) (m : ℕ) → slice_get legs j ≡ Some leg → leg.on ≡ on.Lv m → P m)
@@ -70,7 +70,7 @@ each_segment : (P : ℕ → Type 0) (segments : List Segment)
 each_segment P [] at = tt
 each_segment P (s ∷ segments) at =
     join_all P (in_legs (legs_of s.kind)) (in_segments segments)
-        (each_leg P (legs_of s.kind) (λ j leg m is on. at zero s j leg m refl is on))
+    (each_leg P (legs_of s.kind) (λ j leg m is on. at zero s j leg m refl is on))
     (each_segment P segments (λ k x j leg m here is on. at (suc k) x j leg m here is on))
 
 pub names_to : (group : Group) (lv m : ℕ) → Contains (named_by group lv) m → LiesOn group lv m

@@ -65,7 +65,7 @@ pub pairs_permuted : {X : Type 0} (R : X → X → Type 0) (turn : (x y : X) →
     → AllPairs R xs → AllPairs R ys
 pairs_permuted R turn xs ys moved pairs =
     pairs_of R ys (IsPermutation-keeps xs (AllDifferent R) (different R turn xs pairs) (λ l i j in_i in_j all. step R l i j in_i in_j all)
-        ys moved)
+    ys moved)
 
 -- in the order of the numbers by which they are sorted, each stands before the next
 stands_from : (a b : ExtentSpan) → CanBeSorted a → CanBeSorted b → a.on * 2 ^ 64 + a.first ≤ b.on * 2 ^ 64 + b.first → StandsBefore a b

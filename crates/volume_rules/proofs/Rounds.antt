@@ -33,7 +33,7 @@ load_below weight named (suc rounds) lv [] is short = omega arith
 load_below weight named (suc rounds) lv (below ∷ way) is short =
     let rest : load weight (below ∷ way) ≤ height weight named rounds below = load_below weight named rounds below way is.1 (omega arith) in
     let most : height weight named rounds below ≤ greatest (map (height weight named rounds) (named lv)) =
-        below_greatest (height weight named rounds) (named lv) below is.0 in
+    below_greatest (height weight named rounds) (named lv) below is.0 in
     omega arith
 
 -- one weighs as much
@@ -74,8 +74,8 @@ rounds_tell weight named lv h way is =
     elim (cases_lt 5 (length (lv ∷ way))) [
       | inl long ↦
           let five =
-              load_below (λ v. 1) named 5 lv (take 4 way) (front named 5 (lv ∷ way) is)
-                  (omega (arith, length-take-le 4 way (omega arith))) in
+          load_below (λ v. 1) named 5 lv (take 4 way) (front named 5 (lv ∷ way) is)
+          (omega (arith, length-take-le 4 way (omega arith))) in
           absurd (omega (arith, five, h.0, count_is (lv ∷ take 4 way), length-take-le 4 way (omega arith)))
       | inr short ↦ (
         omega (arith, h.0, load_below (λ v. 1) named 5 lv way is short, count_is (lv ∷ way)),

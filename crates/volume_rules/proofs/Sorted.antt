@@ -20,7 +20,7 @@ far runs near i zero d lt = subst (λ (n : ℕ). EndsBefore (get_or runs i d) (g
 far runs near i (suc k) d lt =
     subst (λ (n : ℕ). EndsBefore (get_or runs i d) (get_or runs n d)) (omega arith)
     (ends_through (get_or runs i d) (get_or runs (i + 1 + k) d) (get_or runs (i + 1 + k + 1) d) (far runs near i k d (omega arith))
-        (near (i + 1 + k) d (omega arith)))
+    (near (i + 1 + k) d (omega arith)))
 
 pub pairwise_from_neighbours : (runs : List ExtentSpan) → AllAdjacentBelow EndsBefore runs (length runs) → AllPairs EndsBefore runs
 pairwise_from_neighbours runs near i j d lt within =

@@ -24,7 +24,7 @@ abbrev pub runs_of_legs : ℕ → ℕ → ℕ → ℕ → List Leg → List LegR
 runs_of_legs lv segment count number [] = []
 runs_of_legs lv segment count number (leg ∷ legs) =
     record { lv = lv; segment = segment; leg = number; on = leg.on; first = leg.first; count = count }
-        ∷ runs_of_legs lv segment count (number + 1) legs
+    ∷ runs_of_legs lv segment count (number + 1) legs
 
 -- what the legs of these segments of one volume cover, the first segment having this number
 abbrev pub runs_of_segments : ℕ → ℕ → List Segment → List LegRun

@@ -27,6 +27,6 @@ IsOffence group Stripes at other = SegmentFailsAt (λ lv segment. IsWholeStriped
 IsOffence group Mirrors at other = SegmentFailsAt (λ lv segment. IsWholeMirror segment.kind) group at other
 IsOffence group Within at other =
     (run : LegRun) × Contains (runs_of group) run × (run.lv ≡ at) × (run.segment ≡ other)
-        × (LiesWithin group run.on (run.first + run.count) → ⊥)
+    × (LiesWithin group run.on (run.first + run.count) → ⊥)
 IsOffence group Moved at other = SegmentFailsAt (λ lv segment. MovedIsAllowed lv.status.pvmove segment.count segment.kind) group at other
 IsOffence group rule at other = (at ≡ 0) × (other ≡ 0) × (Keeps group rule → ⊥)

@@ -1,6 +1,6 @@
 -- The rules that a group keeps, one for each subject, and the groups that are accepted.
-use Rattle.std.specs.Prelude.{◌≡◌, ◌≢◌, ◌≤◌, ◌<◌, ℕ, ◌+◌, ◌*◌, ◌%◌, ◌^◌, Bool, IsTrue, IsFalse, cond, nat_eq, None, Some, List, [], ◌∷◌,
-    ◌++◌, length, map, take, codes, slice_get, sum_by, All, AllPairs, Contains}
+use Rattle.std.specs.Prelude.{◌≡◌, ◌≢◌, ◌≤◌, ◌<◌, ℕ, ◌+◌, ◌*◌, ◌%◌, ◌^◌, Bool, IsTrue, IsFalse, cond, nat_eq, None, Some, List, [], ◌∷◌}
+use Rattle.std.specs.Prelude.{◌++◌, length, map, take, codes, slice_get, sum_by, All, AllPairs, Contains}
 use Rattle.meta_model.specs.declared.group.Group.{Group}
 use Rattle.meta_model.specs.declared.pv.Pv.{Pv}
 use Rattle.meta_model.specs.declared.lv.Lv.{Lv}
@@ -13,8 +13,8 @@ use Rattle.meta_model.specs.declared.segment.On.TheVariants as on
 use Rattle.volume_rules.specs.Depths.{load}
 use Rattle.volume_rules.specs.Legs.{runs_of, IsUsed, LiesOn, LieApart, IsWayDown}
 use Rattle.volume_rules.specs.declared.rule.Rule.{Rule}
-use Rattle.volume_rules.specs.declared.rule.Rule.TheVariants.{Numbers, Ids, Volumes, Segments, Extents, Follows, Stripes, Mirrors, Within,
-    Apart, Depth, Moved, Pvmove, Locked}
+use Rattle.volume_rules.specs.declared.rule.Rule.TheVariants.{Numbers, Ids, Volumes, Segments, Extents, Follows, Stripes, Mirrors, Within}
+use Rattle.volume_rules.specs.declared.rule.Rule.TheVariants.{Apart, Depth, Moved, Pvmove, Locked}
 
 -- the logical volume with this number
 abbrev pub IsLv : Group → ℕ → Lv → Type 0
@@ -98,7 +98,7 @@ SegmentsFollow group = All (λ lv. Follow 0 lv.1.segments × (extents_of lv.1 * 
 abbrev pub IsWholeStriped : ℕ → ℕ → SegKind → Type 0
 IsWholeStriped extent_size count (Striped stripe legs) =
     (1 ≤ length legs) × (length legs ≤ 8) × (count % length legs ≡ 0)
-        × (1 < length legs → IsPowerOfTwo stripe × (8 ≤ stripe) × (extent_size % stripe ≡ 0))
+    × (1 < length legs → IsPowerOfTwo stripe × (8 ≤ stripe) × (extent_size % stripe ≡ 0))
 IsWholeStriped extent_size count (Mirror region moved legs) = Unit {0}
 
 -- Stripes: each striped segment is so

@@ -1,6 +1,6 @@
 -- The small group is accepted, before and after its segment is moved.
-use Rattle.std.proofs.Common.{◌≡◌, ◌≢◌, ◌^◌, ℕ, zero, suc, ◌+◌, ◌*◌, ◌<◌, ◌≤◌, Bool, true, false, ◌||◌, not, ◌&&◌, cond, get_or, nat_le,
-    nat_eq, IsTrue, IsFalse, List, [], ◌∷◌, length, Some, ⊎_elim, refl, sym, ap, subst, ◌∙◌, arith}
+use Rattle.std.proofs.Common.{◌≡◌, ◌≢◌, ◌^◌, ℕ, zero, suc, ◌+◌, ◌*◌, ◌<◌, ◌≤◌, Bool, true, false, ◌||◌, not, ◌&&◌, cond, get_or, nat_le}
+use Rattle.std.proofs.Common.{nat_eq, IsTrue, IsFalse, List, [], ◌∷◌, length, Some, ⊎_elim, refl, sym, ap, subst, ◌∙◌, arith}
 use Rattle.std.proofs.lemmas.Bool.{or_cases, and_parts, leb-true, eq-eqb, not-true, false≢true}
 use Rattle.std.proofs.lemmas.Option.{same_Some}
 use Rattle.std.proofs.lemmas.List.Elements.{All-from_recursion, All-contains}
@@ -18,16 +18,16 @@ use Rattle.volume_rules.specs.Legs.{LegRun, runs_of, LieApart}
 use Rattle.volume_rules.specs.Depths.{height}
 use Rattle.volume_rules.specs.Moving.{named_by}
 use Rattle.volume_rules.specs.Sorting.{on_number}
-use Rattle.volume_rules.specs.declared.rule.Rule.TheVariants.{Numbers, Ids, Volumes, Segments, Extents, Follows, Stripes, Mirrors, Within,
-    Apart, Depth, Moved, Pvmove, Locked}
-use Rattle.volume_rules.specs.Rules.{IsAccepted, IsLv, IsPvmove, IsMove, IsMoving, IsMoveFrom, DepthIsAtMostThree, NumbersAreAllowed,
-    LegsLieWithin, PvIsSmall, LvIsSmall, SegmentIsSmall, FitsDevice, Follow, IsWholeStriped, IsWholeMirror, IsSmall, LiesWithin,
-    MovedIsAllowed, counts, ids_of, pvmove_number}
+use Rattle.volume_rules.specs.declared.rule.Rule.TheVariants.{Numbers, Ids, Volumes, Segments, Extents, Follows, Stripes, Mirrors, Within}
+use Rattle.volume_rules.specs.declared.rule.Rule.TheVariants.{Apart, Depth, Moved, Pvmove, Locked}
+use Rattle.volume_rules.specs.Rules.{IsAccepted, IsLv, IsPvmove, IsMove, IsMoving, IsMoveFrom, DepthIsAtMostThree, NumbersAreAllowed}
+use Rattle.volume_rules.specs.Rules.{LegsLieWithin, PvIsSmall, LvIsSmall, SegmentIsSmall, FitsDevice, Follow, IsWholeStriped, IsWholeMirror}
+use Rattle.volume_rules.specs.Rules.{IsSmall, LiesWithin, MovedIsAllowed, counts, ids_of, pvmove_number}
 use Rattle.volume_rules.proofs.NamedVolumes.{depth_by_rounds}
 use Rattle.volume_rules.proofs.MovingVolumes.{moving_is}
 use Rattle.volume_view.proofs.CopiesApart.{same_number}
-use Rattle.volume_view.proofs.Examples.{example, pv, lvs, segment, on_pv, on_lv, data_lv, first_lv, second_lv, move_lv, stripes, mirror,
-    move}
+use Rattle.volume_view.proofs.Examples.{example, pv, lvs, segment, on_pv, on_lv, data_lv, first_lv, second_lv, move_lv, stripes, mirror}
+use Rattle.volume_view.proofs.Examples.{move}
 
 -- each of a list that is written out
 each : {X : Type 0} (P : X → Type 0) (xs : List X) → AllByRecursion P xs → All P xs
@@ -59,7 +59,7 @@ differ a b = not (nat_eq (get_or a 0 0) (get_or b 0 0))
 they_differ : (a b : List ℕ) → differ a b ≡ true → a ≢ b
 they_differ a b test same =
     false≢true (sym (not-true (nat_eq (get_or a 0 0) (get_or b 0 0)) test)
-        ∙ eq-eqb (get_or a 0 0) (get_or b 0 0) (ap (λ (id : List ℕ). get_or id 0 0) same))
+    ∙ eq-eqb (get_or a 0 0) (get_or b 0 0) (ap (λ (id : List ℕ). get_or id 0 0) same))
 
 -- two runs on different volumes, or one behind the other
 abbrev lie_beside : LegRun → LegRun → Bool
@@ -70,14 +70,14 @@ they_lie_apart : (a b : LegRun) → lie_beside a b ≡ true → LieApart a b
 they_lie_apart a b test below extent here there =
     ⊎_elim
     (λ other. false≢true (sym (not-true (nat_eq (on_number a.on) (on_number b.on)) other)
-        ∙ eq-eqb (on_number a.on) (on_number b.on) (ap on_number (here.0 ∙ sym there.0))))
+    ∙ eq-eqb (on_number a.on) (on_number b.on) (ap on_number (here.0 ∙ sym there.0))))
     (λ behind.
     ⊎_elim
     (λ first. let e : a.first + a.count ≤ b.first = leb-true (a.first + a.count) b.first first in absurd (omega (arith, here.2, there.1)))
     (λ second. let e : b.first + b.count ≤ a.first = leb-true (b.first + b.count) a.first second in absurd (omega (arith, here.1, there.2)))
     (or_cases (nat_le (a.first + a.count) b.first) (nat_le (b.first + b.count) a.first) behind))
     (or_cases (not (nat_eq (on_number a.on) (on_number b.on))) (nat_le (a.first + a.count) b.first || nat_le (b.first + b.count) a.first)
-        test)
+    test)
 
 -- a volume that a leg names isn't the first
 names_later : (moved below : ℕ) (run : LegRun) → Contains (runs_of (example moved)) run → run.on ≡ on.Lv below → 1 ≤ below
@@ -85,10 +85,19 @@ unfolding runs_of
 names_later moved below run within is =
     let P : LegRun → Type 0 = λ r. (n : ℕ) → r.on ≡ on.Lv n → 1 ≤ n in
     All-contains P (runs_of (example moved)) run
-    (each P (runs_of (example moved))
-    ((λ n h. cc), ((λ n h. cc), ((λ n h. omega (arith, same_number 1 n h)),
-        ((λ n h. omega (arith, same_number 2 n h)),
-        ((λ n h. omega (arith, same_number 3 n h)), ((λ n h. cc), ((λ n h. cc), ((λ n h. cc), tt)))))))))
+    (each P (runs_of (example moved)) (
+      (λ n h. cc),
+      (
+        (λ n h. cc),
+        (
+          (λ n h. omega (arith, same_number 1 n h)),
+          (
+            (λ n h. omega (arith, same_number 2 n h)),
+            ((λ n h. omega (arith, same_number 3 n h)), ((λ n h. cc), ((λ n h. cc), ((λ n h. cc), tt)))),
+          ),
+        ),
+      ),
+    ))
     within below is
 
 -- what a status says
@@ -152,8 +161,11 @@ is_move moved =
       named = refl;
       from_one = (0, each (λ (s : Segment). IsMoveFrom 0 s.kind) (move moved ∷ []) (is_moving_to moved, tt));
       stands_in_legs =
-          λ extent lt. (record { lv = 1; segment = 0; leg = 0; on = on.Lv 3; first = 0; count = 1 }, (4, omega arith, refl),
-              (refl, omega arith, omega arith));
+          λ extent lt. (
+            record { lv = 1; segment = 0; leg = 0; on = on.Lv 3; first = 0; count = 1 },
+            (4, omega arith, refl),
+            (refl, omega arith, omega arith),
+          );
     }
 
 whole_move : (moved number : ℕ) (name : List ℕ) (v : Lv) → slice_get (lvs moved) number ≡ Some (name, v) → IsTrue v.status.pvmove
@@ -166,7 +178,7 @@ whole_move moved (suc (suc zero)) name v is t =
     absurd (not_true v.status.pvmove (sym (ap (λ (p : List ℕ × Lv). p.1.status.pvmove) (same_Some _ _ is))) t)
 whole_move moved (suc (suc (suc zero))) name v is t =
     subst (λ (p : List ℕ × Lv). IsMove (example moved) 3 p.0 p.1)
-        (same_Some {A = List ℕ × Lv} (codes "pvmove0", move_lv moved) (name, v) is) (is_move moved)
+    (same_Some {A = List ℕ × Lv} (codes "pvmove0", move_lv moved) (name, v) is) (is_move moved)
 whole_move moved (suc (suc (suc (suc n)))) name v is t = cc
 
 -- and it is the only one
@@ -192,31 +204,45 @@ locked_move moved (suc (suc (suc (suc n)))) v is t = cc
 numbers_are : (moved : ℕ) → moved ≤ 1 → NumbersAreAllowed (example moved)
 numbers_are moved small =
     let two : (a b : Leg) → IsSmall a.first → IsSmall b.first → All (λ (l : Leg). IsSmall l.first) (a ∷ b ∷ []) =
-        λ a b x y. each (λ (l : Leg). IsSmall l.first) (a ∷ b ∷ []) (x, (y, tt)) in
+    λ a b x y. each (λ (l : Leg). IsSmall l.first) (a ∷ b ∷ []) (x, (y, tt)) in
     let one : (a : Leg) → IsSmall a.first → All (λ (l : Leg). IsSmall l.first) (a ∷ []) =
-        λ a x. each (λ (l : Leg). IsSmall l.first) (a ∷ []) (x, tt) in
+    λ a x. each (λ (l : Leg). IsSmall l.first) (a ∷ []) (x, tt) in
     record {
       seqno = (omega arith, omega arith);
       extent_size = (omega arith, omega arith, refl);
       limits = (omega arith, omega arith, omega arith);
       pvs =
           each (λ (p : List ℕ × Pv). PvIsSmall p.1) (pv 1 2048 ∷ pv 2 4096 ∷ [])
-              ((omega arith, omega arith, omega arith), ((omega arith, omega arith, omega arith), tt));
+          ((omega arith, omega arith, omega arith), ((omega arith, omega arith, omega arith), tt));
       lvs =
           each (λ (v : List ℕ × Lv). LvIsSmall v.1) (lvs moved) (
-            (omega arith, each SegmentIsSmall data_lv.segments
-                ((omega arith, omega arith, (omega arith, two (on_pv 0 3) (on_pv 1 5) (omega arith) (omega arith))),
-                ((omega arith, omega arith, (omega arith, two (on_lv 1 0) (on_lv 2 0) (omega arith) (omega arith))), tt))),
             (
-              (omega arith, each SegmentIsSmall first_lv.segments
-                  ((omega arith, omega arith, (omega arith, one (on_lv 3 0) (omega arith))), tt)),
+              omega arith,
+              each SegmentIsSmall data_lv.segments (
+                (omega arith, omega arith, (omega arith, two (on_pv 0 3) (on_pv 1 5) (omega arith) (omega arith))),
+                ((omega arith, omega arith, (omega arith, two (on_lv 1 0) (on_lv 2 0) (omega arith) (omega arith))), tt),
+              ),
+            ),
+            (
               (
-                (omega arith, each SegmentIsSmall second_lv.segments
-                    ((omega arith, omega arith, (omega arith, one (on_pv 1 7) (omega arith))), tt)),
+                omega arith,
+                each SegmentIsSmall first_lv.segments
+                    ((omega arith, omega arith, (omega arith, one (on_lv 3 0) (omega arith))), tt),
+              ),
+              (
                 (
-                  (omega arith, each SegmentIsSmall (move_lv moved).segments
-                      ((omega arith, omega arith, (omega arith, omega arith, two (on_pv 0 2) (on_pv 1 9) (omega arith) (omega arith))),
-                      tt)),
+                  omega arith,
+                  each SegmentIsSmall second_lv.segments
+                      ((omega arith, omega arith, (omega arith, one (on_pv 1 7) (omega arith))), tt),
+                ),
+                (
+                  (
+                    omega arith,
+                    each SegmentIsSmall (move_lv moved).segments (
+                      (omega arith, omega arith, (omega arith, omega arith, two (on_pv 0 2) (on_pv 1 9) (omega arith) (omega arith))),
+                      tt,
+                    ),
+                  ),
                   tt,
                 ),
               ),
@@ -229,10 +255,13 @@ segments_keep : (P : Bool → Segment → Type 0) (moved : ℕ) → P false stri
     → P false (segment 0 1 (Striped 0 (on_lv 3 0 ∷ []))) → P false (segment 0 1 (Striped 0 (on_pv 1 7 ∷ []))) → P true (move moved)
     → All (λ (v : List ℕ × Lv). All (λ (s : Segment). P v.1.status.pvmove s) v.1.segments) (lvs moved)
 segments_keep P moved a b c d e =
-    each (λ (v : List ℕ × Lv). All (λ (s : Segment). P v.1.status.pvmove s) v.1.segments) (lvs moved)
-    (each (P false) data_lv.segments (a, (b, tt)),
-        (each (P false) first_lv.segments (c, tt),
-        (each (P false) second_lv.segments (d, tt), (each (P true) (move_lv moved).segments (e, tt), tt))))
+    each (λ (v : List ℕ × Lv). All (λ (s : Segment). P v.1.status.pvmove s) v.1.segments) (lvs moved) (
+      each (P false) data_lv.segments (a, (b, tt)),
+      (
+        each (P false) first_lv.segments (c, tt),
+        (each (P false) second_lv.segments (d, tt), (each (P true) (move_lv moved).segments (e, tt), tt)),
+      ),
+    )
 
 within : (moved : ℕ) → LegsLieWithin (example moved)
 unfolding runs_of
@@ -271,21 +300,25 @@ accepted moved small Ids = tested_pairs (λ (a b : List ℕ). a ≢ b) differ th
 accepted moved small Volumes =
     record { pvs = (omega arith, omega arith); lvs = omega arith; max_pv = λ h. absurd (h refl); max_lv = λ h. absurd (h refl) }
 accepted moved small Segments =
-    record { few = omega arith; some = each (λ (v : List ℕ × Lv). 1 ≤ length v.1.segments) (lvs moved)
-        (omega arith, (omega arith, (omega arith, (omega arith, tt)))) }
+    record {
+      few = omega arith;
+      some = each (λ (v : List ℕ × Lv). 1 ≤ length v.1.segments) (lvs moved)
+          (omega arith, (omega arith, (omega arith, (omega arith, tt))));
+    }
 accepted moved small Extents =
     each (λ (p : List ℕ × Pv). FitsDevice 64 p.1) (pv 1 2048 ∷ pv 2 4096 ∷ [])
-        ((omega arith, λ h. absurd (h refl)), ((omega arith, λ h. absurd (h refl)), tt))
+    ((omega arith, λ h. absurd (h refl)), ((omega arith, λ h. absurd (h refl)), tt))
 accepted moved small Follows =
-    each (λ (v : List ℕ × Lv). Follow 0 v.1.segments × (extents_of v.1 * 64 < 2 ^ 48)) (lvs moved)
-    (((refl, omega arith, (refl, omega arith, tt)), omega arith),
-        (((refl, omega arith, tt), omega arith), (((refl, omega arith, tt), omega arith), (((refl, omega arith, tt), omega arith), tt))))
+    each (λ (v : List ℕ × Lv). Follow 0 v.1.segments × (extents_of v.1 * 64 < 2 ^ 48)) (lvs moved) (
+      ((refl, omega arith, (refl, omega arith, tt)), omega arith),
+      (((refl, omega arith, tt), omega arith), (((refl, omega arith, tt), omega arith), (((refl, omega arith, tt), omega arith), tt))),
+    )
 accepted moved small Stripes =
     segments_keep (λ b s. IsWholeStriped 64 s.count s.kind) moved (omega arith, omega arith, refl, λ more. ((3, refl), omega arith, refl))
-        tt (omega arith, omega arith, refl, λ more. absurd (omega arith)) (omega arith, omega arith, refl, λ more. absurd (omega arith)) tt
+    tt (omega arith, omega arith, refl, λ more. absurd (omega arith)) (omega arith, omega arith, refl, λ more. absurd (omega arith)) tt
 accepted moved small Mirrors =
     segments_keep (λ b s. IsWholeMirror s.kind) moved tt (omega arith, omega arith, (10, refl), omega arith) tt tt
-        (omega arith, omega arith, (5, refl), omega arith)
+    (omega arith, omega arith, (5, refl), omega arith)
 accepted moved small Within = within moved
 accepted moved small Apart = tested_pairs LieApart lie_beside they_lie_apart (runs_of (example moved)) refl
 accepted moved small Depth = depth moved

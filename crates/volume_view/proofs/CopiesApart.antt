@@ -33,16 +33,16 @@ pub one_way : (group : Group) (legs legs' : List (ℕ × ℕ)) (s s' t : Spot) �
 one_way group [] [] s s' t accepted free free' here there = (here ∙ sym there, refl)
 one_way group [] (leg' ∷ legs') s s' t accepted free free' here there =
     absurd (free (subst (λ (x : Spot). IsUsed group x.on (x.sector / group.extent_size)) (sym here)
-        (used_below group there.0 there.1 leg'.0 leg'.1 t accepted there.3)))
+    (used_below group there.0 there.1 leg'.0 leg'.1 t accepted there.3)))
 one_way group (leg ∷ legs) [] s s' t accepted free free' here there =
     absurd (free' (subst (λ (x : Spot). IsUsed group x.on (x.sector / group.extent_size)) (sym there)
-        (used_below group here.0 here.1 leg.0 leg.1 t accepted here.3)))
+    (used_below group here.0 here.1 leg.0 leg.1 t accepted here.3)))
 one_way group (leg ∷ legs) (leg' ∷ legs') s s' t accepted free free' here there =
     let same : SameAbove here.0 there.0 here.1 there.1 leg.0 leg'.0 leg.1 leg'.1 =
-        one_above group here.0 there.0 here.1 there.1 leg.0 leg'.0 leg.1 leg'.1 t accepted here.3 there.3 in
+    one_above group here.0 there.0 here.1 there.1 leg.0 leg'.0 leg.1 leg'.1 t accepted here.3 there.3 in
     let spot : ℕ → ℕ → Spot = λ lv sector. record { on = on.Lv lv; sector = sector } in
     let above : spot here.0 here.1 ≡ spot there.0 there.1 =
-        ap (λ (n : ℕ). spot n here.1) same.lv_is ∙ ap (λ (n : ℕ). spot there.0 n) same.sector_is in
+    ap (λ (n : ℕ). spot n here.1) same.lv_is ∙ ap (λ (n : ℕ). spot there.0 n) same.sector_is in
     let rest : SameWay s s' legs legs' =
     one_way group legs legs' s s' (spot there.0 there.1) accepted free free' (subst (Leads group legs s) above here.2) there.2 in
     let pair : ℕ → ℕ → ℕ × ℕ = λ a b. (a, b) in
@@ -58,7 +58,7 @@ copies_apart group s s' legs legs' at accepted free free' here there =
     let into : here.into ≡ there.into = omega (arith, here.at_is, there.at_is) in
     let low : ℕ → Spot = λ n. record { on = on.Pv at.pv; sector = n } in
     one_way group legs legs' s s' (low there.into) accepted free free' (subst (λ (n : ℕ). Leads group legs s (low n)) into here.lead)
-        there.lead
+    there.lead
 
 -- one volume, by what its legs lie on
 pub same_number : (lv lv' : ℕ) → ◌≡◌ {A = On} (on.Lv lv) (on.Lv lv') → lv ≡ lv'

@@ -29,25 +29,34 @@ pub one_sector : (moved sector : ℕ) → moved ≤ 1 → primary (example moved
 unfolding primary met leg_spot
 one_sector moved sector small there =
     ap (λ (s : Spot). s.sector) (primaries_apart (example moved) 0 0 sector 29 (at 1 (4096 + 5 * 64 + 8 + 5)) (accepted moved small)
-        (tops moved sector small) (tops moved 29 small) there refl)
+    (tops moved sector small) (tops moved 29 small) there refl)
 
 -- and none is read where the move goes, while it isn't finished
 pub not_read : (sector : ℕ) → primary (example 0) 0 sector ≡ Some (at 1 (4096 + 9 * 64 + 40)) → ⊥
 unfolding places primary met leg_spot deciding
 not_read sector there =
     primary_is_no_other (example 0) 0 0 sector 168 (at 1 (4096 + 9 * 64 + 40))
-        (record { primary = at 0 (2048 + 2 * 64 + 40); others = at 1 (4096 + 9 * 64 + 40) ∷ [];
-        mirror = Some (record { lv = 3; segment = 0; region = 1 }) })
+    (record {
+      primary = at 0 (2048 + 2 * 64 + 40);
+      others = at 1 (4096 + 9 * 64 + 40) ∷ [];
+      mirror = Some (record { lv = 3; segment = 0; region = 1 });
+    })
     (accepted 0 (omega arith)) (tops 0 sector (omega arith)) (tops 0 168 (omega arith)) there refl (0, omega arith, refl)
 
 -- the places of sectors 168 to 175 stand side by side, in one region
 pub one_piece : (count : ℕ) → 21 ≡ (168 + count) / 8
     → places (example 0) 0 (168 + count) ≡ Some
-    (record { primary = at 0 (2048 + 2 * 64 + 40 + count); others = at 1 (4096 + 9 * 64 + 40 + count) ∷ [];
-    mirror = Some (record { lv = 3; segment = 0; region = 1 }) })
+    (record {
+      primary = at 0 (2048 + 2 * 64 + 40 + count);
+      others = at 1 (4096 + 9 * 64 + 40 + count) ∷ [];
+      mirror = Some (record { lv = 3; segment = 0; region = 1 });
+    })
 one_piece count same =
-    places_later (example 0) 0 168 count (record { primary = at 0 (2048 + 2 * 64 + 40); others = at 1 (4096 + 9 * 64 + 40) ∷ [];
-        mirror = Some (record { lv = 3; segment = 0; region = 1 }) }) (accepted 0 (omega arith)) same row_moving
+    places_later (example 0) 0 168 count (record {
+      primary = at 0 (2048 + 2 * 64 + 40);
+      others = at 1 (4096 + 9 * 64 + 40) ∷ [];
+      mirror = Some (record { lv = 3; segment = 0; region = 1 });
+    }) (accepted 0 (omega arith)) same row_moving
 
 -- only the first volume is visible
 only_visible : (moved lv : ℕ) (volume : List ℕ × Lv) → slice_get (lvs moved) lv ≡ Some volume → IsTrue volume.1.status.visible → lv ≡ 0
@@ -85,7 +94,7 @@ copy_unseen image new beside =
     let place : ℕ → ℕ → At = λ v x. record { pv = v; sector = x } in
     let same : a ≡ at 1 (4096 + 9 * 64 + 40) = ap (λ (n : ℕ). place n a.sector) (on_second a.pv disk) ∙ ap (place 1) k in
     not_read sector (ap (λ (n : ℕ). primary (example 0) n sector) (sym (only_visible 0 lv volume is visible)) ∙ here
-        ∙ ap (λ (x : At). Some x) same)))
+    ∙ ap (λ (x : At). Some x) same)))
 
 -- and a write of sector 29 changes no other sector
 pub write_alone : (image new : Image) (sector : ℕ) → (29 ≡ sector → ⊥)
@@ -94,4 +103,4 @@ pub write_alone : (image new : Image) (sector : ℕ) → (29 ≡ sector → ⊥)
 unfolding primary met leg_spot
 write_alone image new sector differ beside =
     others_stay image new (example 0) (4 ∷ 6 ∷ []) 0 29 0 sector (at 1 (4096 + 5 * 64 + 8 + 5)) (accepted 0 (omega arith)) (disks_differ 0)
-        (tops 0 29 (omega arith)) (tops 0 sector (omega arith)) refl (λ same. differ) beside
+    (tops 0 29 (omega arith)) (tops 0 sector (omega arith)) refl (λ same. differ) beside

@@ -118,8 +118,11 @@ row_stripe = refl
 
 -- sector 40 of the mirror is read where the move reads, and its other place is where the move goes
 pub row_moving : places (example 0) 0 168
-    ≡ Some (record { primary = at 0 (2048 + 2 * 64 + 40); others = at 1 (4096 + 9 * 64 + 40) ∷ [];
-    mirror = Some (record { lv = 3; segment = 0; region = 1 }) })
+    ≡ Some (record {
+      primary = at 0 (2048 + 2 * 64 + 40);
+      others = at 1 (4096 + 9 * 64 + 40) ∷ [];
+      mirror = Some (record { lv = 3; segment = 0; region = 1 });
+    })
 unfolding places primary met leg_spot deciding
 row_moving = refl
 
@@ -130,8 +133,11 @@ row_moved = refl
 
 -- the other leg of a mirror is followed down as it is read
 row_mirrored : places mirrored 0 45 ≡ Some
-    (record { primary = at 0 (2048 + 7 * 64 + 45); others = at 1 (4096 + 5 * 64 + 16 + 5) ∷ [];
-    mirror = Some (record { lv = 0; segment = 0; region = 1 }) })
+    (record {
+      primary = at 0 (2048 + 7 * 64 + 45);
+      others = at 1 (4096 + 5 * 64 + 16 + 5) ∷ [];
+      mirror = Some (record { lv = 0; segment = 0; region = 1 });
+    })
 unfolding places primary met leg_spot deciding
 row_mirrored = refl
 

@@ -26,8 +26,13 @@ pub copy_front : (group : Group) (lv sector segment leg : ℕ) (legs : List (ℕ
     → StandsAt group lv sector segment leg mid → HasCopyAt group mid legs at
     → HasCopyAt group (sector_of lv sector) (legs ++ (segment, leg) ∷ []) at
 copy_front group lv sector segment leg legs mid at stands copy =
-    record { into = copy.into; lead = leads_front group lv sector segment leg legs mid _ stands copy.lead; pv = copy.pv; is_pv = copy.is_pv;
-        at_is = copy.at_is }
+    record {
+      into = copy.into;
+      lead = leads_front group lv sector segment leg legs mid _ stands copy.lead;
+      pv = copy.pv;
+      is_pv = copy.is_pv;
+      at_is = copy.at_is;
+    }
 
 -- the primary leg has the sector
 primary_has : (count : ℕ) (kind : SegKind) (l : ℕ) → HasSectorInLeg kind l (primary_leg count kind l)
@@ -77,8 +82,13 @@ on_pv group pv sector at (Some p) is so =
     let same : here pv (p.1.pe_start + sector) ≡ at = same_Some (here pv (p.1.pe_start + sector)) at so in
     let number : pv ≡ at.pv = ap (λ (a : At). a.pv) same in
     let spot : ℕ → Spot = λ v. record { on = on.Pv v; sector = sector } in
-    record { into = sector; lead = ap spot number; pv = p; is_pv = ap (λ (n : ℕ). slice_get group.pvs n) (sym number) ∙ is;
-        at_is = sym (ap (λ (a : At). a.sector) same) }
+    record {
+      into = sector;
+      lead = ap spot number;
+      pv = p;
+      is_pv = ap (λ (n : ℕ). slice_get group.pvs n) (sym number) ∙ is;
+      at_is = sym (ap (λ (a : At). a.sector) same);
+    }
 
 -- the place to which primaries lead has a copy, by some legs
 pub down_has_copy : (group : Group) (steps : ℕ) (on : On) (sector : ℕ) (at : At) → down group on steps sector ≡ Some at
@@ -111,6 +121,6 @@ pub step_down : (group : Group) (lv sector steps : ℕ) (m : Met) (spot : Spot) 
     → down group (on.Lv lv) (suc steps) sector ≡ Some at
 step_down group lv sector steps m spot at meets is rest =
     ap (λ (o : Option Met). option_and_then (λ (x : Met). option_and_then (λ (s : Spot). down group s.on steps s.sector)
-        (primary_spot group.extent_size x)) o) meets
+    (primary_spot group.extent_size x)) o) meets
     ∙ ap (λ (o : Option Spot). option_and_then (λ (s : Spot). down group s.on steps s.sector) o) is
     ∙ rest

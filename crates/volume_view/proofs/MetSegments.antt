@@ -1,6 +1,6 @@
 -- What is known of the segment that has a sector, and of the leg by which the sector stands one level below.
-use Rattle.std.proofs.Common.{◌≡◌, ℕ, zero, suc, ◌+◌, ◌-◌, ◌*◌, ◌<◌, ◌≤◌, Bool, true, false, cond, nat_le, nat_lt, List, [], ◌∷◌, Option,
-    Some, None, refl, sym, ap, subst, ◌∙◌, arith}
+use Rattle.std.proofs.Common.{◌≡◌, ℕ, zero, suc, ◌+◌, ◌-◌, ◌*◌, ◌<◌, ◌≤◌, Bool, true, false, cond, nat_le, nat_lt, List, [], ◌∷◌, Option}
+use Rattle.std.proofs.Common.{Some, None, refl, sym, ap, subst, ◌∙◌, arith}
 use Rattle.std.proofs.lemmas.Bool.{and_parts, leb-true, ltb-true}
 use Rattle.std.proofs.lemmas.Option.{same_Some, slice_get_within, get_or_from_slice_get}
 use Rattle.std.specs.Prelude.{All, slice_get, option_map}
@@ -62,10 +62,10 @@ at_segment group lv sector m volume here (Some f) is' so =
     let same : make group lv sector f ≡ m = same_Some (make group lv sector f) m so in
     let place = found group.extent_size sector 0 volume.1.segments f.0 f.1 is' in
     let parts =
-        and_parts (nat_le (f.1.start * group.extent_size) sector) (nat_lt sector ((f.1.start + f.1.count) * group.extent_size)) place.3 in
+    and_parts (nat_le (f.1.start * group.extent_size) sector) (nat_lt sector ((f.1.start + f.1.count) * group.extent_size)) place.3 in
     let low : f.1.start * group.extent_size ≤ sector = leb-true (f.1.start * group.extent_size) sector parts.0 in
     let high : sector < (f.1.start + f.1.count) * group.extent_size =
-        ltb-true sector ((f.1.start + f.1.count) * group.extent_size) parts.1 in
+    ltb-true sector ((f.1.start + f.1.count) * group.extent_size) parts.1 in
     let number : place.0 ≡ f.0 = omega (arith, place.1) in
     subst (Meets group lv sector) same
     (record {
@@ -102,7 +102,7 @@ at_leg : (group : Group) (m : Met) (leg : ℕ) (spot : Spot) (o : Option Leg) �
 at_leg group m leg spot None here none = cc
 at_leg group m leg spot (Some it) here so =
     let same : spot_in group.extent_size (offset_in m.segment.kind m.at) it ≡ spot =
-        same_Some (spot_in group.extent_size (offset_in m.segment.kind m.at) it) spot so in
+    same_Some (spot_in group.extent_size (offset_in m.segment.kind m.at) it) spot so in
     record { it = it; is_leg = here; on = ap (λ (s : Spot). s.on) same; at = ap (λ (s : Spot). s.sector) same }
 
 -- that holds of where a leg has the sector

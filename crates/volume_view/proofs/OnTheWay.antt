@@ -24,8 +24,13 @@ leads_join group (leg ∷ low) high s mid t above below =
 pub copy_join : (group : Group) (low high : List (ℕ × ℕ)) (s mid : Spot) (at : At) → Leads group high s mid → HasCopyAt group mid low at
     → HasCopyAt group s (low ++ high) at
 copy_join group low high s mid at above copy =
-    record { into = copy.into; lead = leads_join group low high s mid _ above copy.lead; pv = copy.pv; is_pv = copy.is_pv;
-        at_is = copy.at_is }
+    record {
+      into = copy.into;
+      lead = leads_join group low high s mid _ above copy.lead;
+      pv = copy.pv;
+      is_pv = copy.is_pv;
+      at_is = copy.at_is;
+    }
 
 -- a segment on the way of the primary from a spot: legs lead there, and from there on the way is the same
 pub record OnWay (group : Group) (from : Spot) (at : At) (m : Met) : Type 0 where
@@ -57,7 +62,7 @@ above_way group lv sector m spot at n stands on =
       sector = on.sector;
       lead =
           leads_front group lv sector m.number (primary_leg m.segment.count m.segment.kind m.at) on.legs spot (sector_of n.lv on.sector)
-              stands on.lead;
+          stands on.lead;
       meets = on.meets;
       steps = on.steps;
       goes = on.goes;
@@ -80,10 +85,10 @@ way_all group (suc steps) (on.Lv lv) sector at is =
     let g : GoesDown group lv sector steps at = goes_down group lv sector steps at is in
     let meets : Meets group lv sector g.m = meets_is group lv sector g.m g.meets in
     let rest : AllByRecursion (OnWay group g.spot at) (way group g.spot.on steps g.spot.sector) =
-        way_all group steps g.spot.on g.spot.sector at g.rest in
+    way_all group steps g.spot.on g.spot.sector at g.rest in
     let later =
-        all_above group lv sector g.m g.spot at (way group g.spot.on steps g.spot.sector)
-            (stands_primary group lv sector g.m g.spot g.meets g.is_spot) rest in
+    all_above group lv sector g.m g.spot at (way group g.spot.on steps g.spot.sector)
+    (stands_primary group lv sector g.m g.spot g.meets g.is_spot) rest in
     let here : OnWay group (sector_of lv sector) at g.m =
     record {
       legs = [];
@@ -94,4 +99,4 @@ way_all group (suc steps) (on.Lv lv) sector at is =
       goes = ap (λ (n : ℕ). down group (on.Lv n) (suc steps) sector) meets.same_lv ∙ is;
     } in
     subst (AllByRecursion (OnWay group (sector_of lv sector) at)) (sym (way_is group lv sector steps g.m g.spot g.meets g.is_spot))
-        (here, later)
+    (here, later)

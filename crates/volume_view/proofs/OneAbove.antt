@@ -53,16 +53,16 @@ in_run group lv sector segment leg spot accepted stands =
     let whole : IsWholeStriped group.extent_size m.segment.count m.segment.kind =
     all_at (λ (s : Segment). IsWholeStriped group.extent_size s.count s.kind) meets.volume.1.segments m.number m.segment
     (all_at (λ (v : List ℕ × Lv). All (λ s. IsWholeStriped group.extent_size s.count s.kind) v.1.segments) group.lvs lv meets.volume
-        (accepted Stripes) meets.is_volume)
+    (accepted Stripes) meets.is_volume)
     meets.is_segment in
     let short : offset_in m.segment.kind m.at < leg_share m.segment.count m.segment.kind * group.extent_size =
-        within_share _ _ _ _ whole meets.within in
+    within_share _ _ _ _ whole meets.within in
     let some : 0 < group.extent_size = omega (arith, (accepted Numbers).extent_size.0) in
     let r = run_of group lv meets.volume m.number m.segment leg by.it meets.is_volume meets.is_segment by.is_leg in
     let place : (by.it.first ≤ spot.sector / group.extent_size)
-        × (spot.sector / group.extent_size < by.it.first + leg_share m.segment.count m.segment.kind) =
+    × (spot.sector / group.extent_size < by.it.first + leg_share m.segment.count m.segment.kind) =
     extent_inside group.extent_size by.it.first (leg_share m.segment.count m.segment.kind) (offset_in m.segment.kind m.at) spot.sector some
-        by.at short in
+    by.at short in
     let low : by.it.first ≤ spot.sector / group.extent_size = place.0 in
     let high : spot.sector / group.extent_size < by.it.first + leg_share m.segment.count m.segment.kind = place.1 in
     record {
@@ -116,7 +116,7 @@ one_above group lv lv' sector sector' segment segment' leg leg' spot accepted he
     let a : InRun group lv segment leg spot = in_run group lv sector segment leg spot accepted here in
     let b : InRun group lv' segment' leg' spot = in_run group lv' sector' segment' leg' spot accepted there in
     let run : a.run ≡ b.run =
-        one_run group a.run b.run spot.on (spot.sector / group.extent_size) accepted a.contained b.contained a.inside b.inside in
+    one_run group a.run b.run spot.on (spot.sector / group.extent_size) accepted a.contained b.contained a.inside b.inside in
     let lvs : lv ≡ lv' = sym a.same_lv ∙ ap (λ (r : LegRun). r.lv) run ∙ b.same_lv in
     let segments : segment ≡ segment' = sym a.same_segment ∙ ap (λ (r : LegRun). r.segment) run ∙ b.same_segment in
     let legs : leg ≡ leg' = sym a.same_leg ∙ ap (λ (r : LegRun). r.leg) run ∙ b.same_leg in
@@ -129,18 +129,18 @@ one_above group lv lv' sector sector' segment segment' leg leg' spot accepted he
     let same : m.segment ≡ n.segment =
     same_Some _ _
     (sym ma.is_segment ∙ ap (λ (v : List ℕ × Lv). slice_get v.1.segments m.number) volume
-        ∙ ap (λ (k : ℕ). slice_get mb.volume.1.segments k) number ∙ mb.is_segment) in
+    ∙ ap (λ (k : ℕ). slice_get mb.volume.1.segments k) number ∙ mb.is_segment) in
     let by : ByLeg group m leg spot = by_leg group m leg spot here.there in
     let by' : ByLeg group n leg' spot = by_leg group n leg' spot there.there in
     let it : by.it ≡ by'.it =
     same_Some _ _ (sym by.is_leg ∙ ap (λ (s : Segment). slice_get (legs_of s.kind) leg) same
-        ∙ ap (λ (j : ℕ). slice_get (legs_of n.segment.kind) j) legs ∙ by'.is_leg) in
+    ∙ ap (λ (j : ℕ). slice_get (legs_of n.segment.kind) j) legs ∙ by'.is_leg) in
     let first : by.it.first * group.extent_size ≡ by'.it.first * group.extent_size = ap (λ (l : Leg). l.first * group.extent_size) it in
     let offsets : offset_in m.segment.kind m.at ≡ offset_in n.segment.kind n.at = omega (arith, by.at, by'.at) in
     let whole : IsWholeStriped group.extent_size n.segment.count n.segment.kind =
     all_at (λ (s : Segment). IsWholeStriped group.extent_size s.count s.kind) mb.volume.1.segments n.number n.segment
     (all_at (λ (v : List ℕ × Lv). All (λ s. IsWholeStriped group.extent_size s.count s.kind) v.1.segments) group.lvs lv' mb.volume
-        (accepted Stripes) mb.is_volume)
+    (accepted Stripes) mb.is_volume)
     mb.is_segment in
     let ats : m.at ≡ n.at =
     same_at group.extent_size n.segment.count n.segment.kind leg' m.at n.at whole
@@ -148,7 +148,7 @@ one_above group lv lv' sector sector' segment segment' leg leg' spot accepted he
     there.in_leg
     (ap (λ (s : Segment). offset_in s.kind m.at) (sym same) ∙ offsets) in
     let start : m.segment.start * group.extent_size ≡ n.segment.start * group.extent_size =
-        ap (λ (s : Segment). s.start * group.extent_size) same in
+    ap (λ (s : Segment). s.start * group.extent_size) same in
     record {
       lv_is = lvs;
       sector_is = omega (arith, ma.at, mb.at);

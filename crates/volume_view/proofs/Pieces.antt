@@ -1,14 +1,14 @@
 -- Sectors between two multiples of 8 lie in one segment, one stripe and one region.
-use Rattle.std.proofs.Common.{◌≡◌, ℕ, zero, suc, ◌+◌, ◌*◌, ◌/◌, ◌%◌, ◌^◌, ◌<◌, ◌≤◌, Bool, true, false, ◌&&◌, cond, nat_le, nat_lt, List, [],
-    ◌∷◌, length, Option, Some, None, inl, inr, refl, sym, ap, ◌∙◌, arith}
+use Rattle.std.proofs.Common.{◌≡◌, ℕ, zero, suc, ◌+◌, ◌*◌, ◌/◌, ◌%◌, ◌^◌, ◌<◌, ◌≤◌, Bool, true, false, ◌&&◌, cond, nat_le, nat_lt, List, []}
+use Rattle.std.proofs.Common.{◌∷◌, length, Option, Some, None, inl, inr, refl, sym, ap, ◌∙◌, arith}
 use Rattle.std.proofs.lemmas.Nat.{div-add-mod', pow-add}
 use Rattle.std.proofs.lemmas.Bool.{cases_eq, leb-true, le-leb, ltb-true, lt-ltb}
 use Rattle.meta_model.specs.declared.segment.Segment.{Segment}
 use Rattle.meta_model.specs.declared.segment.SegKind.{SegKind}
 use Rattle.meta_model.specs.declared.segment.SegKind.TheVariants.{Striped, Mirror}
 use Rattle.volume_rules.specs.Rules.{IsPowerOfTwo, IsWholeStriped, IsWholeMirror}
-use Rattle.volume_view.specs.InSegments.{segment_from, has_sector, offset_in, primary_leg, stripe_leg, stripe_offset, is_finished,
-    region_of}
+use Rattle.volume_view.specs.InSegments.{segment_from, has_sector, offset_in, primary_leg, stripe_leg, stripe_offset, is_finished}
+use Rattle.volume_view.specs.InSegments.{region_of}
 use Rattle.volume_view.proofs.Stripes.{more_leg, more_offset}
 
 same_bool : (b c : Bool) → (b ≡ true → c ≡ true) → (c ≡ true → b ≡ true) → b ≡ c
@@ -60,7 +60,7 @@ same_quotient : (s x y : ℕ) → 0 < s → s % 8 ≡ 0 → x / 8 ≡ y / 8 → 
 same_quotient s x y some whole same =
     let e : s ≡ 8 * (s / 8) = omega arith in
     ap (λ (n : ℕ). x / n) e ∙ sym (Rattle.std.proofs.Math.Nat.div-div-eq-div-mul x 8 (s / 8)) ∙ ap (λ (n : ℕ). n / (s / 8)) same
-        ∙ Rattle.std.proofs.Math.Nat.div-div-eq-div-mul y 8 (s / 8) ∙ ap (λ (n : ℕ). y / n) (sym e)
+    ∙ Rattle.std.proofs.Math.Nat.div-div-eq-div-mul y 8 (s / 8) ∙ ap (λ (n : ℕ). y / n) (sym e)
 
 -- one stripe: the same leg, and side by side in it
 pub record SameLeg (count : ℕ) (kind : SegKind) (l l' : ℕ) : Type 0 where

@@ -1,6 +1,6 @@
 -- The places of a sector further on between two multiples of 8 are those of the first, as much further on.
-use Rattle.std.proofs.Common.{◌≡◌, ℕ, zero, suc, ◌+◌, ◌-◌, ◌*◌, ◌/◌, ◌%◌, Bool, true, false, cond, List, [], ◌∷◌, map, Option, Some, None,
-    refl, sym, ap, subst, ◌∙◌, arith}
+use Rattle.std.proofs.Common.{◌≡◌, ℕ, zero, suc, ◌+◌, ◌-◌, ◌*◌, ◌/◌, ◌%◌, Bool, true, false, cond, List, [], ◌∷◌, map, Option, Some, None}
+use Rattle.std.proofs.Common.{refl, sym, ap, subst, ◌∙◌, arith}
 use Rattle.std.proofs.lemmas.Option.{same_Some}
 use Rattle.std.specs.Prelude.{slice_get, option_map, unwrap_or, find, filter_map, ◌==◌}
 use Rattle.std.specs.Option.{option_and_then}
@@ -18,8 +18,8 @@ use Rattle.volume_rules.specs.declared.rule.Rule.TheVariants.{Numbers}
 use Rattle.volume_rules.specs.Rules.{IsAccepted}
 use Rattle.volume_rules.specs.Moving.{has_pvmove, leads_to_pvmove}
 use Rattle.volume_view.specs.InSegments.{Met, Spot, met, segment_from, leg_spot, spot_in, offset_in, primary_leg, primary_spot, is_mirror}
-use Rattle.volume_view.specs.Places.{MirrorAt, Places, down, way, deciding, mirror_of, others_of, others_at, primary, places, at_on,
-    places_on, mark}
+use Rattle.volume_view.specs.Places.{MirrorAt, Places, down, way, deciding, mirror_of, others_of, others_at, primary, places, at_on}
+use Rattle.volume_view.specs.Places.{places_on, mark}
 use Rattle.volume_view.proofs.MetSegments.{Meets, meets_is, make, ByLeg, by_leg}
 use Rattle.volume_view.proofs.GoingDown.{GoesDown, goes_down, way_is, step_down}
 use Rattle.volume_view.proofs.PrimariesStand.{Whole, whole_is, leg_stands}
@@ -44,7 +44,7 @@ met_later group lv x d m accepted same here =
     let at : x + d - m.segment.start * group.extent_size ≡ m.at + d = omega (arith, meets.at) in
     let whole : ℕ → ℕ → Met = λ v a. record { lv = v; number = m.number; segment = m.segment; at = a } in
     ap (λ (o : Option (List ℕ × Lv)). option_and_then
-        (λ (v : List ℕ × Lv). option_map (make group lv (x + d)) (segment_from group.extent_size (x + d) 0 v.1.segments)) o) meets.is_volume
+    (λ (v : List ℕ × Lv). option_map (make group lv (x + d)) (segment_from group.extent_size (x + d) 0 v.1.segments)) o) meets.is_volume
     ∙ ap (λ (o : Option (ℕ × Segment)). option_map (make group lv (x + d)) o) found
     ∙ ap (λ (v : ℕ). Some (whole v (x + d - m.segment.start * group.extent_size))) (sym meets.same_lv)
     ∙ ap (λ (a : ℕ). Some (whole m.lv a)) at
@@ -55,7 +55,7 @@ near_in : (group : Group) (lv x d : ℕ) (m : Met) → IsAccepted group → x / 
 near_in group lv x d m accepted same here =
     let meets : Meets group lv x m = meets_is group lv x m here in
     let e : m.segment.start * group.extent_size ≡ 8 * (m.segment.start * (group.extent_size / 8)) =
-        eight m.segment.start group.extent_size (accepted Numbers).extent_size.2 in
+    eight m.segment.start group.extent_size (accepted Numbers).extent_size.2 in
     omega (arith, meets.at)
 
 -- so their stripe and region are the same
@@ -69,7 +69,7 @@ unfolding leg_spot
 spot_later group d m s whole near is =
     let leg : SameLeg m.segment.count m.segment.kind m.at (m.at + d) = leg_later group d m whole near in
     let by : ByLeg group m (primary_leg m.segment.count m.segment.kind m.at) s =
-        by_leg group m (primary_leg m.segment.count m.segment.kind m.at) s is in
+    by_leg group m (primary_leg m.segment.count m.segment.kind m.at) s is in
     let offset : ℕ = offset_in m.segment.kind (m.at + d) in
     let at : by.it.first * group.extent_size + offset ≡ s.sector + d = omega (arith, by.at, leg.apart) in
     let spot : On → ℕ → Spot = λ o n. record { on = o; sector = n } in
@@ -88,11 +88,11 @@ near_spot : (group : Group) (d : ℕ) (m : Met) (s : Spot) → IsAccepted group 
 near_spot group d m s accepted whole near is =
     let leg : SameLeg m.segment.count m.segment.kind m.at (m.at + d) = leg_later group d m whole near in
     let by : ByLeg group m (primary_leg m.segment.count m.segment.kind m.at) s =
-        by_leg group m (primary_leg m.segment.count m.segment.kind m.at) s is in
+    by_leg group m (primary_leg m.segment.count m.segment.kind m.at) s is in
     let offset : offset_in m.segment.kind (m.at + d) ≡ offset_in m.segment.kind m.at + d = omega (arith, leg.apart) in
     let below =
-        near_below group.extent_size by.it.first (offset_in m.segment.kind m.at) d (accepted Numbers).extent_size.2
-            (leg.near ∙ ap (λ (n : ℕ). n / 8) offset) in
+    near_below group.extent_size by.it.first (offset_in m.segment.kind m.at) d (accepted Numbers).extent_size.2
+    (leg.near ∙ ap (λ (n : ℕ). n / 8) offset) in
     subst (λ (n : ℕ). n / 8 ≡ (n + d) / 8) by.at below
 
 pv_later : (pv x d : ℕ) (a : At) (o : Option (List ℕ × Pv))
@@ -115,7 +115,7 @@ down_later group (suc steps) (on.Lv lv) x d a accepted same here =
     let whole : Whole group g.m = whole_is group lv x g.m accepted (meets_is group lv x g.m g.meets) in
     let near : g.m.at / 8 ≡ (g.m.at + d) / 8 = near_in group lv x d g.m accepted same g.meets in
     step_down group lv (x + d) steps (met_on d g.m) (spot_on d g.spot) (at_on d a) (met_later group lv x d g.m accepted same g.meets)
-        (spot_later group d g.m g.spot whole near g.is_spot)
+    (spot_later group d g.m g.spot whole near g.is_spot)
     (down_later group steps g.spot.on g.spot.sector d a accepted (near_spot group d g.m g.spot accepted whole near g.is_spot) g.rest)
 
 -- and the segments on the way are the same
@@ -129,7 +129,7 @@ way_later group (suc steps) (on.Lv lv) x d a accepted same here =
     let whole : Whole group g.m = whole_is group lv x g.m accepted (meets_is group lv x g.m g.meets) in
     let near : g.m.at / 8 ≡ (g.m.at + d) / 8 = near_in group lv x d g.m accepted same g.meets in
     way_is group lv (x + d) steps (met_on d g.m) (spot_on d g.spot) (met_later group lv x d g.m accepted same g.meets)
-        (spot_later group d g.m g.spot whole near g.is_spot)
+    (spot_later group d g.m g.spot whole near g.is_spot)
     ∙ ap (λ (l : List Met). met_on d g.m ∷ l)
     (way_later group steps g.spot.on g.spot.sector d a accepted (near_spot group d g.m g.spot accepted whole near g.is_spot) g.rest)
     ∙ sym (ap (λ (l : List Met). map (met_on d) l) (way_is group lv x steps g.m g.spot g.meets g.is_spot))
@@ -181,7 +181,7 @@ deciding_later group lv x d a accepted same here =
     let test : Met → Bool = λ m. has_pvmove group m.lv in
     let other : Met → Bool = λ m. is_mirror m.segment.kind in
     ap (λ (ms : List Met). cond (leads_to_pvmove group 4 lv) (find test ms) (find other ms))
-        (way_later group 5 (on.Lv lv) x d a accepted same here)
+    (way_later group 5 (on.Lv lv) x d a accepted same here)
     ∙ find_either d (leads_to_pvmove group 4 lv) test other (λ m. refl) (λ m. refl) (way group (on.Lv lv) 5 x)
 
 -- in it the region is the same
@@ -195,7 +195,7 @@ mirror_later group d m accepted near =
 abbrev other_of : Group → Met → ℕ × Leg → Option At
 other_of group m leg =
     cond (leg.0 == primary_leg m.segment.count m.segment.kind m.at) None
-        (down group leg.1.on 5 (leg.1.first * group.extent_size + offset_in m.segment.kind m.at))
+    (down group leg.1.on 5 (leg.1.first * group.extent_size + offset_in m.segment.kind m.at))
 
 other_later : (group : Group) (d : ℕ) (m : Met) (n : ℕ) (leg : Leg) → IsAccepted group → Near group d m
     → slice_get (legs_of m.segment.kind) n ≡ Some leg
@@ -205,15 +205,15 @@ other_later group d m n leg accepted near is =
     let same : SameLeg m.segment.count m.segment.kind m.at (m.at + d) = leg_later group d m whole near.near in
     let offset : offset_in m.segment.kind (m.at + d) ≡ offset_in m.segment.kind m.at + d = omega (arith, same.apart) in
     let below =
-        near_below group.extent_size leg.first (offset_in m.segment.kind m.at) d (accepted Numbers).extent_size.2
-            (same.near ∙ ap (λ (k : ℕ). k / 8) offset) in
+    near_below group.extent_size leg.first (offset_in m.segment.kind m.at) d (accepted Numbers).extent_size.2
+    (same.near ∙ ap (λ (k : ℕ). k / 8) offset) in
     let place : ℕ → Option At = λ k. down group leg.on 5 k in
     let here : ℕ = leg.first * group.extent_size + offset_in m.segment.kind m.at in
     let stands = leg_stands group m.lv near.sector m n leg accepted near.meets is in
     let at : leg.first * group.extent_size + offset_in m.segment.kind (m.at + d) ≡ here + d = omega arith in
     let later : place (leg.first * group.extent_size + offset_in m.segment.kind (m.at + d)) ≡ option_map (at_on d) (place here) =
     ap place at ∙ down_later group 5 leg.on here d stands.0 accepted below stands.1
-        ∙ sym (ap (λ (o : Option At). option_map (at_on d) o) stands.1) in
+    ∙ sym (ap (λ (o : Option At). option_map (at_on d) o) stands.1) in
     ap (λ (k : ℕ). cond (n == k) None (place (leg.first * group.extent_size + offset_in m.segment.kind (m.at + d)))) (sym same.leg)
     ∙ ap (λ (o : Option At). cond (n == primary_leg m.segment.count m.segment.kind m.at) None o) later
     ∙ by_test (n == primary_leg m.segment.count m.segment.kind m.at) (place here)
@@ -229,12 +229,12 @@ each_later : (group : Group) (d : ℕ) (m : Met) (n : ℕ) (legs : List Leg) →
 each_later group d m n [] accepted near at = refl
 each_later group d m n (leg ∷ legs) accepted near at =
     let is : slice_get (legs_of m.segment.kind) n ≡ Some leg =
-        subst (λ (i : ℕ). slice_get (legs_of m.segment.kind) i ≡ Some leg) (omega arith) (at zero leg refl) in
+    subst (λ (i : ℕ). slice_get (legs_of m.segment.kind) i ≡ Some leg) (omega arith) (at zero leg refl) in
     let rest =
-        each_later group d m (n + 1) legs accepted near
-            (λ k l there. subst (λ (i : ℕ). slice_get (legs_of m.segment.kind) i ≡ Some l) (omega arith) (at (suc k) l there)) in
+    each_later group d m (n + 1) legs accepted near
+    (λ k l there. subst (λ (i : ℕ). slice_get (legs_of m.segment.kind) i ≡ Some l) (omega arith) (at (suc k) l there)) in
     ap (λ (o : Option At). cons_option o (filter_map (other_of group (met_on d m)) (enumerate_from (n + 1) legs)))
-        (other_later group d m n leg accepted near is)
+    (other_later group d m n leg accepted near is)
     ∙ ap (λ (l : List At). cons_option (option_map (at_on d) (other_of group m (n, leg))) l) rest
     ∙ by_option (other_of group m (n, leg)) (filter_map (other_of group m) (enumerate_from (n + 1) legs))
   where
@@ -246,7 +246,7 @@ others_later : (group : Group) (d : ℕ) (m : Met) → IsAccepted group → Near
     → others_of group (met_on d m) ≡ map (at_on d) (others_of group m)
 others_later group d m accepted near =
     each_later group d m 0 (legs_of m.segment.kind) accepted near
-        (λ k leg is. subst (λ (i : ℕ). slice_get (legs_of m.segment.kind) i ≡ Some leg) (omega arith) is)
+    (λ k leg is. subst (λ (i : ℕ). slice_get (legs_of m.segment.kind) i ≡ Some leg) (omega arith) is)
 
 -- both by the segment that decides, if any
 region_later : (group : Group) (d : ℕ) (o : Option Met) → IsAccepted group → ((m : Met) → o ≡ Some m → Near group d m)
@@ -259,7 +259,7 @@ all_later : (group : Group) (d : ℕ) (o : Option Met) → IsAccepted group → 
 all_later group d None accepted near = refl
 all_later group d (Some m) accepted near =
     ap (λ (r : Option MirrorAt). unwrap_or (option_map (λ (k : MirrorAt). others_of group (met_on d m)) r) [])
-        (mirror_later group d m accepted (near m refl))
+    (mirror_later group d m accepted (near m refl))
     ∙ ap (λ (l : List At). unwrap_or (option_map (λ (k : MirrorAt). l) (mirror_of m)) []) (others_later group d m accepted (near m refl))
     ∙ by_region (mirror_of m) (others_of group m)
   where
@@ -274,7 +274,7 @@ deciding_near : (group : Group) (lv x d : ℕ) (a : At) → IsAccepted group →
 unfolding deciding primary
 deciding_near group lv x d a accepted same here m is =
     find_if (Near group d) (leads_to_pvmove group 4 lv) (λ (n : Met). has_pvmove group n.lv) (λ (n : Met). is_mirror n.segment.kind)
-        (way group (on.Lv lv) 5 x) m
+    (way group (on.Lv lv) 5 x) m
     (way_near group 5 (on.Lv lv) x d a accepted same here) is
 
 -- all places of the sector
@@ -285,13 +285,13 @@ places_later group lv x d p accepted same is =
     let are : PlacesAre group lv x p = places_are group lv x p is in
     let near = deciding_near group lv x d p.primary accepted same are.is_primary in
     let decides : deciding group lv (x + d) ≡ option_map (met_on d) (deciding group lv x) =
-        deciding_later group lv x d p.primary accepted same are.is_primary in
+    deciding_later group lv x d p.primary accepted same are.is_primary in
     let region : option_and_then mirror_of (deciding group lv (x + d)) ≡ p.mirror =
-        ap (λ (o : Option Met). option_and_then mirror_of o) decides ∙ region_later group d (deciding group lv x) accepted near
-            ∙ sym are.mirror in
+    ap (λ (o : Option Met). option_and_then mirror_of o) decides ∙ region_later group d (deciding group lv x) accepted near
+    ∙ sym are.mirror in
     let others : others_at group (deciding group lv (x + d)) ≡ map (at_on d) p.others =
-        ap (λ (o : Option Met). others_at group o) decides ∙ all_later group d (deciding group lv x) accepted near
-            ∙ ap (λ (l : List At). map (at_on d) l) (sym are.others) in
+    ap (λ (o : Option Met). others_at group o) decides ∙ all_later group d (deciding group lv x) accepted near
+    ∙ ap (λ (l : List At). map (at_on d) l) (sym are.others) in
     let make : Option MirrorAt → List At → At → Places = λ r l a. record { primary = a; mirror = r; others = l } in
     ap (λ (r : Option MirrorAt). option_map (make r (others_at group (deciding group lv (x + d)))) (primary group lv (x + d))) region
     ∙ ap (λ (l : List At). option_map (make p.mirror l) (primary group lv (x + d))) others

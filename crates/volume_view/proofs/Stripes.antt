@@ -51,7 +51,7 @@ within_leg s n count extent l some whole stripes lt =
       | inl one ↦
           let e : stripe_offset s n l ≡ l = ap (λ (k : ℕ). stripe_offset s k l) one in
           let c : count / n ≡ count =
-              sym (Rattle.std.proofs.Math.Nat.mul-one (count / n)) ∙ ap (λ (k : ℕ). count / n * k) (sym one) ∙ count' in
+          sym (Rattle.std.proofs.Math.Nat.mul-one (count / n)) ∙ ap (λ (k : ℕ). count / n * k) (sym one) ∙ count' in
           subst (λ (x : ℕ). x < count / n * extent) (sym e) (subst (λ (x : ℕ). l < x * extent) (sym c) lt)
       | inr more ↦
           let h : (8 ≤ s) × (extent % s ≡ 0) = stripes (omega arith) in
@@ -59,8 +59,8 @@ within_leg s n count extent l some whole stripes lt =
           let h1 : extent % s ≡ 0 = h.1 in
           let extent' : extent / s * s ≡ extent = omega (arith, div-add-mod' extent s) in
           let lt' : l < count / n * n * (extent / s * s) =
-              subst (λ (x : ℕ). l < x * (extent / s * s)) (sym count') (subst (λ (x : ℕ). l < count * x) (sym extent') lt) in
+          subst (λ (x : ℕ). l < x * (extent / s * s)) (sym count') (subst (λ (x : ℕ). l < count * x) (sym extent') lt) in
           subst (λ (x : ℕ). x < count / n * extent) (sym (more_offset s n l more))
           (subst (λ (x : ℕ). l / s / n * s + l % s < count / n * x) extent'
-              (within s n (count / n) (extent / s) l (omega arith) (omega arith) lt'))
+          (within s n (count / n) (extent / s) l (omega arith) (omega arith) lt'))
     ]

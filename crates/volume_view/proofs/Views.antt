@@ -1,6 +1,6 @@
 -- The view reads the primary places of visible volumes alone, and each of them is read for one sector.
-use Rattle.std.proofs.Common.{◌≡◌, ℕ, zero, suc, ◌+◌, ◌*◌, ◌<◌, Bool, true, false, cond, IsTrue, List, [], ◌∷◌, map, subst, Option, Some,
-    None, refl, ap, ◌∙◌, arith}
+use Rattle.std.proofs.Common.{◌≡◌, ℕ, zero, suc, ◌+◌, ◌*◌, ◌<◌, Bool, true, false, cond, IsTrue, List, [], ◌∷◌, map, subst, Option, Some}
+use Rattle.std.proofs.Common.{None, refl, ap, ◌∙◌, arith}
 use Rattle.std.proofs.lemmas.Option.{slice_get_within}
 use Rattle.std.specs.Prelude.{length, slice_get, slice_index, option_map, unwrap_or}
 use Rattle.std.specs.List.{range_with_len}
@@ -61,14 +61,14 @@ views_same : (image other : Image) (group : Group) (disk_of : List ℕ) (number 
 views_same image other group disk_of number [] same = refl
 views_same image other group disk_of number (lv ∷ lvs) same =
     first_same lv.1.status.visible lv.0 (contents image group disk_of number lv.1) (contents other group disk_of number lv.1)
-        (views_from image group disk_of (number + 1) lvs) (views_from other group disk_of (number + 1) lvs)
+    (views_from image group disk_of (number + 1) lvs) (views_from other group disk_of (number + 1) lvs)
     (λ visible.
     map_same (content image group disk_of number) (content other group disk_of number) 0 (extents_of lv.1 * group.extent_size)
     (λ sector lt. subst (λ (n : ℕ). content image group disk_of n sector ≡ content other group disk_of n sector) (omega arith)
-        (same zero lv refl visible sector (omega arith))))
+    (same zero lv refl visible sector (omega arith))))
     (views_same image other group disk_of (number + 1) lvs
     (λ k row is visible sector lt. subst (λ (n : ℕ). content image group disk_of n sector ≡ content other group disk_of n sector)
-        (omega arith) (same (suc k) row is visible sector lt)))
+    (omega arith) (same (suc k) row is visible sector lt)))
 
 -- two images with the same contents at the primary places of the visible volumes have one view
 pub view_reads_primaries : (image other : Image) (group : Group) (disk_of : List ℕ)
@@ -105,5 +105,5 @@ others_stay image other group disk_of lv sector lv' sector' at accepted disks fr
     let pv : at'.pv ≡ at.pv = disks at'.pv at.pv (primary_pv group lv' sector' at' there) (primary_pv group lv sector at here) disk in
     let same : at' ≡ at = ap (λ (n : ℕ). place n at'.sector) pv ∙ ap (place at.pv) k in
     let one : sector_of lv sector ≡ sector_of lv' sector' =
-        primaries_apart group lv lv' sector sector' at accepted free free' here (there ∙ ap (λ (a : At). Some a) same) in
+    primaries_apart group lv lv' sector sector' at accepted free free' here (there ∙ ap (λ (a : At). Some a) same) in
     differ (same_number lv lv' (ap (λ (s : Spot). s.on) one)) (ap (λ (s : Spot). s.sector) one)))

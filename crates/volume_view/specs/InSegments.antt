@@ -1,7 +1,7 @@
 -- Where a sector of a logical volume stands in one of its segments and in the legs of that, as lvm2's targets linear,
 -- striped and mirror have it.
-use Rattle.std.specs.Prelude.{◌≡◌, ℕ, ◌+◌, ◌-◌, ◌*◌, ◌/◌, ◌%◌, Bool, true, false, ◌&&◌, ◌==◌, nat_le, nat_lt, if◌then◌else◌, Option, None,
-    Some, List, [], ◌∷◌, length, slice_get, option_map}
+use Rattle.std.specs.Prelude.{◌≡◌, ℕ, ◌+◌, ◌-◌, ◌*◌, ◌/◌, ◌%◌, Bool, true, false, ◌&&◌, ◌==◌, nat_le, nat_lt, if◌then◌else◌, Option, None}
+use Rattle.std.specs.Prelude.{Some, List, [], ◌∷◌, length, slice_get, option_map}
 use Rattle.std.specs.Option.{option_and_then}
 use Rattle.meta_model.specs.declared.group.Group.{Group}
 use Rattle.meta_model.specs.declared.lv.Lv.{Lv}

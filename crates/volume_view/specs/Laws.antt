@@ -18,7 +18,7 @@ IsTop group lv sector = IsUsed group (on.Lv lv) (sector / group.extent_size) →
 abbrev pub VisibleIsTop : Type 0
 VisibleIsTop =
     (group : Group) (lv sector : ℕ) (volume : List ℕ × Lv) → IsAccepted group → slice_get group.lvs lv ≡ Some volume
-        → IsTrue volume.1.status.visible → IsTop group lv sector
+    → IsTrue volume.1.status.visible → IsTop group lv sector
 
 -- two sectors that lie in no leg never have one primary place
 abbrev pub PrimariesLieApart : Type 0
@@ -30,14 +30,14 @@ PrimariesLieApart =
 abbrev pub PrimaryIsNoOther : Type 0
 PrimaryIsNoOther =
     (group : Group) (lv other sector other_sector : ℕ) (at : At) (p : Places) → IsAccepted group → IsTop group lv sector
-        → IsTop group other other_sector
+    → IsTop group other other_sector
     → primary group lv sector ≡ Some at → places group other other_sector ≡ Some p → Contains p.others at → ⊥
 
 -- each sector of a volume has a primary place
 abbrev pub PrimariesStand : Type 0
 PrimariesStand =
     (group : Group) (lv sector : ℕ) (volume : List ℕ × Lv) → IsAccepted group → slice_get group.lvs lv ≡ Some volume
-        → sector < extents_of volume.1 * group.extent_size
+    → sector < extents_of volume.1 * group.extent_size
     → (at : At) × (primary group lv sector ≡ Some at)
 
 -- between two multiples of 8 all places of a sector that is further on are as much further on, and the segments and regions
@@ -45,7 +45,7 @@ PrimariesStand =
 abbrev pub PiecesLieInOneRegion : Type 0
 PiecesLieInOneRegion =
     (group : Group) (lv sector count : ℕ) (p : Places) → IsAccepted group → sector / 8 ≡ (sector + count) / 8
-        → places group lv sector ≡ Some p
+    → places group lv sector ≡ Some p
     → (places group lv (sector + count) ≡ Some (places_on count p))
     × (map mark (way group (on.Lv lv) 5 (sector + count)) ≡ map mark (way group (on.Lv lv) 5 sector))
 
@@ -63,7 +63,7 @@ ViewsReadPrimaries =
 abbrev pub PutsChangeOneSector : Type 0
 PutsChangeOneSector =
     (image new : Image) (group : Group) (disk_of : List ℕ) (lv other sector other_sector : ℕ) (at : At) → IsAccepted group
-        → DisksDiffer group disk_of → IsTop group lv sector → IsTop group other other_sector
+    → DisksDiffer group disk_of → IsTop group lv sector → IsTop group other other_sector
     → primary group lv sector ≡ Some at → (lv ≡ other → sector ≡ other_sector → ⊥)
     → ((disk k : ℕ) → (disk ≡ slice_index disk_of at.pv → k ≡ at.sector → ⊥) → image disk k ≡ new disk k)
     → content image group disk_of other other_sector ≡ content new group disk_of other other_sector

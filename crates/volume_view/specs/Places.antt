@@ -1,6 +1,6 @@
 -- The places of a sector of a logical volume on physical volumes: down through the legs of segments.
-use Rattle.std.specs.Prelude.{ℕ, zero, suc, ◌+◌, ◌*◌, ◌==◌, if◌then◌else◌, Option, None, List, [], ◌∷◌, find, filter_map, map, slice_get,
-    option_map, unwrap_or}
+use Rattle.std.specs.Prelude.{ℕ, zero, suc, ◌+◌, ◌*◌, ◌==◌, if◌then◌else◌, Option, None, List, [], ◌∷◌, find, filter_map, map, slice_get}
+use Rattle.std.specs.Prelude.{option_map, unwrap_or}
 use Rattle.std.specs.Option.{option_and_then}
 use Rattle.std.specs.List.{enumerate_from}
 use Rattle.sector_base.specs.declared.places.At.{At}
@@ -32,7 +32,7 @@ down group (on.Pv pv) steps sector =
 down group (on.Lv lv) zero sector = None
 down group (on.Lv lv) (suc steps) sector =
     option_and_then (λ (m : Met). option_and_then (λ (s : Spot). down group s.on steps s.sector) (primary_spot group.extent_size m))
-        (met group lv sector)
+    (met group lv sector)
 
 -- the segments that this way meets, the uppermost first
 abbrev pub way : Group → On → ℕ → ℕ → List Met
@@ -41,7 +41,7 @@ way group (on.Lv lv) zero sector = []
 way group (on.Lv lv) (suc steps) sector =
     unwrap_or
     (option_map (λ (m : Met). m ∷ unwrap_or (option_map (λ (s : Spot). way group s.on steps s.sector) (primary_spot group.extent_size m))
-        []) (met group lv sector))
+    []) (met group lv sector))
     []
 
 -- what a segment on the way says of a sector: its volume, its number and the region
@@ -82,8 +82,11 @@ unfoldable pub places : Group → ℕ → ℕ → Option Places
 places group lv sector =
     option_map
     (λ (at : At).
-    record { primary = at; mirror = option_and_then mirror_of (deciding group lv sector);
-        others = others_at group (deciding group lv sector) })
+    record {
+      primary = at;
+      mirror = option_and_then mirror_of (deciding group lv sector);
+      others = others_at group (deciding group lv sector);
+    })
     (primary group lv sector)
 
 -- so many sectors on, on the same physical volume

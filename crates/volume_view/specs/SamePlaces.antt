@@ -14,7 +14,7 @@ abbrev pub places_by_id : Group → ℕ → ℕ → Option (Option (List ℕ × 
 places_by_id group lv sector =
     option_map
     (λ (p : Places). let both : Option (List ℕ × ℕ)
-        × List (Option (List ℕ × ℕ)) = (by_id group p.primary, map (by_id group) p.others) in both)
+    × List (Option (List ℕ × ℕ)) = (by_id group p.primary, map (by_id group) p.others) in both)
     (places group lv sector)
 
 -- each sector of the one group's volume has the same primary place and others as that of the other group's volume

@@ -40,5 +40,5 @@ vgcfgbackup vg = record {
   cleared = λ context found given image. ⊥;
   reports =
       λ context found image text. (group : Group) × (group_in found ≡ Some group) × HasTree group
-          × (text ≡ printed (backup_of group context.now));
+      × (text ≡ printed (backup_of group context.now));
 }

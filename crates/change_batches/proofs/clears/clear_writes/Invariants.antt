@@ -7,4 +7,4 @@ use Rattle.change_batches.proofs.clears.clear_writes.Given as goal
 abbrev pub invariant-loop-area : goal.invariant-loop-area
 invariant-loop-area l =
     l.list.items ++ map clear_put (filter (lies_on l.cleared) (drop l.area-index l.areas))
-        ≡ map clear_put (filter (lies_on l.cleared) l.areas)
+    ≡ map clear_put (filter (lies_on l.cleared) l.areas)

@@ -17,17 +17,17 @@ push_clears-requires c =
 pub returns-clause-writes : goal.returns-clause-writes
 returns-clause-writes c =
     (from_none c.args.change.now.cleared c.args.state.now.disks c.as_slice.result.now c.args.state.now.areas c.as_slice-2.result.now
-        c.new-batches.result.items c.push_clears.new.batches.items c.as_slice.ensures c.as_slice-2.ensures
+    c.new-batches.result.items c.push_clears.new.batches.items c.as_slice.ensures c.as_slice-2.ensures
     c.new-batches.ensures.items c.in_ok-push_clears.ensures).writes
 
 pub returns-clause-can_run : goal.returns-clause-can_run
 returns-clause-can_run c =
     (from_none c.args.change.now.cleared c.args.state.now.disks c.as_slice.result.now c.args.state.now.areas c.as_slice-2.result.now
-        c.new-batches.result.items c.push_clears.new.batches.items c.as_slice.ensures c.as_slice-2.ensures
+    c.new-batches.result.items c.push_clears.new.batches.items c.as_slice.ensures c.as_slice-2.ensures
     c.new-batches.ensures.items c.in_ok-push_clears.ensures).run (All-nil (CanRun (sizes_of c.args.state.now.disks)))
 
 pub returns-clause-fields : goal.returns-clause-fields
 returns-clause-fields c =
     (from_none c.args.change.now.cleared c.args.state.now.disks c.as_slice.result.now c.args.state.now.areas c.as_slice-2.result.now
-        c.new-batches.result.items c.push_clears.new.batches.items c.as_slice.ensures c.as_slice-2.ensures
+    c.new-batches.result.items c.push_clears.new.batches.items c.as_slice.ensures c.as_slice-2.ensures
     c.new-batches.ensures.items c.in_ok-push_clears.ensures).fields

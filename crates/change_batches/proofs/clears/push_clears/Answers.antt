@@ -17,27 +17,27 @@ use Rattle.change_batches.proofs.clears.push_clears.Goals as goal
 pub label_writes-requires : goal.label_writes-requires
 label_writes-requires c =
     subst (All CanLabel) (sym (c.deref.ensures.value ∙ c.in_ok-labels.ensures))
-        (labels_can c.args.disks.now c.args.areas.now c.requires c.args.cleared)
+    (labels_can c.args.disks.now c.args.areas.now c.requires c.args.cleared)
 
 pub push_batch-requires : goal.push_batch-requires
 push_batch-requires c =
     subst (All IsOnFew) (sym (c.in_ok-flags.ensures.writes
-        ∙ ap (λ (l : List NewLabel). map label_put l) (c.deref.ensures.value ∙ c.in_ok-labels.ensures)))
+    ∙ ap (λ (l : List NewLabel). map label_put l) (c.deref.ensures.value ∙ c.in_ok-labels.ensures)))
     (labels_few (unused_labels c.args.cleared c.args.disks.now) (labels_can c.args.disks.now c.args.areas.now c.requires c.args.cleared))
 
 pub push_batch-requires-2 : goal.push_batch-requires-2
 push_batch-requires-2 c =
     subst (All IsOnFew) (sym c.in_ok-headers.ensures)
-        (clear_few (cleared_areas c.args.cleared c.args.areas.now)
-        (cleared_held c.args.disks.now c.args.areas.now c.requires c.args.cleared))
+    (clear_few (cleared_areas c.args.cleared c.args.areas.now)
+    (cleared_held c.args.disks.now c.args.areas.now c.requires c.args.cleared))
 
 pub returns : goal.returns
 returns c =
     let labels : c.deref.result.now ≡ unused_labels c.args.cleared c.args.disks.now = c.deref.ensures.value ∙ c.in_ok-labels.ensures in
     clears_added c.args.disks.now c.args.areas.now c.requires c.args.cleared c.args.batches.now.items c.push_batch.new.batches.items
-        c.push_batch-2.new.batches.items
+    c.push_batch-2.new.batches.items
     (subst (λ (l : List Put). IsAdded l c.args.batches.now.items c.push_batch.new.batches.items)
-        (c.in_ok-flags.ensures.writes ∙ ap (λ (l : List NewLabel). map label_put l) labels) c.in_ok-push_batch.ensures)
+    (c.in_ok-flags.ensures.writes ∙ ap (λ (l : List NewLabel). map label_put l) labels) c.in_ok-push_batch.ensures)
     (subst (λ (l : List Put). IsAdded l c.push_batch.new.batches.items c.push_batch-2.new.batches.items) c.in_ok-headers.ensures
-        c.in_ok-push_batch-2.ensures)
+    c.in_ok-push_batch-2.ensures)
     (subst (All FitsFields) labels c.in_ok-flags.ensures.fits)

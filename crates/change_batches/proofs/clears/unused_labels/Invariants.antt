@@ -6,4 +6,4 @@ use Rattle.change_batches.proofs.clears.unused_labels.Given as goal
 abbrev pub invariant-loop-number : goal.invariant-loop-number
 invariant-loop-number l =
     l.labels.items ++ filter_map (unused_label l.cleared) (enumerate_from l.number (drop l.number l.disks))
-        ≡ unused_labels l.cleared l.disks
+    ≡ unused_labels l.cleared l.disks

@@ -8,11 +8,11 @@ use Rattle.claim_table.proofs.numbers.first_from.Goals as goal
 pub returns-clause-parts : goal.returns-clause-parts
 returns-clause-parts c =
     c.partition_point.ensures.partitioned (λ (d : Claim). nat_lt d.number c.args.number)
-        (always_returns_same _ _ _ (λ a r f k. search rules))
-        (IsPartitionedBy-ltb (λ (d : Claim). d.number) c.args.claims.now c.args.number c.requires)
+    (always_returns_same _ _ _ (λ a r f k. search rules))
+    (IsPartitionedBy-ltb (λ (d : Claim). d.number) c.args.claims.now c.args.number c.requires)
 
 pub returns-clause-place : goal.returns-clause-place
 returns-clause-place c = parted_at c.args.claims.now c.args.number c.partition_point.result c.partition_point.ensures.bound
     (c.partition_point.ensures.partitioned (λ (d : Claim). nat_lt d.number c.args.number)
-        (always_returns_same _ _ _ (λ a r f k. search rules))
-        (IsPartitionedBy-ltb (λ (d : Claim). d.number) c.args.claims.now c.args.number c.requires))
+    (always_returns_same _ _ _ (λ a r f k. search rules))
+    (IsPartitionedBy-ltb (λ (d : Claim). d.number) c.args.claims.now c.args.number c.requires))

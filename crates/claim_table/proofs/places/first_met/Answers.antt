@@ -5,9 +5,9 @@ use Rattle.claim_table.proofs.places.first_met.Goals as goal
 pub returns-else-not-is_past-clause-none : goal.returns-else-not-is_past-clause-none
 returns-else-not-is_past-clause-none c = none_met c.args.piece.now c.args.limit c.args.places.now c.loop-at.at c.loop-at.invariant
     (past_from c.args.piece.now c.args.limit c.args.places.now c.loop-at.at _ c.requires.ascending c.loop-at-test.true
-        (sym c.is_past.ensures ∙ c.if-not-is_past.false))
+    (sym c.is_past.ensures ∙ c.if-not-is_past.false))
 
 pub returns-after-loop-at-clause-none : goal.returns-after-loop-at-clause-none
 returns-after-loop-at-clause-none c =
     none_met c.args.piece.now c.args.limit c.args.places.now c.loop-at.at c.loop-at.invariant
-        (λ k d from within. absurd (omega (arith, c.loop-at-test.false)))
+    (λ k d from within. absurd (omega (arith, c.loop-at-test.false)))

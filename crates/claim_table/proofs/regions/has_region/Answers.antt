@@ -5,8 +5,7 @@ use Rattle.claim_table.proofs.regions.has_region.Goals as goal
 pub loop-low-preserved-in-Less : goal.loop-low-preserved-in-Less
 loop-low-preserved-in-Less g c =
     let more : c.compare.new.steps - c.args.steps.now ≡ (c.loop-low.steps - c.args.steps.now) + 1 =
-        omega (arith, c.compare.ensures.step, c.loop-low.invariant.1) in
-    (
+    omega (arith, c.compare.ensures.step, c.loop-low.invariant.1) in (
       halving_up c.args.regions.now c.args.region c.loop-low.low c.loop-low.high (c.loop-low.steps - c.args.steps.now)
           (c.compare.new.steps - c.args.steps.now) _ _ c.requires c.loop-low.invariant.0 c.loop-low-test.true refl more
           (sym c.in-Less.ensures.answer),
@@ -16,15 +15,14 @@ loop-low-preserved-in-Less g c =
 pub returns-in-Equal-clause-bound : goal.returns-in-Equal-clause-bound
 returns-in-Equal-clause-bound g c =
     let more : c.compare.new.steps - c.args.steps.now ≡ (c.loop-low.steps - c.args.steps.now) + 1 =
-        omega (arith, c.compare.ensures.step, c.loop-low.invariant.1) in
+    omega (arith, c.compare.ensures.step, c.loop-low.invariant.1) in
     halving_found_bound c.args.regions.now c.args.region c.loop-low.low c.loop-low.high (c.loop-low.steps - c.args.steps.now)
-        (c.compare.new.steps - c.args.steps.now) c.loop-low.invariant.0 c.loop-low-test.true more
+    (c.compare.new.steps - c.args.steps.now) c.loop-low.invariant.0 c.loop-low-test.true more
 
 pub loop-low-preserved : goal.loop-low-preserved
 loop-low-preserved g c =
     let more : c.compare.new.steps - c.args.steps.now ≡ (c.loop-low.steps - c.args.steps.now) + 1 =
-        omega (arith, c.compare.ensures.step, c.loop-low.invariant.1) in
-    (
+    omega (arith, c.compare.ensures.step, c.loop-low.invariant.1) in (
       halving_down c.args.regions.now c.args.region c.loop-low.low c.loop-low.high (c.loop-low.steps - c.args.steps.now)
           (c.compare.new.steps - c.args.steps.now) _ _ c.requires c.loop-low.invariant.0 c.loop-low-test.true refl more
           (sym c.in-Greater.ensures.answer),
@@ -34,4 +32,4 @@ loop-low-preserved g c =
 pub returns-clause-answer : goal.returns-clause-answer
 returns-clause-answer g c =
     sym (halving_over c.args.regions.now c.args.region c.loop-low.low c.loop-low.high (c.loop-low.steps - c.args.steps.now)
-        c.loop-low.invariant.0 c.loop-low-test.false)
+    c.loop-low.invariant.0 c.loop-low-test.false)

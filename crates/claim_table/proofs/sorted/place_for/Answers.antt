@@ -8,4 +8,4 @@ returns-in-Ok g c =
 pub returns-in-Err : goal.returns-in-Err
 returns-in-Err g c =
     stands_between g.met.T.Ord.total c.args.kept.now c.args.value.now c.in-Err.at c.in-Err.ensures.bound
-        (c.in-Err.ensures.position (searchable g.met.T.Ord.total c.args.kept.now c.args.value.now c.requires))
+    (c.in-Err.ensures.position (searchable g.met.T.Ord.total c.args.kept.now c.args.value.now c.requires))

@@ -32,9 +32,8 @@ loop-at-preserved c =
     let b = get_or text l.at 0 in
     let place : l.at ≡ length (take l.at text) = omega (arith, length-take l.at text, c.loop-at-test.true) in
     let good =
-        subst (Good (take l.at text) b) c.in_default.ensures
-            (step_good (take l.at text) b l.at (reader_view l.reader) place l.invariant.0) in
-    (
+    subst (Good (take l.at text) b) c.in_default.ensures
+    (step_good (take l.at text) b l.at (reader_view l.reader) place l.invariant.0) in (
       subst (λ x. Stands Any x next) (sym (take_more text l.at 0 c.loop-at-test.true)) good,
       sym (ap (λ x. x >>= λ s. outcome (l.at + 1) s (drop (l.at + 1) text)) c.in_default.ensures)
           ∙ sym (outcome-drop text l.at (reader_view l.reader) c.loop-at-test.true) ∙ l.invariant.1,
@@ -51,5 +50,5 @@ returns c =
     let text = c.args.text.now in
     let same : l.at ≡ length text = omega (arith, c.loop-at-test.false, l.auto.at-end) in
     subst (Gives (λ es. map entry_view es.items) c.end.result)
-        (ap (λ n. ended n (reader_view l.reader)) (sym same) ∙ sym (outcome-end text l.at (reader_view l.reader) c.loop-at-test.false)
-        ∙ l.invariant.1) c.end.ensures
+    (ap (λ n. ended n (reader_view l.reader)) (sym same) ∙ sym (outcome-end text l.at (reader_view l.reader) c.loop-at-test.false)
+    ∙ l.invariant.1) c.end.ensures

@@ -9,17 +9,17 @@ returns-then-comment-clause-found c =
     let text = c.args.text.now in
     let byte = ap (gap_byte c.loop-at.comment) (sym c.kind_of.ensures) ∙ sym c.in-None.ensures in
     c.loop-at.invariant ∙ scan_here text (Between c.loop-at.comment) c.loop-at.at c.loop-at-test.true
-        ∙ comment_stuck c.loop-at.at _ _ c.loop-at.comment c.if-comment.true byte
+    ∙ comment_stuck c.loop-at.at _ _ c.loop-at.comment c.if-comment.true byte
 
 pub loop-at-preserved : goal.loop-at-preserved
 loop-at-preserved c =
     let text = c.args.text.now in
     let byte = ap (gap_byte c.loop-at.comment) (sym c.kind_of.ensures) ∙ sym c.in-Some.ensures in
     c.loop-at.invariant ∙ scan_here text (Between c.loop-at.comment) c.loop-at.at c.loop-at-test.true
-        ∙ gap_goes c.loop-at.at _ _ c.loop-at.comment c.in-Some.next byte
+    ∙ gap_goes c.loop-at.at _ _ c.loop-at.comment c.in-Some.next byte
 
 pub returns-clause-found : goal.returns-clause-found
 returns-clause-found c =
     let text = c.args.text.now in
     c.loop-at.invariant ∙ scan_end text (Between c.loop-at.comment) c.loop-at.at c.loop-at-test.false
-        ∙ sym (scan_end text (Between false) (length text) (omega arith))
+    ∙ sym (scan_end text (Between false) (length text) (omega arith))

@@ -17,7 +17,7 @@ pub loop-at-preserved : goal.loop-at-preserved
 loop-at-preserved c =
     let name = ap is_name (sym c.kind_of.ensures) ∙ sym c.is_name_kind.ensures ∙ c.if-not-is_name_kind.false in
     c.loop-at.invariant ∙ scan_here c.args.text.now (InWord c.args.from) c.loop-at.at c.loop-at-test.true
-        ∙ word_goes c.loop-at.at _ _ c.args.from name
+    ∙ word_goes c.loop-at.at _ _ c.args.from name
 
 pub returns-clause-found : goal.returns-clause-found
 returns-clause-found c =

@@ -12,6 +12,7 @@ returns-in-None-clause-place c =
 pub loop-at-preserved : goal.loop-at-preserved
 loop-at-preserved c =
     let xs = c.args.entries.now in
-    let here = seen_at entry_view xs c.loop-at.at c.index-entries-at.result c.loop-at-test.true c.index-entries-at.is in
-    (omega (arith, c.in-Some.ensures.bound),
-        body_goes_on c.loop-at.deep c.in-Some.next c.loop-at.at (map entry_view xs) here (c.in-Some.ensures.step _) c.loop-at.invariant.1)
+    let here = seen_at entry_view xs c.loop-at.at c.index-entries-at.result c.loop-at-test.true c.index-entries-at.is in (
+      omega (arith, c.in-Some.ensures.bound),
+      body_goes_on c.loop-at.deep c.in-Some.next c.loop-at.at (map entry_view xs) here (c.in-Some.ensures.step _) c.loop-at.invariant.1,
+    )

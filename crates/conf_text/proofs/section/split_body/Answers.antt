@@ -10,11 +10,11 @@ returns-clause-body c =
     let es = map entry_view c.args.entries.now in
     let len = c.body_len-len.ensures.place in
     c.new.ensures ∙ ap (map entry_view) c.split_at.ensures.front ∙ sym (take-map entry_view c.body_len-len.result c.args.entries.now)
-        ∙ ap (λ n. take n es) len ∙ sym (body_taken 0 es)
+    ∙ ap (λ n. take n es) len ∙ sym (body_taken 0 es)
 
 pub returns-clause-after : goal.returns-clause-after
 returns-clause-after c =
     let es = map entry_view c.args.entries.now in
     let len = c.body_len-len.ensures.place in
     ap items (c.new-2.ensures ∙ ap (map entry_view) c.split_at.ensures.back
-        ∙ sym (drop-map entry_view c.body_len-len.result c.args.entries.now) ∙ ap (λ n. drop n es) len) ∙ sym (items_after 0 es)
+    ∙ sym (drop-map entry_view c.body_len-len.result c.args.entries.now) ∙ ap (λ n. drop n es) len) ∙ sym (items_after 0 es)

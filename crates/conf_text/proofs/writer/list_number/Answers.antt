@@ -7,4 +7,4 @@ use Rattle.conf_text.proofs.writer.list_number.Goals as goal
 pub returns-clause-added : goal.returns-clause-added
 returns-clause-added g c =
     ends_with g.S.TextSink.laws _ _ c.write_digits.result _ c.in_ok-separate.ensures.added c.write_digits.ensures.added
-        (added_split c.args.before (Number c.args.number ∷ []))
+    (added_split c.args.before (Number c.args.number ∷ []))

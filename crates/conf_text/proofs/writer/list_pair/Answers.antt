@@ -12,9 +12,9 @@ returns-clause-added g c =
     let before = list_added c.args.before [] in
     let quoted = printed_scalar (Text c.args.text.now) in
     let regrouped : ((before ++ quoted) ++ 44 ∷ 32 ∷ []) ++ decimal c.args.number ≡ before ++ (quoted ++ 44 ∷ 32 ∷ decimal c.args.number) =
-        simp append_assoc refl in
+    simp append_assoc refl in
     ends_with g.S.TextSink.laws _ _ c.write_digits.result _
     (g.S.TextSink.laws.both (g.S.TextSink.laws.both c.in_ok-separate.ensures.added c.in_ok-write_quoted.ensures.added)
-        c.in_ok-push.ensures.added)
+    c.in_ok-push.ensures.added)
     c.write_digits.ensures.added
     (regrouped ∙ added_split c.args.before (Text c.args.text.now ∷ Number c.args.number ∷ []))

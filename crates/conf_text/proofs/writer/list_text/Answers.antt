@@ -7,4 +7,4 @@ use Rattle.conf_text.proofs.writer.list_text.Goals as goal
 pub returns-clause-added : goal.returns-clause-added
 returns-clause-added g c =
     ends_with g.S.TextSink.laws _ _ c.write_quoted.result _ c.in_ok-separate.ensures.added c.write_quoted.ensures.added
-        (added_split c.args.before (Text c.args.text.now ∷ []))
+    (added_split c.args.before (Text c.args.text.now ∷ []))

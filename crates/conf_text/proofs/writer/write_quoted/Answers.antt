@@ -14,4 +14,4 @@ pub returns-clause-added : goal.returns-clause-added
 returns-clause-added g c =
     let whole = take_all c.loop-byte.byte-index c.args.text.now c.loop-byte-test.false in
     ends_with g.S.TextSink.laws _ _ c.push-2.result _ c.loop-byte.invariant c.push-2.ensures.added
-        (ap (λ text. 34 ∷ escaped text ++ 34 ∷ []) whole)
+    (ap (λ text. 34 ∷ escaped text ++ 34 ∷ []) whole)

@@ -10,7 +10,7 @@ pub loop-at-preserved : goal.loop-at-preserved
 loop-at-preserved g c =
     adds_as g.S.TextSink.laws (g.S.TextSink.laws.both c.loop-at.invariant c.in_ok-list_text.ensures.added)
     (elements_more (λ word. Text word.now) c.args.key.now c.args.words.now c.loop-at.at _ (record { ref_ptr = (0, 0); now = [] })
-        c.loop-at-test.true refl)
+    c.loop-at-test.true refl)
 
 pub returns-clause-added : goal.returns-clause-added
 returns-clause-added g c =

@@ -23,11 +23,11 @@ loop-done-init g c =
       works = alone_works old new disks c.start.result puts c.requires.writes c.start.ensures;
       within =
           alone_within old new disks c.start.result c.requires.idle puts c.requires.writes c.requires.disks c.args.batch.some_disk
-              c.requires.ops c.start.ensures;
+          c.requires.ops c.start.ensures;
       faults = faults_start old new puts disks (view_of c.start.result) c.start.ensures;
       carries =
           starts_carries puts disks old new c.start.result (g.met.S.Shelf.lawful c.args.shelf.now) c.requires.idle c.requires.writes
-              c.start.ensures;
+          c.start.ensures;
     }
 
 pub loop-done-preserved : goal.loop-done-preserved
@@ -49,13 +49,13 @@ loop-done-preserved g c =
       faults = turns_faults first before mid new step next done completes turns kept.faults;
       carries =
           turns_carries (writes_of c.args.batch) (disks_of c.args.batch) first before mid new step next done
-              (g.met.S.Shelf.lawful c.settle.new.self) kept.on completes turns kept.carries;
+          (g.met.S.Shelf.lawful c.settle.new.self) kept.on completes turns kept.carries;
     }
 
 pub loop-done-smaller : goal.loop-done-smaller
 loop-done-smaller g c =
     turns_fewer (g.S.Shelf.state c.loop-done.shelf) (g.S.Shelf.state c.settle.new.self) (g.S.Shelf.state c.turn-step.new.shelf)
-        c.loop-done.step c.turn-step.result c.in-Some.done c.in-Some.ensures.cases c.turn-step.ensures.turns
+    c.loop-done.step c.turn-step.result c.in-Some.done c.in-Some.ensures.cases c.turn-step.ensures.turns
 
 pub returns-in-Well-clause-told : goal.returns-in-Well-clause-told
 returns-in-Well-clause-told g c =
@@ -80,5 +80,5 @@ returns-in-Lost-clause-told g c =
     let same : (g.S.Shelf.state c.settle.new.self).told ≡ last.told = ap (λ (s : State). s.told) c.in_default.ensures.cases.same in
     subst (λ (t : Option Record). BetweenRecords (λ before after. WritesAll before puts disks false after) first.told t) (sym same)
     (ends_lost puts disks first last c.in-Lost.pv (g.met.S.Shelf.lawful c.args.shelf.now) (g.met.S.Shelf.lawful c.loop-done.shelf)
-        c.requires.idle
+    c.requires.idle
     (subst (λ (s : BatchStep). CarriesTold puts disks s first.told last.told) c.in-Lost.is kept.carries))

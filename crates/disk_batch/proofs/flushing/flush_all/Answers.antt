@@ -17,12 +17,12 @@ loop-pv-preserved g c =
     record {
       told =
           subst (λ (well : Bool). BetweenRecords (FlushesAll (c.loop-pv.pv + 1) well) s0.told s2.told) f.2
-              (one_more_flushed s0.told s1 c.loop-pv.pv f.0 s2 c.loop-pv.invariant.told f.1);
+          (one_more_flushed s0.told s1 c.loop-pv.pv f.0 s2 c.loop-pv.invariant.told f.1);
       again = again_both s0 s1 s2 c.loop-pv.invariant.again (again_spent s1 s2 1 0 e.spends);
       faults = same_faults_both s0 s1 s2 c.loop-pv.invariant.faults e.fault;
       ops =
           let same : length s2.sizes ≡ length s1.sizes = ap (λ (l : List ℕ). length l) e.spends.sizes in omega
-              (arith, same, e.spends.spare_ops, c.loop-pv.invariant.ops);
+          (arith, same, e.spends.spare_ops, c.loop-pv.invariant.ops);
     }
 
 pub returns-in_err-flush-clause-told : goal.returns-in_err-flush-clause-told
@@ -35,4 +35,4 @@ returns-in_err-flush-clause-told g c =
     rw p.1
     (flushes_stopped (length s0.sizes) (c.loop-pv.pv + 1) s0.told s2.told
     (subst (λ (well : Bool). BetweenRecords (FlushesAll (c.loop-pv.pv + 1) well) s0.told s2.told) f.2
-        (one_more_flushed s0.told s1 c.loop-pv.pv f.0 s2 c.loop-pv.invariant.told f.1)))
+    (one_more_flushed s0.told s1 c.loop-pv.pv f.0 s2 c.loop-pv.invariant.told f.1)))

@@ -16,9 +16,12 @@ loop-rest-init g c =
     let all = c.args.batches.items in
     let rest = c.reverse.new.self.items in
     record {
-      done =
-          ([], ap reverse c.reverse.ensures.items ∙ reverse-reverse all, turns_told_none s.told s.told _ refl,
-              spends_none s c.requires.idle);
+      done = (
+        [],
+        ap reverse c.reverse.ensures.items ∙ reverse-reverse all,
+        turns_told_none s.told s.told _ refl,
+        spends_none s c.requires.idle,
+      );
       faults = λ pv. refl;
       can_run = All-permutation (CanRun s.sizes) all rest c.reverse.ensures.permutation c.requires.can_run;
       ops = omega (arith, sum_by-IsPermutation ops_of all rest c.reverse.ensures.permutation, c.requires.ops);
@@ -30,7 +33,7 @@ returns-in-Err-clause-told g c =
     let done = c.loop-rest.invariant.done in
     let last = c.in-Err.ensures.last in
     turn_failed _ _ _ done.0 c.write_last.new.list.items c.loop-rest.rest.items c.args.batches.items last.batch done.1 last.last done.2
-        last.told
+    last.told
 
 pub loop-rest-preserved : goal.loop-rest-preserved
 loop-rest-preserved g c =
@@ -42,9 +45,9 @@ loop-rest-preserved g c =
     let rest = c.write_last.new.list.items in
     let list = c.loop-rest.rest.items in
     let ops : sum_by ops_of list ≡ sum_by ops_of rest + ops_of last.batch =
-        ap (λ (l : List Batch). sum_by ops_of l) last.last ∙ sum_more ops_of rest last.batch in
+    ap (λ (l : List Batch). sum_by ops_of l) last.last ∙ sum_more ops_of rest last.batch in
     let sectors : sum_by sectors_of list ≡ sum_by sectors_of rest + sectors_of last.batch =
-        ap (λ (l : List Batch). sum_by sectors_of l) last.last ∙ sum_more sectors_of rest last.batch in
+    ap (λ (l : List Batch). sum_by sectors_of l) last.last ∙ sum_more sectors_of rest last.batch in
     record {
       done = (
         done.0 ++ last.batch ∷ [],
@@ -52,14 +55,14 @@ loop-rest-preserved g c =
         turn_after s0.told s1.told s2.told done.0 last.batch _ done.2 last.told,
         subst (λ (n : ℕ). SpendsAtMost s0 n (sum_by sectors_of (done.0 ++ last.batch ∷ [])) s2) (sym (sum_more ops_of done.0 last.batch))
             (subst (λ (n : ℕ). SpendsAtMost s0 (sum_by ops_of done.0 + ops_of last.batch) n s2)
-                (sym (sum_more sectors_of done.0 last.batch))
+            (sym (sum_more sectors_of done.0 last.batch))
             (spends_both s0 s1 s2 (sum_by ops_of done.0) (ops_of last.batch) (sum_by sectors_of done.0) (sectors_of last.batch) done.3
-                last.spends)),
+            last.spends)),
       );
       faults = same_faults_both s0 s1 s2 c.loop-rest.invariant.faults c.in_default.ensures.fault;
       can_run =
           subst (λ (l : List ℕ). All (CanRun l) rest) (sym last.spends.sizes)
-              (All-pop (CanRun s1.sizes) list rest (Some last.batch) last.last c.loop-rest.invariant.can_run).0;
+          (All-pop (CanRun s1.sizes) list rest (Some last.batch) last.last c.loop-rest.invariant.can_run).0;
       ops = omega (arith, ops, last.spends.spare_ops, c.loop-rest.invariant.ops);
       sectors = omega (arith, sectors, last.spends.spare_sectors, c.loop-rest.invariant.sectors);
     }

@@ -13,5 +13,5 @@ returns-clause-last g c =
       spends = c.write_all.ensures.spends;
       told = turn_told _ _ sizes c.in-Some.batch (is_ok c.write_all.result)
           (All-pop (CanRun sizes) c.args.list.now.items c.pop.new.self.items (Some c.in-Some.batch) c.in-Some.ensures.items
-              c.requires.can_run).1 c.write_all.ensures.told;
+          c.requires.can_run).1 c.write_all.ensures.told;
     }

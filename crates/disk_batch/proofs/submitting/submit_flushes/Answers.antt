@@ -13,18 +13,22 @@ loop-pv-preserved g c =
     let works : map Flushing (take (i + 1) disks) ≡ map Flushing (take i disks) ++ Flushing (get_or disks i 0) ∷ [] =
     ap (λ (l : List ℕ). map Flushing l) (take_more disks i 0 (omega arith)) ∙ map-append Flushing (take i disks) (get_or disks i 0 ∷ []) in
     let more : SubmitsWorks (g.S.Shelf.state c.args.shelf.now) (map Flushing (take i disks) ++ Flushing (get_or disks i 0) ∷ [])
-        (c.loop-pv.tags.items ++ c.submit-tag.result ∷ []) (g.S.Shelf.state c.submit-tag.new.self) =
+    (c.loop-pv.tags.items ++ c.submit-tag.result ∷ []) (g.S.Shelf.state c.submit-tag.new.self) =
     works_more _ _ _ _ _ (Flush (get_or disks i 0)) c.submit-tag.result c.loop-pv.invariant.submits c.submit-tag.ensures in
     record {
       submits =
           subst (λ (tags : List ℕ). SubmitsWorks (g.S.Shelf.state c.args.shelf.now) (map Flushing (take (i + 1) disks)) tags
-              (g.S.Shelf.state c.submit-tag.new.self)) (sym c.push_back_reserved.ensures.items)
+          (g.S.Shelf.state c.submit-tag.new.self)) (sym c.push_back_reserved.ensures.items)
           (subst (λ (ws : List Work). SubmitsWorks (g.S.Shelf.state c.args.shelf.now) ws (c.loop-pv.tags.items ++ c.submit-tag.result ∷ [])
-              (g.S.Shelf.state c.submit-tag.new.self)) (sym works) more);
+          (g.S.Shelf.state c.submit-tag.new.self)) (sym works) more);
       spare = omega (arith, c.submit-tag.ensures.spare_ops, c.loop-pv.invariant.spare);
       sizes = c.submit-tag.ensures.sizes ∙ c.loop-pv.invariant.sizes;
       len =
-          omega (arith, ap (λ (l : List ℕ). length l) c.push_back_reserved.ensures.items,
-              length-append c.loop-pv.tags.items (c.submit-tag.result ∷ []), c.loop-pv.invariant.len);
+          omega (
+            arith,
+            ap (λ (l : List ℕ). length l) c.push_back_reserved.ensures.items,
+            length-append c.loop-pv.tags.items (c.submit-tag.result ∷ []),
+            c.loop-pv.invariant.len,
+          );
       capacity = c.push_back_reserved.ensures.capacity ∙ c.loop-pv.invariant.capacity;
     }

@@ -17,11 +17,11 @@ loop-rest-preserved g c =
     let puts = c.loop-rest.rest.items in
     let rest = c.submit_last.new.list.items in
     let many : length puts ≡ length rest + 1 =
-        omega (arith, ap (λ (l : List (Span × List (List ℕ))). length l) f.last, length-append rest (f.put ∷ [])) in
+    omega (arith, ap (λ (l : List (Span × List (List ℕ))). length l) f.last, length-append rest (f.put ∷ [])) in
     let sum : sum_by span_count puts ≡ sum_by span_count rest + span_count f.put =
-        ap (λ (l : List (Span × List (List ℕ))). sum_by span_count l) f.last ∙ sum_last span_count rest f.put in
+    ap (λ (l : List (Span × List (List ℕ))). sum_by span_count l) f.last ∙ sum_last span_count rest f.put in
     let tags : length c.submit_last.new.tags.items ≡ length c.loop-rest.tags.items + 1 =
-        omega (arith, ap (λ (l : List ℕ). length l) f.behind, length-append c.loop-rest.tags.items (f.tag ∷ [])) in
+    omega (arith, ap (λ (l : List ℕ). length l) f.behind, length-append c.loop-rest.tags.items (f.tag ∷ [])) in
     record {
       submits = (
         so.0 ++ write_work f.put ∷ [],
@@ -43,7 +43,7 @@ loop-rest-init g c =
     let puts = c.args.list.items in
     let rest = c.reverse.new.self.items in
     let many : length rest ≡ length puts =
-        ap (λ (l : List (Span × List (List ℕ))). length l) c.reverse.ensures.items ∙ length-reverse puts in
+    ap (λ (l : List (Span × List (List ℕ))). length l) c.reverse.ensures.items ∙ length-reverse puts in
     let sum : sum_by span_count rest ≡ sum_by span_count puts = sum_by-IsPermutation span_count puts rest c.reverse.ensures.permutation in
     let none : length c.args.tags.now.items ≡ 0 = ap (λ (l : List ℕ). length l) c.requires.empty in
     record {

@@ -13,5 +13,5 @@ returns-clause-found g c =
       holds_weaker (g.S.Shelf.state c.args.shelf.now).told c.args.pv (λ sector_at. c.in_ok-sector.sector ≡ sector_at (area.offset / 512))
           (λ sector_at. IsAreaFound sector_at c.look.result)
           (λ sector_at at. area_found sector_at c.look.result area c.in_ok-sector.sector c.look.ensures.area c.look.ensures.header
-              c.look.ensures.entry at) c.in_ok-sector.ensures.1,
+          c.look.ensures.entry at) c.in_ok-sector.ensures.1,
     )

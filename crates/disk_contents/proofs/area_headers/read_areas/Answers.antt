@@ -43,7 +43,7 @@ returns-in_err-push-clause-found g c =
     let so_far = area_spans pv (take i areas) in
     rw (p.1, p.2)
     (until_wanting pv before after _ (area_spans pv (drop (i + 1) areas)) (area_spans pv areas)
-        (spans_all pv areas i _ c.loop-area-test.true)
+    (spans_all pv areas i _ c.loop-area-test.true)
     (well_both before there after so_far _ c.loop-area.invariant.0 c.in_ok-found.ensures.found.0))
 
 pub loop-area-preserved : goal.loop-area-preserved
@@ -82,6 +82,6 @@ returns-clause-found g c =
       holds_weaker (g.S.Shelf.state c.args.shelf.now).told c.args.pv (λ sector_at. All (IsAreaFound sector_at) all)
           (λ sector_at. AreAreasFound sector_at areas c.from_vec.result)
           (λ sector_at each. subst (λ (l : List AreaFound). AreAreasFound sector_at areas l) (sym c.from_vec.ensures)
-              (record { in_order = order; each = each }))
+          (record { in_order = order; each = each }))
           c.loop-area.invariant.2,
     )

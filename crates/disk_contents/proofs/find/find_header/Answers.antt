@@ -13,6 +13,8 @@ find_areas-requires-clause-read g c =
 
 pub returns-in-Err-NoMemory-clause-found : goal.returns-in-Err-NoMemory-clause-found
 returns-in-Err-NoMemory-clause-found g c =
-    let before = g.S.Shelf.state c.args.shelf.now in
-    ([], holds_always before.told c.args.pv (λ s. AreAreasOf s (slice_index_or before.sizes c.args.pv 0) []) (λ s. inl refl),
-        until_wanting c.args.pv before before [] [] [] refl (well_nothing before before refl c.requires.idle))
+    let before = g.S.Shelf.state c.args.shelf.now in (
+      [],
+      holds_always before.told c.args.pv (λ s. AreAreasOf s (slice_index_or before.sizes c.args.pv 0) []) (λ s. inl refl),
+      until_wanting c.args.pv before before [] [] [] refl (well_nothing before before refl c.requires.idle),
+    )

@@ -33,5 +33,5 @@ returns-in_err-read_span g c =
     let failed = c.in_err-read_span.ensures in
     rw (p.1, p.2)
     (until_after c.args.span.pv before ready after [] (c.args.span ∷ []) (ReadFailed c.in_err-read_span.field-0.0)
-        (well_reserved before ready _ _ c.in_ok-reserve.ensures.ok c.requires.idle)
+    (well_reserved before ready _ _ c.in_ok-reserve.ensures.ok c.requires.idle)
     (until_read ready after c.args.span c.in_err-read_span.field-0.0 failed.reads failed.spends failed.fault))

@@ -15,7 +15,7 @@ well_read : (told : Option Record) (op : Op) (well : Bool) (span : Span) (sector
     → IfSome told (λ t. ReadsAll t op well) → IfSome told (λ t. ReadsAll t (Read span sectors) true)
 well_read told op well span sectors is went h =
     subst (λ (b : Bool). IfSome told (λ t. ReadsAll t (Read span sectors) b)) went
-        (subst (λ (o : Op). IfSome told (λ t. ReadsAll t o well)) is h)
+    (subst (λ (o : Op). IfSome told (λ t. ReadsAll t o well)) is h)
 
 pub returns-in-Read-clause-read : goal.returns-in-Read-clause-read
 returns-in-Read-clause-read g c =
@@ -27,11 +27,11 @@ returns-in-Read-clause-read g c =
 pub returns-in-Read-clause-reads : goal.returns-in-Read-clause-reads
 returns-in-Read-clause-reads g c =
     told_by_operation (g.S.Shelf.state c.args.shelf.now) (Read c.args.span c.args.buffer) c.run_one-op.result
-        (g.S.Shelf.state c.run_one-op.new.shelf) (λ old new. OnlyReads old (c.args.span ∷ []) new) c.run_one-op.ensures
+    (g.S.Shelf.state c.run_one-op.new.shelf) (λ old new. OnlyReads old (c.args.span ∷ []) new) c.run_one-op.ensures
     (λ t fresh. reads_span t c.run_one-op.result.tag c.args.span c.run_one-op.result.well fresh)
 
 pub returns-in_default-clause-reads : goal.returns-in_default-clause-reads
 returns-in_default-clause-reads g c =
     told_by_operation (g.S.Shelf.state c.args.shelf.now) (Read c.args.span c.args.buffer) c.run_one-op.result
-        (g.S.Shelf.state c.run_one-op.new.shelf) (λ old new. OnlyReads old (c.args.span ∷ []) new) c.run_one-op.ensures
+    (g.S.Shelf.state c.run_one-op.new.shelf) (λ old new. OnlyReads old (c.args.span ∷ []) new) c.run_one-op.ensures
     (λ t fresh. reads_span t c.run_one-op.result.tag c.args.span c.run_one-op.result.well fresh)

@@ -8,7 +8,7 @@ lay_part-requires-clause-runs c = c.loop-part.invariant.0
 pub returns : goal.returns
 returns c =
     sym (laid_at_end c.args.parts.now c.loop-part.laid.items c.loop-part.runs c.loop-part.at c.loop-part.part-index c.loop-part-test.false)
-        ∙ c.loop-part.invariant.1
+    ∙ c.loop-part.invariant.1
 
 pub loop-part-preserved : goal.loop-part-preserved
 loop-part-preserved c = (

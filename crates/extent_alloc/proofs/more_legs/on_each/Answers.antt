@@ -22,9 +22,9 @@ lay-requires-clause-runs c =
     let pv = get_or c.args.pvs.now c.loop-pv.pv-index 0 in
     let leg : List PvRun = c.sort_longest_first.new.runs.items in
     let sorted : IsLongestFirst (runs_at c.args.all.now pv) leg =
-        subst (λ some. IsLongestFirst some leg) c.in_ok-runs.ensures c.in_ok-sort_longest_first.ensures in
+    subst (λ some. IsLongestFirst some leg) c.in_ok-runs.ensures c.in_ok-sort_longest_first.ensures in
     subst (All RunEnds) (sym c.deref_mut.ensures.value)
-        (All-permutation RunEnds (runs_at c.args.all.now pv) leg sorted.0 (c.requires.ends c.loop-pv.pv-index 0 c.loop-pv-test.true))
+    (All-permutation RunEnds (runs_at c.args.all.now pv) leg sorted.0 (c.requires.ends c.loop-pv.pv-index 0 c.loop-pv-test.true))
 
 pub loop-pv-preserved : goal.loop-pv-preserved
 loop-pv-preserved c =
@@ -34,10 +34,10 @@ loop-pv-preserved c =
     let pv = get_or pvs c.loop-pv.pv-index 0 in
     let leg : List PvRun = c.sort_longest_first.new.runs.items in
     let sorted : IsLongestFirst (runs_at all pv) leg =
-        subst (λ some. IsLongestFirst some leg) c.in_ok-runs.ensures c.in_ok-sort_longest_first.ensures in
+    subst (λ some. IsLongestFirst some leg) c.in_ok-runs.ensures c.in_ok-sort_longest_first.ensures in
     let laid : c.in_ok-parts-2.parts.items ≡ laid_on c.loop-pv.parts.items leg =
     c.in_ok-parts-2.ensures ∙ ap₂ (λ (parts : List Part) (runs : List PvRun). laid_on parts runs) c.deref.ensures.value
-        c.deref_mut.ensures.value in (
+    c.deref_mut.ensures.value in (
       subst (All PartEnds) (sym laid) (laid_end_small c.loop-pv.parts.items leg c.loop-pv.invariant.0
           (All-permutation RunEnds (runs_at all pv) leg sorted.0 (c.requires.ends c.loop-pv.pv-index 0 c.loop-pv-test.true))),
       (
@@ -51,6 +51,8 @@ loop-pv-preserved c =
 
 pub returns : goal.returns
 returns c =
-    let kept = c.loop-pv.invariant.1 in
-    (kept.0, subst (λ some. AreTakenAt c.args.all.now some kept.0) (take_all c.loop-pv.pv-index c.args.pvs.now c.loop-pv-test.false) kept.1,
-        kept.2)
+    let kept = c.loop-pv.invariant.1 in (
+      kept.0,
+      subst (λ some. AreTakenAt c.args.all.now some kept.0) (take_all c.loop-pv.pv-index c.args.pvs.now c.loop-pv-test.false) kept.1,
+      kept.2,
+    )

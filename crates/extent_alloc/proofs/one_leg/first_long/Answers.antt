@@ -7,7 +7,7 @@ use Rattle.extent_alloc.proofs.one_leg.first_long.Goals as goal
 pub loop-run-preserved : goal.loop-run-preserved
 loop-run-preserved c =
     All-more (λ (run : PvRun). run.count < c.args.extents) c.args.runs.now c.loop-run.run-index _ c.loop-run-test.true c.loop-run.invariant
-        c.if-run-extents.false
+    c.if-run-extents.false
 
 pub returns : goal.returns
 returns c =

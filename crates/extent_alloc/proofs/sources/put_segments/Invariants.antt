@@ -7,4 +7,4 @@ use Rattle.extent_alloc.proofs.sources.put_segments.Given as goal
 abbrev pub invariant-loop-segment : goal.invariant-loop-segment
 invariant-loop-segment l =
     (pv : ℕ) → pv < 64 → (set.contains l.sources pv || list_any (begins_on pv) (drop l.segment-index l.segments))
-        ≡ (set.contains l.fn.sources pv || list_any (begins_on pv) l.segments)
+    ≡ (set.contains l.fn.sources pv || list_any (begins_on pv) l.segments)

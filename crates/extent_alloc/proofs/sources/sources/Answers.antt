@@ -12,7 +12,7 @@ use Rattle.extent_alloc.proofs.sources.sources.Goals.{then-lv, else-lv}
 pub loop-number-init : goal.loop-number-init
 loop-number-init c pv lt =
     ap (λ s. set.contains s pv || list_any (moves_from pv) c.args.lvs.now) c.new-sources.ensures
-        ∙ ap (λ b. b || list_any (moves_from pv) c.args.lvs.now) (set.contains-empty nat_cmp pv)
+    ∙ ap (λ b. b || list_any (moves_from pv) c.args.lvs.now) (set.contains-empty nat_cmp pv)
 
 pub loop-number-preserved : goal.loop-number-preserved
 loop-number-preserved c pv lt =
@@ -22,12 +22,12 @@ loop-number-preserved c pv lt =
       | then-lv w ↦
           some_more (moves_from pv) c.args.lvs.now c.loop-number.number row has (set.contains c.if-lv.sources pv) c.get.ensures
           (ap (λ s. set.contains s pv) w.sources-is ∙ w.put_segments.ensures pv lt
-              ∙ ap (λ segments. has || list_any (begins_on pv) segments) w.as_slice.ensures
-              ∙ ap (λ b. has || b) (sym (and_true _ (list_any (begins_on pv) row.1.segments) w.if-lv.true)))
+          ∙ ap (λ segments. has || list_any (begins_on pv) segments) w.as_slice.ensures
+          ∙ ap (λ b. has || b) (sym (and_true _ (list_any (begins_on pv) row.1.segments) w.if-lv.true)))
           ∙ c.loop-number.invariant pv lt
       | else-lv w ↦
           some_more (moves_from pv) c.args.lvs.now c.loop-number.number row has (set.contains c.if-lv.sources pv) c.get.ensures
           (ap (λ s. set.contains s pv) w.sources-is
-              ∙ none_more has (moves_from pv row) (and_left _ (list_any (begins_on pv) row.1.segments) w.if-lv.false))
+          ∙ none_more has (moves_from pv row) (and_left _ (list_any (begins_on pv) row.1.segments) w.if-lv.false))
           ∙ c.loop-number.invariant pv lt
     ]

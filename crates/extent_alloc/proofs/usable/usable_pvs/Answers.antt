@@ -16,8 +16,8 @@ loop-pv-preserved c =
     let count = length c.args.group.now.pvs in
     let rest = range_with_len (c.loop-pv.pv + 1) (count - (c.loop-pv.pv + 1)) in
     let next =
-        ap (λ some. c.loop-pv.pvs.items ++ filter p some)
-            (sym (range_next c.loop-pv.pv count (omega (arith, c.loop-pv-test.true, c.pv_count-pv-end.ensures)))) in
+    ap (λ some. c.loop-pv.pvs.items ++ filter p some)
+    (sym (range_next c.loop-pv.pv count (omega (arith, c.loop-pv-test.true, c.pv_count-pv-end.ensures)))) in
     elim c.if-is_usable.branch [
       | then-is_usable+in_ok-push w ↦
           ap (λ some. some ++ filter p rest) (ap (λ v. v.items) w.pvs-is ∙ w.in_ok-push.ensures.items)
@@ -32,4 +32,4 @@ returns c =
     let p = is_usable c.args.group.now c.args.want.now in
     let over : length c.args.group.now.pvs - c.loop-pv.pv ≡ 0 = omega (arith, c.loop-pv-test.false, c.pv_count-pv-end.ensures) in
     sym (ap (λ n. c.loop-pv.pvs.items ++ filter p (range_with_len c.loop-pv.pv n)) over ∙ append-nil c.loop-pv.pvs.items)
-        ∙ c.loop-pv.invariant
+    ∙ c.loop-pv.invariant

@@ -29,8 +29,8 @@ overflow_cast-pv c = omega (arith, c.loop-pv-test.true, c.len-count.ensures.coun
 pub index_mut-requires : goal.index_mut-requires
 index_mut-requires c =
     let here =
-        slice_get_within (lists_of c.loop-pv.buckets.items) c.loop-pv.pv _
-            (c.loop-pv.invariant.1 c.loop-pv.pv (omega arith) c.loop-pv-test.true) in
+    slice_get_within (lists_of c.loop-pv.buckets.items) c.loop-pv.pv _
+    (c.loop-pv.invariant.1 c.loop-pv.pv (omega arith) c.loop-pv-test.true) in
     let within : c.loop-pv.pv < length c.loop-pv.buckets.items = omega (arith, here, lists_long c.loop-pv.buckets.items) in
     grind (arith, common_steps, within)
 
@@ -44,7 +44,7 @@ pub loop-pv-preserved : goal.loop-pv-preserved
 loop-pv-preserved c = (
   subst (AreFreeBelow c.args.group.now (c.loop-pv.pv + 1)) (sym c.in_ok-push.ensures.items)
       (free_more c.args.group.now c.loop-pv.pv c.loop-pv.all.items c.in_ok-free_beside.field-0 c.loop-pv.invariant.0
-          c.in_ok-free_beside.ensures),
+      c.in_ok-free_beside.ensures),
   λ pv low lt. others_stay c.loop-pv.buckets.items c.loop-pv.pv pv _ (λ same. omega (arith, low, same))
       ∙ c.loop-pv.invariant.1 pv (omega (arith, low)) lt,
 )
@@ -52,6 +52,6 @@ loop-pv-preserved c = (
 pub returns : goal.returns
 returns c =
     let all : c.loop-pv.pv ≡ length c.args.group.now.pvs =
-        omega (arith, c.loop-pv.auto.pv-end, c.loop-pv-test.false, c.len-count.ensures.count) in
+    omega (arith, c.loop-pv.auto.pv-end, c.loop-pv-test.false, c.len-count.ensures.count) in
     subst (AreAllFree c.args.group.now) (sym c.from_vec.ensures)
-        (record { count = c.loop-pv.invariant.0.long ∙ all; each = c.loop-pv.invariant.0.each })
+    (record { count = c.loop-pv.invariant.0.long ∙ all; each = c.loop-pv.invariant.0.each })

@@ -7,4 +7,4 @@ use Rattle.extent_map.proofs.all_free.all_free_runs.Given as goal
 abbrev pub invariant-loop-pv : goal.invariant-loop-pv
 invariant-loop-pv l =
     AreFreeBelow l.group l.pv l.all.items × ((pv : ℕ) → l.pv ≤ pv → pv < l.count
-        → slice_get (lists_of l.buckets.items) pv ≡ Some (lvs_on pv l.group.lvs))
+    → slice_get (lists_of l.buckets.items) pv ≡ Some (lvs_on pv l.group.lvs))

@@ -10,7 +10,7 @@ use Rattle.extent_map.proofs.by_volume.put_segments.Goals as goal
 pub loop-segment-preserved : goal.loop-segment-preserved
 loop-segment-preserved c =
     each_walked (λ pv. segment_on pv) c.args.segments.now c.loop-segment.segment-index c.segment-item.result
-        (lists_of c.loop-segment.buckets.items) _ c.loop-segment-test.true
+    (lists_of c.loop-segment.buckets.items) _ c.loop-segment-test.true
     (c.in_ok-put_legs.ensures
     ∙ ap₂ (λ (legs : List Leg) (n : ℕ). each_with (λ pv. flat_map (leg_on pv n) legs) 0 (lists_of c.loop-segment.buckets.items))
     (c.as_slice.ensures ∙ c.legs.ensures) c.share-share.ensures
@@ -20,4 +20,4 @@ loop-segment-preserved c =
 pub returns : goal.returns
 returns c =
     each_nothing (λ pv. segment_on pv) c.args.segments.now c.loop-segment.segment-index (lists_of c.loop-segment.buckets.items)
-        c.loop-segment-test.false ∙ c.loop-segment.invariant
+    c.loop-segment-test.false ∙ c.loop-segment.invariant

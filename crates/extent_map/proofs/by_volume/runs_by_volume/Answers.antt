@@ -17,12 +17,12 @@ loop-number-init c =
 pub loop-number-preserved : goal.loop-number-preserved
 loop-number-preserved c =
     each_row (λ pv. lv_on pv) c.args.lvs.now c.loop-number.number (c.get.result.0.now, c.get.result.1.now)
-        (lists_of c.loop-number.buckets.items) _ c.get.ensures
+    (lists_of c.loop-number.buckets.items) _ c.get.ensures
     (c.in_ok-put_segments.ensures ∙ ap (λ segments. each_with (λ pv. flat_map (segment_on pv) segments) 0
-        (lists_of c.loop-number.buckets.items)) c.as_slice.ensures)
+    (lists_of c.loop-number.buckets.items)) c.as_slice.ensures)
     ∙ c.loop-number.invariant
 
 pub returns : goal.returns
 returns c =
     each_nothing (λ pv. lv_on pv) c.args.lvs.now c.loop-number.number (lists_of c.loop-number.buckets.items) (search rules)
-        ∙ c.loop-number.invariant
+    ∙ c.loop-number.invariant

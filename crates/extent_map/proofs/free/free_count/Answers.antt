@@ -8,8 +8,11 @@ covered_there-requires-clause-legs c = each_has_leg c.args.group.now c.requires.
 
 pub covered_there-requires-clause-fits : goal.covered_there-requires-clause-fits
 covered_there-requires-clause-fits c =
-    omega (arith, (free_and_covered c.args.group.now c.args.pv _ c.requires.accepted c.get.ensures).2,
-        extents_are_few c.args.group.now c.args.pv _ c.requires.accepted c.get.ensures)
+    omega (
+      arith,
+      (free_and_covered c.args.group.now c.args.pv _ c.requires.accepted c.get.ensures).2,
+      extents_are_few c.args.group.now c.args.pv _ c.requires.accepted c.get.ensures,
+    )
 
 pub overflow_sub-result : goal.overflow_sub-result
 overflow_sub-result c =

@@ -9,7 +9,7 @@ use Rattle.extent_map.proofs.leg_runs.covered_there.Goals as goal
 pub covered_by_segments-total-requires-clause-legs : goal.covered_by_segments-total-requires-clause-legs
 covered_by_segments-total-requires-clause-legs c =
     legs_of_row c.args.lvs.now c.loop-number.number (c.get.result.0.now, c.get.result.1.now) _ c.requires.legs c.get.ensures
-        c.as_slice.ensures
+    c.as_slice.ensures
 
 pub covered_by_segments-total-requires-clause-fits : goal.covered_by_segments-total-requires-clause-fits
 covered_by_segments-total-requires-clause-fits c =

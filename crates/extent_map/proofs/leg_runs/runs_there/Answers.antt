@@ -16,7 +16,7 @@ loop-number-preserved c =
     let here : List ExtentSpan = lv_on c.args.pv (c.get.result.0.now, c.get.result.1.now) in
     let after : List ExtentSpan = flat_map (lv_on c.args.pv) (drop (c.loop-number.number + 1) c.args.lvs.now) in
     ap (λ some. some ++ after) (c.in_ok-add_segments.ensures
-        ∙ ap (λ segments. before ++ flat_map (segment_on c.args.pv) segments) c.as_slice.ensures)
+    ∙ ap (λ segments. before ++ flat_map (segment_on c.args.pv) segments) c.as_slice.ensures)
     ∙ append_assoc before here after
     ∙ ap (λ some. before ++ some) (sym (flat_row (lv_on c.args.pv) c.args.lvs.now c.loop-number.number
     (c.get.result.0.now, c.get.result.1.now) c.get.ensures))

@@ -6,4 +6,4 @@ use Rattle.extent_map.proofs.used_extents.legs_have.Given as goal
 abbrev pub invariant-loop-leg : goal.invariant-loop-leg
 invariant-loop-leg l =
     list_any (is_in l.extent) (flat_map (leg_on l.pv l.share) l.legs)
-        ≡ list_any (is_in l.extent) (flat_map (leg_on l.pv l.share) (drop l.leg-index l.legs))
+    ≡ list_any (is_in l.extent) (flat_map (leg_on l.pv l.share) (drop l.leg-index l.legs))

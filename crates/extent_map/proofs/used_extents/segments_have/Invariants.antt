@@ -6,4 +6,4 @@ use Rattle.extent_map.proofs.used_extents.segments_have.Given as goal
 abbrev pub invariant-loop-segment : goal.invariant-loop-segment
 invariant-loop-segment l =
     list_any (is_in l.extent) (flat_map (segment_on l.pv) l.segments)
-        ≡ list_any (is_in l.extent) (flat_map (segment_on l.pv) (drop l.segment-index l.segments))
+    ≡ list_any (is_in l.extent) (flat_map (segment_on l.pv) (drop l.segment-index l.segments))

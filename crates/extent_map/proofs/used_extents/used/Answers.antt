@@ -8,6 +8,7 @@ volumes_have-requires c = each_has_leg c.args.group.now c.requires.accepted
 
 pub returns : goal.returns
 returns c =
-    let both = test_covers c.args.extent (lvs_on c.args.pv c.args.group.now.lvs) c.volumes_have.result c.volumes_have.ensures in
-    (λ is. used_where_covered c.args.group.now c.args.pv c.args.extent (both.0 is),
-        λ used. both.1 (covered_where_used c.args.group.now c.args.pv c.args.extent used))
+    let both = test_covers c.args.extent (lvs_on c.args.pv c.args.group.now.lvs) c.volumes_have.result c.volumes_have.ensures in (
+      λ is. used_where_covered c.args.group.now c.args.pv c.args.extent (both.0 is),
+      λ used. both.1 (covered_where_used c.args.group.now c.args.pv c.args.extent used),
+    )

@@ -13,8 +13,8 @@ segments_have-requires c =
 pub returns-then-segments_have : goal.returns-then-segments_have
 returns-then-segments_have c =
     let found =
-        ap (λ segments. list_any (is_in c.args.extent) (flat_map (segment_on c.args.pv) segments)) (sym c.as_slice.ensures)
-            ∙ sym c.segments_have.ensures ∙ c.if-segments_have.true in
+    ap (λ segments. list_any (is_in c.args.extent) (flat_map (segment_on c.args.pv) segments)) (sym c.as_slice.ensures)
+    ∙ sym c.segments_have.ensures ∙ c.if-segments_have.true in
     sym (c.loop-number.invariant
     ∙ any_row (is_in c.args.extent) (lv_on c.args.pv) c.args.lvs.now c.loop-number.number (c.get.result.0.now, c.get.result.1.now)
     c.get.ensures
@@ -23,8 +23,8 @@ returns-then-segments_have c =
 pub loop-number-preserved : goal.loop-number-preserved
 loop-number-preserved c =
     let missed =
-        ap (λ segments. list_any (is_in c.args.extent) (flat_map (segment_on c.args.pv) segments)) (sym c.as_slice.ensures)
-            ∙ sym c.segments_have.ensures ∙ c.if-segments_have.false in
+    ap (λ segments. list_any (is_in c.args.extent) (flat_map (segment_on c.args.pv) segments)) (sym c.as_slice.ensures)
+    ∙ sym c.segments_have.ensures ∙ c.if-segments_have.false in
     c.loop-number.invariant
     ∙ any_row (is_in c.args.extent) (lv_on c.args.pv) c.args.lvs.now c.loop-number.number (c.get.result.0.now, c.get.result.1.now)
     c.get.ensures

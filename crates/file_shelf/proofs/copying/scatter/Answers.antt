@@ -11,7 +11,7 @@ loop-k-preserved c =
     let bytes = c.args.bytes.now in
     let end : 512 * k + 512 - 512 * k ≡ 512 = omega arith in
     let cut : take (512 * k + 512 - 512 * k) (drop (512 * k) bytes) ≡ sector_of bytes k =
-        ap (λ (n : ℕ). take n (drop (512 * k) bytes)) end in
+    ap (λ (n : ℕ). take n (drop (512 * k) bytes)) end in
     let whole : length (take (512 * k + 512 - 512 * k) (drop (512 * k) bytes)) ≡ 512 =
     omega (arith, length-take {A = ℕ}, length-drop {A = ℕ}, c.requires.has) in
     let zeros : length c.zeroed-sector.result ≡ 512 = ap length c.zeroed-sector.ensures ∙ length-replicate {A = ℕ} 512 0 in

@@ -18,21 +18,21 @@ pub returns-clause-sizes : goal.returns-clause-sizes
 returns-clause-sizes g c =
     let whole = c.args.queue.now in
     (c.complete.ensures.completes whole 0 (carried_out whole 0 c.take-tag.result.tag c.take-tag.result.op c.carry_out-op.result.0
-        c.take-tag.new.self c.take-tag.ensures c.carry_out-op.ensures.work
+    c.take-tag.new.self c.take-tag.ensures c.carry_out-op.ensures.work
     (c.carry_out-op.ensures.lies whole.sizes.items c.take-tag.ensures.lies))).completes.sizes
 
 pub returns-clause-cases : goal.returns-clause-cases
 returns-clause-cases g c =
     let whole = c.args.queue.now in
     (c.complete.ensures.completes whole 0 (carried_out whole 0 c.take-tag.result.tag c.take-tag.result.op c.carry_out-op.result.0
-        c.take-tag.new.self c.take-tag.ensures c.carry_out-op.ensures.work
+    c.take-tag.new.self c.take-tag.ensures c.carry_out-op.ensures.work
     (c.carry_out-op.ensures.lies whole.sizes.items c.take-tag.ensures.lies))).completes
 
 pub returns-clause-ready : goal.returns-clause-ready
 returns-clause-ready g c =
     let whole = c.args.queue.now in
     let completes =
-        c.complete.ensures.completes whole 0 (carried_out whole 0 c.take-tag.result.tag c.take-tag.result.op c.carry_out-op.result.0
-            c.take-tag.new.self c.take-tag.ensures c.carry_out-op.ensures.work
+    c.complete.ensures.completes whole 0 (carried_out whole 0 c.take-tag.result.tag c.take-tag.result.op c.carry_out-op.result.0
+    c.take-tag.new.self c.take-tag.ensures c.carry_out-op.ensures.work
     (c.carry_out-op.ensures.lies whole.sizes.items c.take-tag.ensures.lies)) in
     has_tag (state_of whole).in_flight 0 _ completes.here completes.which

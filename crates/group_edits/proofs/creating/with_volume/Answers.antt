@@ -7,7 +7,7 @@ use Rattle.group_edits.proofs.creating.with_volume.Goals as goal
 pub new_lv-requires : goal.new_lv-requires
 new_lv-requires c =
     fits_made c.args.group.now c.group-found.result.now c.args.name.now c.args.id c.args.kind.now c.args.given.now c.as_slice.result.now
-        c.args.now c.group-found.ensures.group c.as_slice.ensures c.requires.volume c.group-found.ensures.accepted
+    c.args.now c.group-found.ensures.group c.as_slice.ensures c.requires.volume c.group-found.ensures.accepted
 
 pub next_of-requires : goal.next_of-requires
 next_of-requires c = (c.group-found.ensures.accepted Numbers).seqno.1
@@ -15,24 +15,24 @@ next_of-requires c = (c.group-found.ensures.accepted Numbers).seqno.1
 pub checked-requires-clause-accepted : goal.checked-requires-clause-accepted
 checked-requires-clause-accepted c =
     (made_whole c.args.group.now c.group-found.result.now c.args.name.now c.args.id c.args.kind.now c.args.given.now c.as_slice.result.now
-        c.args.now c.group-found.ensures.group c.as_slice.ensures (record c.in_ok-next.next { lvs = c.push.new.self })
+    c.args.now c.group-found.ensures.group c.as_slice.ensures (record c.in_ok-next.next { lvs = c.push.new.self })
     (new_made c.args.group.now c.group-found.result.now c.args.name.now c.args.id c.args.kind.now c.args.given.now c.as_slice.result.now
-        c.args.now c.group-found.ensures.group c.as_slice.ensures c.in_ok-next.next c.in_ok-lv.lv c.in_ok-name.name c.push.new.self
-        c.in_ok-next.ensures c.in_ok-lv.ensures c.in_ok-name.ensures
+    c.args.now c.group-found.ensures.group c.as_slice.ensures c.in_ok-next.next c.in_ok-lv.lv c.in_ok-name.name c.push.new.self
+    c.in_ok-next.ensures c.in_ok-lv.ensures c.in_ok-name.ensures
     (pushed _ _ _ _ _ c.push.ensures (sym c.is_err.ensures.value ∙ c.if-is_err.false)))
     c.requires.free c.requires.valid c.requires.id c.requires.volume c.requires.seqno c.group-found.ensures.accepted
-        c.group-found.ensures.stands).accepted
+    c.group-found.ensures.stands).accepted
 
 pub checked-requires-clause-tree : goal.checked-requires-clause-tree
 checked-requires-clause-tree c =
     (made_whole c.args.group.now c.group-found.result.now c.args.name.now c.args.id c.args.kind.now c.args.given.now c.as_slice.result.now
-        c.args.now c.group-found.ensures.group c.as_slice.ensures (record c.in_ok-next.next { lvs = c.push.new.self })
+    c.args.now c.group-found.ensures.group c.as_slice.ensures (record c.in_ok-next.next { lvs = c.push.new.self })
     (new_made c.args.group.now c.group-found.result.now c.args.name.now c.args.id c.args.kind.now c.args.given.now c.as_slice.result.now
-        c.args.now c.group-found.ensures.group c.as_slice.ensures c.in_ok-next.next c.in_ok-lv.lv c.in_ok-name.name c.push.new.self
-        c.in_ok-next.ensures c.in_ok-lv.ensures c.in_ok-name.ensures
+    c.args.now c.group-found.ensures.group c.as_slice.ensures c.in_ok-next.next c.in_ok-lv.lv c.in_ok-name.name c.push.new.self
+    c.in_ok-next.ensures c.in_ok-lv.ensures c.in_ok-name.ensures
     (pushed _ _ _ _ _ c.push.ensures (sym c.is_err.ensures.value ∙ c.if-is_err.false)))
     c.requires.free c.requires.valid c.requires.id c.requires.volume c.requires.seqno c.group-found.ensures.accepted
-        c.group-found.ensures.stands).tree
+    c.group-found.ensures.stands).tree
 
 pub returns : goal.returns
 returns c =

@@ -9,8 +9,8 @@ pub returns-then-is_volume-clause-found : goal.returns-then-is_volume-clause-fou
 unfolding visible_named
 returns-then-is_volume-clause-found c =
     sym (ap (option_map (λ (v : ℕ × Lv). v.0))
-        (sym c.loop-number.invariant ∙ found_here c.args.name.now c.args.group.now.lvs c.loop-number.number _ c.get.ensures c.if-lv.true
-        (sym c.is_volume.ensures ∙ c.if-is_volume.true)))
+    (sym c.loop-number.invariant ∙ found_here c.args.name.now c.args.group.now.lvs c.loop-number.number _ c.get.ensures c.if-lv.true
+    (sym c.is_volume.ensures ∙ c.if-is_volume.true)))
 
 pub returns-then-is_volume-clause-visible : goal.returns-then-is_volume-clause-visible
 returns-then-is_volume-clause-visible c = is_seen c.args.group.now c.loop-number.number _ c.get.ensures c.if-lv.true

@@ -10,5 +10,5 @@ pub loop-place-preserved : goal.loop-place-preserved
 loop-place-preserved c =
     let last = pushed _ _ _ _ _ c.push.ensures (sym c.is_err.ensures.value ∙ c.if-is_err.false) in
     mapped_last (renumbered_row (on_without_pv c.args.without.now.number)) c.args.lvs.now c.loop-place.rest c.push.new.self
-        c.loop-place.place (c.get.result.0.now, c.get.result.1.now) (c.in_ok-name.name, c.in_ok-lv.lv)
+    c.loop-place.place (c.get.result.0.now, c.get.result.1.now) (c.in_ok-name.name, c.in_ok-lv.lv)
     c.loop-place.invariant c.get.ensures (λ i. (c.in_ok-name.ensures i, c.in_ok-lv.ensures i)) last

@@ -11,14 +11,14 @@ without_pv-requires c = (c.group-found.ensures.accepted Numbers).seqno.1
 pub checked-requires-clause-accepted : goal.checked-requires-clause-accepted
 checked-requires-clause-accepted c =
     (made_whole c.args.group.now c.group-found.result.now c.in_ok-next.next c.args.number c.group-found.ensures.group c.in_ok-next.ensures
-        c.requires.within c.requires.unused c.requires.more c.requires.seqno c.group-found.ensures.accepted
-        c.group-found.ensures.stands).accepted
+    c.requires.within c.requires.unused c.requires.more c.requires.seqno c.group-found.ensures.accepted
+    c.group-found.ensures.stands).accepted
 
 pub checked-requires-clause-tree : goal.checked-requires-clause-tree
 checked-requires-clause-tree c =
     (made_whole c.args.group.now c.group-found.result.now c.in_ok-next.next c.args.number c.group-found.ensures.group c.in_ok-next.ensures
-        c.requires.within c.requires.unused c.requires.more c.requires.seqno c.group-found.ensures.accepted
-        c.group-found.ensures.stands).tree
+    c.requires.within c.requires.unused c.requires.more c.requires.seqno c.group-found.ensures.accepted
+    c.group-found.ensures.stands).tree
 
 pub returns : goal.returns
 returns c = c.checked.ensures ∙ c.in_ok-next.ensures ∙ ap (λ (g : Group). reduced_group g c.args.number) c.group-found.ensures.group

@@ -9,7 +9,7 @@ loop-number-init c = below_first c.args.group.now c.args.skipped.now _ refl
 pub loop-number-preserved : goal.loop-number-preserved
 loop-number-preserved c =
     below_step c.args.group.now c.args.skipped.now c.loop-number.all c.if-not-is_marked.all c.loop-number.number (omega arith)
-        c.loop-number.invariant
+    c.loop-number.invariant
     (elim c.if-not-is_marked.branch [
       | then-not-is_marked w ↦ below_unmarked c.args.group.now c.args.skipped.now c.loop-number.all c.if-not-is_marked.all
           w.mark_segments.new.all c.loop-number.number _ c.get.ensures (sym c.is_marked.ensures ∙ w.if-not-is_marked.true) w.all-is

@@ -8,5 +8,5 @@ use Rattle.group_edits.proofs.removing.below.Given as goal
 abbrev pub invariant-loop-number : goal.invariant-loop-number
 invariant-loop-number l =
     (lv : ℕ) → lv < 1024 → (is_marked l.all lv
-        || list_any (holds l.group l.skipped lv) (range_with_len l.number (length l.group.lvs - l.number)))
-        ≡ list_any (holds l.group l.skipped lv) (lv_numbers l.group)
+    || list_any (holds l.group l.skipped lv) (range_with_len l.number (length l.group.lvs - l.number)))
+    ≡ list_any (holds l.group l.skipped lv) (lv_numbers l.group)

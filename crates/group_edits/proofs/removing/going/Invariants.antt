@@ -6,4 +6,4 @@ use Rattle.group_edits.proofs.removing.going.Given as goal
 abbrev pub invariant-loop-round : goal.invariant-loop-round
 invariant-loop-round l =
     ((lv : ℕ) → lv < 1024 → is_marked l.goes lv ≡ goes_with l.group l.removed l._round lv)
-        × ((lv : ℕ) → 1024 ≤ lv → is_marked l.goes lv ≡ false)
+    × ((lv : ℕ) → 1024 ≤ lv → is_marked l.goes lv ≡ false)

@@ -7,4 +7,4 @@ use Rattle.group_edits.proofs.removing.mark_segments.Given as goal
 abbrev pub invariant-loop-segment : goal.invariant-loop-segment
 invariant-loop-segment l =
     (x : ℕ) → x < 1024 → (is_marked l.all x || list_any (segment_names x) (drop l.segment-index l.segments))
-        ≡ (is_marked l.fn.all x || list_any (segment_names x) l.segments)
+    ≡ (is_marked l.fn.all x || list_any (segment_names x) l.segments)

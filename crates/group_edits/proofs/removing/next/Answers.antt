@@ -8,7 +8,7 @@ loop-lv-init c = next_first c.args.named.now c.args.held.now c.args.removed _ re
 pub loop-lv-preserved : goal.loop-lv-preserved
 loop-lv-preserved c =
     next_step c.args.named.now c.args.held.now c.args.removed c.loop-lv.goes c.loop-lv.lv c.goes_by.result c.loop-lv.invariant (omega arith)
-        c.goes_by.ensures
+    c.goes_by.ensures
 
 pub returns-clause-told : goal.returns-clause-told
 returns-clause-told c =

@@ -13,18 +13,18 @@ pub checked-requires-clause-accepted : goal.checked-requires-clause-accepted
 checked-requires-clause-accepted c =
     (rest_whole c.args.group.now c.group-found.result.now c.in_ok-next.next c.args.number c.group-found.ensures.group
     (rest_is c.args.group.now c.group-found.result.now c.in_ok-next.next c.args.number c.going-goes.result c.in_ok-lvs.lvs
-        c.group-found.ensures.group c.group-found.ensures.accepted c.requires.visible c.going-goes.ensures.told c.going-goes.ensures.past
-        (rows_by c.group-found.result.now c.new-numbers.result c.going-goes.result c.in_ok-lvs.lvs c.new-numbers.ensures
-        c.in_ok-lvs.ensures) c.in_ok-next.ensures)
+    c.group-found.ensures.group c.group-found.ensures.accepted c.requires.visible c.going-goes.ensures.told c.going-goes.ensures.past
+    (rows_by c.group-found.result.now c.new-numbers.result c.going-goes.result c.in_ok-lvs.lvs c.new-numbers.ensures
+    c.in_ok-lvs.ensures) c.in_ok-next.ensures)
     c.requires.visible c.requires.still c.requires.seqno c.group-found.ensures.accepted c.group-found.ensures.stands).accepted
 
 pub checked-requires-clause-tree : goal.checked-requires-clause-tree
 checked-requires-clause-tree c =
     (rest_whole c.args.group.now c.group-found.result.now c.in_ok-next.next c.args.number c.group-found.ensures.group
     (rest_is c.args.group.now c.group-found.result.now c.in_ok-next.next c.args.number c.going-goes.result c.in_ok-lvs.lvs
-        c.group-found.ensures.group c.group-found.ensures.accepted c.requires.visible c.going-goes.ensures.told c.going-goes.ensures.past
-        (rows_by c.group-found.result.now c.new-numbers.result c.going-goes.result c.in_ok-lvs.lvs c.new-numbers.ensures
-        c.in_ok-lvs.ensures) c.in_ok-next.ensures)
+    c.group-found.ensures.group c.group-found.ensures.accepted c.requires.visible c.going-goes.ensures.told c.going-goes.ensures.past
+    (rows_by c.group-found.result.now c.new-numbers.result c.going-goes.result c.in_ok-lvs.lvs c.new-numbers.ensures
+    c.in_ok-lvs.ensures) c.in_ok-next.ensures)
     c.requires.visible c.requires.still c.requires.seqno c.group-found.ensures.accepted c.group-found.ensures.stands).tree
 
 pub returns : goal.returns

@@ -9,16 +9,16 @@ next_of-requires c = (c.group.ensures.accepted Numbers).seqno.1
 pub checked-requires-clause-accepted : goal.checked-requires-clause-accepted
 checked-requires-clause-accepted c =
     (made_whole c.args.group.now c.group.result.now _ c.args.name c.group.ensures.group
-        (group_made c.args.group.now c.group.result.now c.in_ok-next.next c.args.name c.group.ensures.group c.in_ok-next.ensures)
+    (group_made c.args.group.now c.group.result.now c.in_ok-next.next c.args.name c.group.ensures.group c.in_ok-next.ensures)
     c.requires.name c.requires.seqno c.group.ensures.accepted c.group.ensures.stands).accepted
 
 pub checked-requires-clause-tree : goal.checked-requires-clause-tree
 checked-requires-clause-tree c =
     (made_whole c.args.group.now c.group.result.now _ c.args.name c.group.ensures.group
-        (group_made c.args.group.now c.group.result.now c.in_ok-next.next c.args.name c.group.ensures.group c.in_ok-next.ensures)
+    (group_made c.args.group.now c.group.result.now c.in_ok-next.next c.args.name c.group.ensures.group c.in_ok-next.ensures)
     c.requires.name c.requires.seqno c.group.ensures.accepted c.group.ensures.stands).tree
 
 pub returns : goal.returns
 returns c =
     c.checked.ensures ∙ group_made c.args.group.now c.group.result.now c.in_ok-next.next c.args.name c.group.ensures.group
-        c.in_ok-next.ensures
+    c.in_ok-next.ensures

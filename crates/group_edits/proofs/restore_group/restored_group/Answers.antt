@@ -8,23 +8,23 @@ use Rattle.group_edits.proofs.restore_group.restored_group.Goals as goal
 pub restored-requires-clause-found : goal.restored-requires-clause-found
 restored-requires-clause-found c =
     seqno_below c.group.result.now c.group.ensures.accepted
-        (subst (λ (g : Group). g.seqno ≢ 4294967295) (sym c.group.ensures.group) c.requires.found)
+    (subst (λ (g : Group). g.seqno ≢ 4294967295) (sym c.group.ensures.group) c.requires.found)
 
 pub restored-requires-clause-said : goal.restored-requires-clause-said
 restored-requires-clause-said c =
     seqno_below c.group-2.result.now c.group-2.ensures.accepted
-        (subst (λ (g : Group). g.seqno ≢ 4294967295) (sym c.group-2.ensures.group) c.requires.said)
+    (subst (λ (g : Group). g.seqno ≢ 4294967295) (sym c.group-2.ensures.group) c.requires.said)
 
 pub checked-requires-clause-accepted : goal.checked-requires-clause-accepted
 checked-requires-clause-accepted c =
     (made_whole c.args.found.now c.args.said.now c.group.result.now c.group-2.result.now c.in_ok-next.next c.group.ensures.group
-        c.group-2.ensures.group c.in_ok-next.ensures c.requires.found c.requires.said
+    c.group-2.ensures.group c.in_ok-next.ensures c.requires.found c.requires.said
     c.group.ensures.accepted c.group-2.ensures.accepted c.group-2.ensures.stands).accepted
 
 pub checked-requires-clause-tree : goal.checked-requires-clause-tree
 checked-requires-clause-tree c =
     (made_whole c.args.found.now c.args.said.now c.group.result.now c.group-2.result.now c.in_ok-next.next c.group.ensures.group
-        c.group-2.ensures.group c.in_ok-next.ensures c.requires.found c.requires.said
+    c.group-2.ensures.group c.in_ok-next.ensures c.requires.found c.requires.said
     c.group.ensures.accepted c.group-2.ensures.accepted c.group-2.ensures.stands).tree
 
 pub returns : goal.returns

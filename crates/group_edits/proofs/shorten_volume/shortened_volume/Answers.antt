@@ -10,14 +10,14 @@ pub checked-requires-clause-accepted : goal.checked-requires-clause-accepted
 checked-requires-clause-accepted c =
     (made_whole c.args.group.now c.group-found.result.now c.in_ok-next.next c.args.name.now c.args.left c.group-found.ensures.group
     (shortened_made c.args.group.now c.group-found.result.now c.in_ok-next.next c.args.name.now c.args.left c.in_ok-lvs.lvs
-        c.group-found.ensures.group c.in_ok-lvs.ensures c.in_ok-next.ensures)
+    c.group-found.ensures.group c.in_ok-lvs.ensures c.in_ok-next.ensures)
     c.requires.may c.requires.seqno c.group-found.ensures.accepted c.group-found.ensures.stands).accepted
 
 pub checked-requires-clause-tree : goal.checked-requires-clause-tree
 checked-requires-clause-tree c =
     (made_whole c.args.group.now c.group-found.result.now c.in_ok-next.next c.args.name.now c.args.left c.group-found.ensures.group
     (shortened_made c.args.group.now c.group-found.result.now c.in_ok-next.next c.args.name.now c.args.left c.in_ok-lvs.lvs
-        c.group-found.ensures.group c.in_ok-lvs.ensures c.in_ok-next.ensures)
+    c.group-found.ensures.group c.in_ok-lvs.ensures c.in_ok-next.ensures)
     c.requires.may c.requires.seqno c.group-found.ensures.accepted c.group-found.ensures.stands).tree
 
 pub returns : goal.returns

@@ -10,7 +10,7 @@ returns-in-Striped-clause-few c =
     let n : ℕ = c.len-stripes.result in
     let legs : HasFewLegs c.args.kind.now = c.requires.legs in
     let count : length (legs_of c.args.kind.now) ≡ n =
-        ap (λ (k : SegKind). length (legs_of k)) c.in-Striped.is ∙ sym c.len-stripes.ensures in
+    ap (λ (k : SegKind). length (legs_of k)) c.in-Striped.is ∙ sym c.len-stripes.ensures in
     let bounds = div_ceil_times c.args.count n (omega (arith, count, legs.0)) in
     let same : c.div_ceil.result * n ≡ parts_of c.args.count n * n = ap (λ (q : ℕ). q * n) c.div_ceil.ensures in
     omega (arith, same, bounds.1, count, legs.1)

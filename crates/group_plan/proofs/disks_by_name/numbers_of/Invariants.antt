@@ -9,4 +9,4 @@ use Rattle.group_plan.proofs.disks_by_name.numbers_of.Given as goal
 abbrev pub invariant-loop-number : goal.invariant-loop-number
 invariant-loop-number l =
     (name : List ℕ) → get_by (λ (key : Bor (List ℕ)). slice_cmp nat_cmp name key.now) l.numbers
-        ≡ number_from l.number (drop l.number l.names) name
+    ≡ number_from l.number (drop l.number l.names) name

@@ -9,8 +9,8 @@ use Rattle.group_plan.proofs.members.pvs_named.Goals.{in-Some, in_default}
 pub loop-name-preserved : goal.loop-name-preserved
 loop-name-preserved c =
     let found =
-        found_named c.args.state.now c.in_ok-disks.disks c.in_ok-pvs.pvs c.name-item.result c.pv_on.result c.in_ok-disks.ensures
-            (c.in_ok-pvs.ensures ∙ c.as_slice.ensures) c.pv_on.ensures.number in
+    found_named c.args.state.now c.in_ok-disks.disks c.in_ok-pvs.pvs c.name-item.result c.pv_on.result c.in_ok-disks.ensures
+    (c.in_ok-pvs.ensures ∙ c.as_slice.ensures) c.pv_on.ensures.number in
     let rest : List ℕ = filter_map (pv_named c.args.state.now) (drop (c.loop-name.name-index + 1) c.args.names.now) in
     elim c.match-pv_on.branch [
       | in-Some w ↦

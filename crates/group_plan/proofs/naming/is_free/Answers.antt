@@ -7,9 +7,9 @@ use Rattle.group_plan.proofs.naming.is_free.Goals as goal
 pub returns-then-in_pvs : goal.returns-then-in_pvs
 returns-then-in_pvs c =
     ap not (sym (among_first (names_of c.args.pvs.now) (names_of c.args.lvs.now) c.args.name.now
-        (sym c.contains-in_pvs.ensures ∙ c.if-in_pvs.true)))
+    (sym c.contains-in_pvs.ensures ∙ c.if-in_pvs.true)))
 
 pub returns : goal.returns
 returns c =
     ap not (c.contains-in_lvs.ensures ∙ sym (among_last (names_of c.args.pvs.now) (names_of c.args.lvs.now) c.args.name.now
-        (sym c.contains-in_pvs.ensures ∙ c.if-in_pvs.false)))
+    (sym c.contains-in_pvs.ensures ∙ c.if-in_pvs.false)))

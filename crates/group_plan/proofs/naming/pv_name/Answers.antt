@@ -7,6 +7,6 @@ pub unreachable-requires : goal.unreachable-requires
 unreachable-requires c =
     let named : any_name_refusal c.as_bytes.result.now ≡ None =
     subst (λ text. any_name_refusal text ≡ None) (sym (c.as_bytes.ensures.value ∙ c.in_ok-text.ensures.ok))
-        (pv_name-named c.args.number c.ranges.number.fits)
+    (pv_name-named c.args.number c.ranges.number.fits)
     in
     search rules

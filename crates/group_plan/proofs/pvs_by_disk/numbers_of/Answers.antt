@@ -20,4 +20,4 @@ pub returns : goal.returns
 returns c = λ disk.
     let start : c.loop-number.number ≡ 0 = omega arith in
     c.loop-number.invariant disk ∙ ap (λ (n : ℕ). place_from n (drop n c.args.disk_of.now) disk) start
-        ∙ sym (place_from-zero c.args.disk_of.now disk)
+    ∙ sym (place_from-zero c.args.disk_of.now disk)

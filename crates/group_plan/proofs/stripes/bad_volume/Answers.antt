@@ -12,16 +12,16 @@ row extent_size lv = segments_row extent_size lv.1.segments
 pub returns-in-Some : goal.returns-in-Some
 returns-in-Some c =
     row_here (row c.args.group.now.extent_size) c.args.group.now.lvs c.loop-place.place (stripes_row c.args.group.now)
-        c.loop-place.invariant _ c.in-Some.refusal c.get.ensures
-        (c.in-Some.ensures ∙ ap (segments_row c.args.group.now.extent_size) c.as_slice.ensures)
+    c.loop-place.invariant _ c.in-Some.refusal c.get.ensures
+    (c.in-Some.ensures ∙ ap (segments_row c.args.group.now.extent_size) c.as_slice.ensures)
 
 pub loop-place-preserved : goal.loop-place-preserved
 loop-place-preserved c =
     row_past (row c.args.group.now.extent_size) c.args.group.now.lvs c.loop-place.place (stripes_row c.args.group.now)
-        c.loop-place.invariant _ c.get.ensures (c.in_default.ensures ∙ ap (segments_row c.args.group.now.extent_size) c.as_slice.ensures)
+    c.loop-place.invariant _ c.get.ensures (c.in_default.ensures ∙ ap (segments_row c.args.group.now.extent_size) c.as_slice.ensures)
 
 pub returns : goal.returns
 returns c =
     let past : length c.args.group.now.lvs ≤ c.loop-place.place = omega (arith, c.loop-place-test.false, c.len-place-end.ensures.count) in
     rows_past (row c.args.group.now.extent_size) c.args.group.now.lvs c.loop-place.place (stripes_row c.args.group.now)
-        c.loop-place.invariant past
+    c.loop-place.invariant past

@@ -11,5 +11,7 @@ has_3 set = contains-insert nat_cmp_total set 3 3 ∙ ap (λ (t : Bool). t || co
 
 pub returns : goal.returns
 returns c =
-    record { some = some_disk c.insert.new.self 3 (omega arith)
-        (subst (λ (s : FinSet nat_cmp). contains s 3 ≡ true) (sym c.insert.ensures) (has_3 c.new-flush.result)) }
+    record {
+      some = some_disk c.insert.new.self 3 (omega arith)
+          (subst (λ (s : FinSet nat_cmp). contains s 3 ≡ true) (sym c.insert.ensures) (has_3 c.new-flush.result));
+    }

@@ -1,6 +1,6 @@
 -- The two areas can be committed to.
-use Rattle.std.proofs.Common.{◌≡◌, ◌<◌, ℕ, zero, suc, Bool, true, ◌||◌, List, [], ◌∷◌, length, get_or, Option, None, Some, inl, sym, ap,
-    subst, ◌∙◌, arith}
+use Rattle.std.proofs.Common.{◌≡◌, ◌<◌, ℕ, zero, suc, Bool, true, ◌||◌, List, [], ◌∷◌, length, get_or, Option, None, Some, inl, sym, ap}
+use Rattle.std.proofs.Common.{subst, ◌∙◌, arith}
 use Rattle.std.specs.Prelude.{All}
 use Rattle.std.specs.Cmp.{nat_cmp_total, unsigned_tied}
 use Rattle.std.specs.Ordering.{nat_cmp}
@@ -23,11 +23,19 @@ both = first ∷ second ∷ []
 
 take : All CanTake both
 take =
-    All-cons CanTake first (second ∷ []) (record { start_is_whole = omega arith; size_is_whole = omega arith; has_ring = omega arith;
-        ends = omega arith }, tt)
-    (All-cons CanTake second []
-    (record { start_is_whole = omega arith; size_is_whole = omega arith; has_ring = omega arith; ends = omega arith },
-        record { behind_header = omega arith; before_end = omega arith; has_bytes = omega arith; has_room = omega arith })
+    All-cons CanTake first (second ∷ []) (
+      record {
+        start_is_whole = omega arith;
+        size_is_whole = omega arith;
+        has_ring = omega arith;
+        ends = omega arith;
+      },
+      tt,
+    )
+    (All-cons CanTake second [] (
+      record { start_is_whole = omega arith; size_is_whole = omega arith; has_ring = omega arith; ends = omega arith },
+      record { behind_header = omega arith; before_end = omega arith; has_bytes = omega arith; has_room = omega arith },
+    )
     (All-nil CanTake))
 
 -- they lie on two disks
@@ -64,7 +72,7 @@ committed = record {
   apart = apart;
   on_disks =
       All-cons (IsOnDiskOf disks) first (second ∷ []) (omega arith, has_3)
-          (All-cons (IsOnDiskOf disks) second [] (omega arith, has_5) (All-nil (IsOnDiskOf disks)));
+      (All-cons (IsOnDiskOf disks) second [] (omega arith, has_5) (All-nil (IsOnDiskOf disks)));
 }
 
 pub returns : goal.returns

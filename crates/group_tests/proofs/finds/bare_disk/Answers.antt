@@ -24,10 +24,13 @@ bare_each : (disks : List Disk) (unread : set.FinSet nat_cmp) → disks ≡ bare
 bare_each disks unread are none pv disk there = of pv (ap (λ (l : List Disk). slice_get l pv) (sym are) ∙ there) where
   of : (pv : ℕ) → slice_get (bare ∷ []) pv ≡ Some disk → IsDisk pv disk × IsUnread unread pv disk
   of zero here =
-      subst (λ (d : Disk). IsDisk zero d × IsUnread unread zero d) (same_Some bare disk here)
-      (record { least = omega arith; most = omega arith; contents = omega arith },
-          (λ away. absurd (none-some _ (sym away)),
-          λ named. let below : zero < 0 = none_named unread 0 none zero named in absurd (omega (arith, below))))
+      subst (λ (d : Disk). IsDisk zero d × IsUnread unread zero d) (same_Some bare disk here) (
+        record { least = omega arith; most = omega arith; contents = omega arith },
+        (
+          λ away. absurd (none-some _ (sym away)),
+          λ named. let below : zero < 0 = none_named unread 0 none zero named in absurd (omega (arith, below)),
+        ),
+      )
   of (suc pv) here = let within : suc pv < 1 = slice_get_within (bare ∷ []) (suc pv) disk here in absurd (omega (arith, within))
 
 pub without_group-requires-clause-each : goal.without_group-requires-clause-each

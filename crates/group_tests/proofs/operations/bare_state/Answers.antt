@@ -28,8 +28,14 @@ each zero disk there = subst (IsDisk zero) (same_Some bare disk there) (is_disk 
 each (suc pv) disk there = let within : suc pv < 1 = slice_get_within (bare ∷ []) (suc pv) disk there in absurd (omega (arith, within))
 
 state : (disk_of : List ℕ)
-    → IsState (record { group = None; disks = bare ∷ []; names = names; areas = held_areas 0 (bare ∷ []); disk_of = disk_of;
-    backup = None })
+    → IsState (record {
+      group = None;
+      disks = bare ∷ [];
+      names = names;
+      areas = held_areas 0 (bare ∷ []);
+      disk_of = disk_of;
+      backup = None;
+    })
 state disk_of = record {
   few = omega arith;
   disks = each;
@@ -49,11 +55,17 @@ state_with : (disks : List Disk) (texts : List (List ℕ)) (areas : List (Area �
 state_with disks texts areas disk_of are_disks are_texts are_areas =
     subst (λ (l : List Disk). IsState (record { group = None; disks = l; names = texts; areas = areas; disk_of = disk_of; backup = None }))
     (sym are_disks)
-    (subst (λ (t : List (List ℕ)). IsState (record { group = None; disks = bare ∷ []; names = t; areas = areas; disk_of = disk_of;
-        backup = None }))
+    (subst (λ (t : List (List ℕ)). IsState (record {
+      group = None;
+      disks = bare ∷ [];
+      names = t;
+      areas = areas;
+      disk_of = disk_of;
+      backup = None;
+    }))
     (sym are_texts)
     (subst (λ (a : List (Area × Option Locn)). IsState
-        (record { group = None; disks = bare ∷ []; names = names; areas = a; disk_of = disk_of; backup = None }))
+    (record { group = None; disks = bare ∷ []; names = names; areas = a; disk_of = disk_of; backup = None }))
     (sym (are_areas ∙ ap (held_areas 0) are_disks))
     (state disk_of)))
 

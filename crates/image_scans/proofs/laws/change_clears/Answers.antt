@@ -9,7 +9,7 @@ returns-clause-commit c = clears_scan
 pub returns-clause-removal : goal.returns-clause-removal
 returns-clause-removal c =
     λ base image sizes found names backup line now given vg p is h. removal_scans base image sizes found names backup line now given vg p is
-        h
+    h
 
 pub returns-clause-removed : goal.returns-clause-removed
 returns-clause-removed c =

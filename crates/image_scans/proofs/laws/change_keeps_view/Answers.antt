@@ -8,9 +8,9 @@ returns-clause-outside c =
 pub returns-clause-kept : goal.returns-clause-kept
 returns-clause-kept c =
     λ base image sizes found names backup line now given group p is h lv sector at there. place_kept base sizes found names backup line now
-        given p group is image h lv sector at there
+    given p group is image h lv sector at there
 
 pub returns-clause-view : goal.returns-clause-view
 returns-clause-view c =
     λ base image sizes found names backup line now given group p is h. view_kept base sizes found names backup line now given p group is
-        image h
+    image h

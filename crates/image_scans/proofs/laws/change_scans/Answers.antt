@@ -11,7 +11,7 @@ returns-clause-on_the_way c =
 pub returns-clause-unpublished : goal.returns-clause-unpublished
 returns-clause-unpublished c =
     λ base image sizes found names backup line now given n group p is less h. unpublished_scans base sizes found names backup line now given
-        p image n less h group is
+    p image n less h group is
 
 pub returns-clause-at_the_end : goal.returns-clause-at_the_end
 returns-clause-at_the_end c = λ base sizes found names backup line now given p. last_scans base sizes found names backup line now given p

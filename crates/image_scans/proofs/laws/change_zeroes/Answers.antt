@@ -11,9 +11,9 @@ returns-clause-scan c =
 pub returns-clause-places : goal.returns-clause-places
 returns-clause-places c =
     λ base image sizes found names backup line now given group p is h lv sector at there. zeroes_keep_places base sizes found names backup
-        line now given p image h group is lv sector at there
+    line now given p image h group is lv sector at there
 
 pub returns-clause-kept : goal.returns-clause-kept
 returns-clause-kept c =
     λ base image sizes found names backup line now given p h disk sector is. zeroes_kept base sizes found names backup line now given p
-        image h disk sector is
+    image h disk sector is

@@ -16,11 +16,11 @@ returns-in_err-write_bytes-2 g c =
     rw p.1 (failed_before _ _ _ _ (codes " " ++ c.args.name.now ++ codes "=") (decimal c.args.sectors)
     (written_both _ _ _ _ _ _ (codes " " ++ c.args.name.now) (codes "=") false
     (written_both _ _ _ _ _ _ (codes " ") c.args.name.now true c.in_ok-write_bytes.ensures c.in_ok-write_all.ensures)
-        c.in_err-write_bytes-2.ensures))
+    c.in_err-write_bytes-2.ensures))
 
 pub returns : goal.returns
 returns g c =
     written_both _ _ _ _ _ _ (codes " " ++ c.args.name.now ++ codes "=") (decimal c.args.sectors) _
     (written_both _ _ _ _ _ _ (codes " " ++ c.args.name.now) (codes "=") true
     (written_both _ _ _ _ _ _ (codes " ") c.args.name.now true c.in_ok-write_bytes.ensures c.in_ok-write_all.ensures)
-        c.in_ok-write_bytes-2.ensures) c.write_number.ensures
+    c.in_ok-write_bytes-2.ensures) c.write_number.ensures

@@ -13,4 +13,4 @@ pub returns-in_err-write_length : goal.returns-in_err-write_length
 returns-in_err-write_length g c =
     let p = err_from_is_err_and c.from_residual-in_err-write_length.result c.from_residual-in_err-write_length.ensures.1 in
     rw p.1 (stopped_at (λ pair. codes " " ++ pair.0 ++ codes "=" ++ decimal pair.1) _ _ _ _ _ _ (codes "list") _ _ _ c.loop-name-test.true
-        c.loop-name-item.is c.loop-name.invariant c.in_err-write_length.ensures)
+    c.loop-name-item.is c.loop-name.invariant c.in_err-write_length.ensures)

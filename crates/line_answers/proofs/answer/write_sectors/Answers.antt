@@ -14,9 +14,9 @@ pub returns-in_err-write_sector : goal.returns-in_err-write_sector
 returns-in_err-write_sector g c =
     let p = err_from_is_err_and c.from_residual-in_err-write_sector.result c.from_residual-in_err-write_sector.ensures.1 in
     rw p.1 (stopped_at (λ sector. codes " " ++ token sector) _ _ _ _ _ _ (codes "data") _ _ _ c.loop-sector-test.true c.sector-item.is
-        c.loop-sector.invariant c.in_err-write_sector.ensures)
+    c.loop-sector.invariant c.in_err-write_sector.ensures)
 
 pub loop-sector-preserved : goal.loop-sector-preserved
 loop-sector-preserved g c =
     next_written (λ sector. codes " " ++ token sector) _ _ _ _ _ _ (codes "data") _ _ _ c.loop-sector-test.true c.sector-item.is
-        c.loop-sector.invariant c.in_ok-write_sector.ensures
+    c.loop-sector.invariant c.in_ok-write_sector.ensures

@@ -17,4 +17,4 @@ returns-clause-looks c = λ handed sizes names clock start ended l. looks handed
 pub returns-clause-reports : goal.returns-clause-reports
 returns-clause-reports c =
     λ handed sizes names clock start ended line said l quiet none may says. reports handed sizes names clock start ended l line quiet none
-        said may says
+    said may says

@@ -7,12 +7,12 @@ use Rattle.line_history.proofs.places.writes_lie.Goals as goal
 pub returns-clause-line : goal.returns-clause-line
 returns-clause-line c =
     λ base sizes found names backup line now given p pv sector is. line_writes_lie base sizes found names backup line now given p pv sector
-        is
+    is
 
 pub returns-clause-zeros : goal.returns-clause-zeros
 returns-clause-zeros c =
     λ base sizes found names backup line now given p pv sector is. zero_writes_lie base sizes found names backup line now given p pv sector
-        is
+    is
 
 pub returns-clause-clears : goal.returns-clause-clears
 returns-clause-clears c = λ state line now given pv sector is. clear_writes_lie state line now given pv sector is

@@ -9,7 +9,7 @@ judge_segments-requires-clause-few c = (c.group-found.ensures.accepted Segments)
 pub longer_volume-requires-clause-grows : goal.longer_volume-requires-clause-grows
 longer_volume-requires-clause-grows c =
     grows_now c.args.group.now c.group-found.result.now c.args.name.now c.args.given.now c.len.result c.group-found.ensures.group
-        c.len.ensures c.in_ok-judge_segments.ensures c.requires.grows
+    c.len.ensures c.in_ok-judge_segments.ensures c.requires.grows
 
 pub commit_version-requires-clause-areas : goal.commit_version-requires-clause-areas
 commit_version-requires-clause-areas c = areas_take c.args.state.now c.requires.state
@@ -17,5 +17,5 @@ commit_version-requires-clause-areas c = areas_take c.args.state.now c.requires.
 pub returns : goal.returns
 returns c =
     lengthen_plans c.args.state.now c.args.name.now c.args.now c.group-found.result.now c.args.group.now c.in_ok-next.next c.args.given.now
-        c.len.result c.commit_version.result c.group-found.ensures.group c.len.ensures c.in_ok-next.ensures
+    c.len.result c.commit_version.result c.group-found.ensures.group c.len.ensures c.in_ok-next.ensures
     c.in_ok-judge_segments.ensures c.commit_version.ensures

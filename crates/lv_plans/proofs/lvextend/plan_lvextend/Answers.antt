@@ -15,7 +15,7 @@ returns-in-Some c =
     (λ (o : Option Group).
     PlansWith (option_and_then (extend_asks c.args.state.now c.args.path.now c.args.growth c.args.pvs.now) o)
     (λ (given : List Part). option_map_or (λ (g : Group). extend_in_rows c.args.state.now c.args.path.now c.args.growth c.args.pvs.now
-        c.args.now g given) o (Some (UnknownGroup c.args.path.now.vg) ∷ []))
+    c.args.now g given) o (Some (UnknownGroup c.args.path.now.vg) ∷ []))
     (λ (given : List Part). option_map_or (λ (g : Group). version_change c.args.state.now (longer_volume c.args.path.now.lv given g)) o
-        (no_change c.args.state.now)) c.extend.result)
+    (no_change c.args.state.now)) c.extend.result)
     (sym c.in-Some.is) c.extend.ensures

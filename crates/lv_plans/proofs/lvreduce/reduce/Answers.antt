@@ -24,23 +24,23 @@ pub reduce_visible-requires-clause-volume : goal.reduce_visible-requires-clause-
 reduce_visible-requires-clause-volume c =
     named_is c.args.group.now c.args.path.now.lv c.in-Some.number (c.get.result.0.now, c.get.result.1.now)
     (c.in-Some.ensures.found ∙ ap (λ (g : Group). option_map (λ (v : ℕ × Lv). v.0) (visible_named g c.args.path.now.lv))
-        c.group-found.ensures.group)
+    c.group-found.ensures.group)
     (sym (ap (λ (g : Group). slice_get g.lvs c.in-Some.number) c.group-found.ensures.group) ∙ c.get.ensures)
 
 pub returns-in-Some : goal.returns-in-Some
 returns-in-Some c =
     plans_back (named_rows c.args.group.now c.args.path.now.vg)
-        (rows_on c.args.group.now c.args.path.now.lv
-        (reduce_lv_rows c.args.state.now c.args.path.now.lv c.args.amount c.args.now c.args.group.now))
+    (rows_on c.args.group.now c.args.path.now.lv
+    (reduce_lv_rows c.args.state.now c.args.path.now.lv c.args.amount c.args.now c.args.group.now))
     (reduce_change c.args.state.now c.args.path.now.lv c.args.amount c.args.group.now) c.reduce_visible.result
     (subst (λ (g : Group). first_refusal (named_rows g c.args.path.now.vg) ≡ None) c.group-found.ensures.group c.in_ok-judge_named.ensures)
     (plans_there (visible_named c.args.group.now c.args.path.now.lv) (c.in-Some.number, c.get.result.1.now)
-        (reduce_lv_rows c.args.state.now c.args.path.now.lv c.args.amount c.args.now c.args.group.now)
-        (Some (UnknownVolume c.args.path.now.lv) ∷ [])
+    (reduce_lv_rows c.args.state.now c.args.path.now.lv c.args.amount c.args.now c.args.group.now)
+    (Some (UnknownVolume c.args.path.now.lv) ∷ [])
     (λ (v : ℕ × Lv). version_change c.args.state.now (reduced_group c.args.path.now.lv c.args.amount c.args.group.now v.1))
-        (no_change c.args.state.now) c.reduce_visible.result
+    (no_change c.args.state.now) c.reduce_visible.result
     (named_is c.args.group.now c.args.path.now.lv c.in-Some.number (c.get.result.0.now, c.get.result.1.now)
     (c.in-Some.ensures.found ∙ ap (λ (g : Group). option_map (λ (v : ℕ × Lv). v.0) (visible_named g c.args.path.now.lv))
-        c.group-found.ensures.group)
+    c.group-found.ensures.group)
     (sym (ap (λ (g : Group). slice_get g.lvs c.in-Some.number) c.group-found.ensures.group) ∙ c.get.ensures))
     c.reduce_visible.ensures)

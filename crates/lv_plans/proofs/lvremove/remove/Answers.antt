@@ -22,12 +22,12 @@ remove_visible-requires-clause-visible c =
 pub returns-in-Some : goal.returns-in-Some
 returns-in-Some c =
     plans_back (named_rows c.args.group.now c.args.path.now.vg)
-        (rows_on c.args.group.now c.args.path.now.lv (remove_lv_rows c.args.state.now c.args.path.now.lv c.args.now c.args.group.now))
+    (rows_on c.args.group.now c.args.path.now.lv (remove_lv_rows c.args.state.now c.args.path.now.lv c.args.now c.args.group.now))
     (remove_change c.args.state.now c.args.path.now.lv c.args.group.now) c.remove_visible.result
     (subst (λ (g : Group). first_refusal (named_rows g c.args.path.now.vg) ≡ None) c.group.ensures.group c.in_ok-judge_named.ensures)
     (removes_on c.args.state.now c.args.group.now c.in-Some.number (visible_named c.args.group.now c.args.path.now.lv)
-        (remove_lv_rows c.args.state.now c.args.path.now.lv c.args.now c.args.group.now) (Some (UnknownVolume c.args.path.now.lv) ∷ [])
+    (remove_lv_rows c.args.state.now c.args.path.now.lv c.args.now c.args.group.now) (Some (UnknownVolume c.args.path.now.lv) ∷ [])
     c.remove_visible.result
     (c.in-Some.ensures.found ∙ ap (λ (g : Group). option_map (λ (v : ℕ × Lv). v.0) (visible_named g c.args.path.now.lv))
-        c.group-2.ensures.group)
+    c.group-2.ensures.group)
     (λ lv. c.remove_visible.ensures lv))

@@ -13,7 +13,7 @@ use Rattle.lv_plans.proofs.lvremove.remove_visible.Goals as goal
 pub without_volume-requires-clause-still : goal.without_volume-requires-clause-still
 without_volume-requires-clause-still c =
     not_locked c.args.group.now c.args.name.now c.args.number
-        (subst (λ (g : Group). locked_row g c.args.name.now c.args.number ≡ None) c.group-found.ensures.group c.in_ok-judge_lock.ensures)
+    (subst (λ (g : Group). locked_row g c.args.name.now c.args.number ≡ None) c.group-found.ensures.group c.in_ok-judge_lock.ensures)
 
 pub without_volume-requires-clause-seqno : goal.without_volume-requires-clause-seqno
 without_volume-requires-clause-seqno c =
@@ -25,8 +25,8 @@ commit_version-requires-clause-areas c = areas_take c.args.state.now c.requires.
 pub returns : goal.returns
 returns c =
     remove_plans c.args.state.now c.args.name.now c.args.now c.args.number c.group-found.result.now c.args.group.now c.in_ok-rest.rest
-        c.commit_version.result
+    c.commit_version.result
     c.group-found.ensures.group c.in_ok-rest.ensures c.in_ok-judge_lock.ensures
     (sym (ap (λ (l : List (Area × Option Locn)). area_row l c.as_slice-2.result.now) c.as_slice.ensures
-        ∙ ap (area_row c.args.state.now.areas) c.as_slice-2.ensures) ∙ c.in_ok-judge_areas.ensures)
+    ∙ ap (area_row c.args.state.now.areas) c.as_slice-2.ensures) ∙ c.in_ok-judge_areas.ensures)
     c.in_ok-judge_seqno.ensures c.commit_version.ensures

@@ -23,14 +23,14 @@ rename_visible-requires-clause-volume c =
 pub returns-in-Some : goal.returns-in-Some
 returns-in-Some c =
     plans_back (named_rows c.args.group.now c.args.vg.now)
-        (rows_on c.args.group.now c.args.old.now
-        (rename_lv_rows c.args.state.now c.args.old.now c.args.new.now c.args.now c.args.group.now))
+    (rows_on c.args.group.now c.args.old.now
+    (rename_lv_rows c.args.state.now c.args.old.now c.args.new.now c.args.now c.args.group.now))
     (version_change c.args.state.now (renamed_volume c.args.old.now c.args.new.now c.args.group.now)) c.rename_visible.result
     (subst (λ (g : Group). first_refusal (named_rows g c.args.vg.now) ≡ None) c.group.ensures.group c.in_ok-judge_named.ensures)
     (plans_on (visible_named c.args.group.now c.args.old.now) c.in-Some.number
-        (rename_lv_rows c.args.state.now c.args.old.now c.args.new.now c.args.now c.args.group.now)
-        (Some (UnknownVolume c.args.old.now) ∷ [])
+    (rename_lv_rows c.args.state.now c.args.old.now c.args.new.now c.args.now c.args.group.now)
+    (Some (UnknownVolume c.args.old.now) ∷ [])
     (version_change c.args.state.now (renamed_volume c.args.old.now c.args.new.now c.args.group.now)) c.rename_visible.result
     (c.in-Some.ensures.found ∙ ap (λ (g : Group). option_map (λ (v : ℕ × Lv). v.0) (visible_named g c.args.old.now))
-        c.group-2.ensures.group)
+    c.group-2.ensures.group)
     (λ lv. c.rename_visible.ensures lv))

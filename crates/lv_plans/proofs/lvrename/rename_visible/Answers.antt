@@ -18,7 +18,7 @@ renamed_volume-requires-clause-there c = named_is_some (visible_named c.args.gro
 pub renamed_volume-requires-clause-free : goal.renamed_volume-requires-clause-free
 renamed_volume-requires-clause-free c =
     name_free c.args.group.now c.in_ok-name.name
-        (subst (λ (g : Group). taken_row g c.in_ok-name.name ≡ None) c.group-found.ensures.group c.in_ok-judge_name.ensures)
+    (subst (λ (g : Group). taken_row g c.in_ok-name.name ≡ None) c.group-found.ensures.group c.in_ok-judge_name.ensures)
 
 pub renamed_volume-requires-clause-valid : goal.renamed_volume-requires-clause-valid
 renamed_volume-requires-clause-valid c = subst (λ (n : List ℕ). volume_name_refusal n ≡ None) (sym c.in_ok-name.ensures) c.requires.name
@@ -33,8 +33,8 @@ commit_version-requires-clause-areas c = areas_take c.args.state.now c.requires.
 pub returns : goal.returns
 returns c =
     rename_plans c.args.state.now c.args.old.now c.in_ok-name.name c.args.new.now c.args.now c.args.number c.group-found.result.now
-        c.args.group.now c.in_ok-next.next c.commit_version.result
+    c.args.group.now c.in_ok-next.next c.commit_version.result
     c.group-found.ensures.group c.in_ok-name.ensures c.in_ok-next.ensures c.in_ok-judge_name.ensures c.in_ok-judge_lock.ensures
     (sym (ap (λ (l : List (Area × Option Locn)). area_row l c.as_slice-2.result.now) c.as_slice.ensures
-        ∙ ap (area_row c.args.state.now.areas) c.as_slice-2.ensures) ∙ c.in_ok-judge_areas.ensures)
+    ∙ ap (area_row c.args.state.now.areas) c.as_slice-2.ensures) ∙ c.in_ok-judge_areas.ensures)
     c.in_ok-judge_seqno.ensures c.commit_version.ensures

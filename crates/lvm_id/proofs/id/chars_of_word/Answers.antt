@@ -15,4 +15,4 @@ pub returns : goal.returns
 unfolding word_chars
 returns c =
     fill_by_all (λ j. digit_char ((c.args.word / 62 ^ j) % 62)) c.loop-c.c-items 8 0 c.loop-c-test.array_long
-        (λ k below. c.loop-c.invariant.written k (omega arith))
+    (λ k below. c.loop-c.invariant.written k (omega arith))

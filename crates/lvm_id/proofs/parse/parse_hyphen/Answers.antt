@@ -17,4 +17,4 @@ returns-in-Some-2-clause-accepted c chars valid e =
 pub returns-in-None-clause-accepted : goal.returns-in-None-clause-accepted
 returns-in-None-clause-accepted c chars valid e =
     ap Ok (c.new.ensures ∙ sym (joined-hyphen_form c.without_hyphens.result c.without_hyphens.ensures.valid.length_is)
-        ∙ ap joined (c.without_hyphens.ensures.printed ∙ sym e) ∙ joined-hyphen_form chars valid.length_is)
+    ∙ ap joined (c.without_hyphens.ensures.printed ∙ sym e) ∙ joined-hyphen_form chars valid.length_is)

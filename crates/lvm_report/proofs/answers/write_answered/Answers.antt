@@ -14,11 +14,11 @@ returns-in_err-write g c =
     let p = err_from_is_err_and c.from_residual-in_err-write.result c.from_residual-in_err-write.ensures.1 in
     rw p.1 (failed_before _ _ _ _ _ (codes "\n")
     (written_both _ _ _ _ _ _ _ _ false (written_both _ _ _ _ _ _ _ (codes ": ") true c.in_ok-write_number.ensures
-        c.in_ok-write_bytes.ensures) c.in_err-write.ensures))
+    c.in_ok-write_bytes.ensures) c.in_err-write.ensures))
 
 pub returns : goal.returns
 returns g c =
     written_both _ _ _ _ _ _ _ (codes "\n") _
     (written_both _ _ _ _ _ _ _ _ true (written_both _ _ _ _ _ _ _ (codes ": ") true c.in_ok-write_number.ensures
-        c.in_ok-write_bytes.ensures) c.in_ok-write.ensures)
+    c.in_ok-write_bytes.ensures) c.in_ok-write.ensures)
     c.write_bytes-2.ensures

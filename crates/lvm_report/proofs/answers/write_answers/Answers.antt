@@ -12,8 +12,8 @@ returns-in_err-write_if_answered g c =
     let i : ℕ = c.loop-number.number-index in
     let line : ℕ × Option Answer = c.loop-number-item.result in
     let within =
-        subst (λ (lines : List (ℕ × Option Answer)). i < length lines) c.deref-number-items.ensures.value c.loop-number-test.true in
+    subst (λ (lines : List (ℕ × Option Answer)). i < length lines) c.deref-number-items.ensures.value c.loop-number-test.true in
     let is =
-        subst (λ (lines : List (ℕ × Option Answer)). line ≡ get_or lines i line) c.deref-number-items.ensures.value c.loop-number-item.is in
+    subst (λ (lines : List (ℕ × Option Answer)). line ≡ get_or lines i line) c.deref-number-items.ensures.value c.loop-number-item.is in
     rw p.1 (stopped_at (answer_line c.args.names.now) _ _ _ _ _ _ [] c.args.answers.now.items i line within is c.loop-number.invariant
-        c.in_err-write_if_answered.ensures)
+    c.in_err-write_if_answered.ensures)

@@ -17,10 +17,16 @@ overflow_add-extents c =
 pub loop-number-preserved : goal.loop-number-preserved
 loop-number-preserved c = record {
   counted =
-      omega (arith, c.loop-number.invariant.counted,
-          sum_row (λ (pv : List ℕ × Pv). pv.1.pe_count) c.args.group.now.pvs c.loop-number.number (c.get.result.0.now, c.get.result.1.now)
-          c.get.ensures);
+      omega (
+        arith,
+        c.loop-number.invariant.counted,
+        sum_row (λ (pv : List ℕ × Pv). pv.1.pe_count) c.args.group.now.pvs c.loop-number.number (c.get.result.0.now, c.get.result.1.now)
+            c.get.ensures,
+      );
   few =
-      omega (arith, c.loop-number.invariant.few,
-          extents_are_few c.args.group.now c.loop-number.number (c.get.result.0.now, c.get.result.1.now) c.requires c.get.ensures);
+      omega (
+        arith,
+        c.loop-number.invariant.few,
+        extents_are_few c.args.group.now c.loop-number.number (c.get.result.0.now, c.get.result.1.now) c.requires c.get.ensures,
+      );
 }

@@ -9,22 +9,33 @@ use Rattle.lvm_report.proofs.group_line.count_free.Goals as goal
 
 pub total-free-requires : goal.total-free-requires
 total-free-requires c =
-    omega (arith, (free_there c.args.group.now _ c.loop-number.number c.as_slice.result.now _ c.requires c.in_ok-all.ensures
-        (omega (arith, c.loop-number-test.true, c.len-number-end.ensures)) (c.as_slice.ensures ∙ c.get.ensures)).1)
+    omega (
+      arith,
+      (free_there c.args.group.now _ c.loop-number.number c.as_slice.result.now _ c.requires c.in_ok-all.ensures
+          (omega (arith, c.loop-number-test.true, c.len-number-end.ensures)) (c.as_slice.ensures ∙ c.get.ensures)).1,
+    )
 
 pub overflow_add-free : goal.overflow_add-free
 overflow_add-free c =
     let here =
-        free_there c.args.group.now _ c.loop-number.number c.as_slice.result.now _ c.requires c.in_ok-all.ensures
-            (omega (arith, c.loop-number-test.true, c.len-number-end.ensures)) (c.as_slice.ensures ∙ c.get.ensures) in
-    omega (arith, c.loop-number.invariant.few, pvs_are_few c.args.group.now c.requires, c.total-free.ensures, here.1,
-        c.loop-number-test.true, c.len-number-end.ensures, c.in_ok-all.ensures.count)
+    free_there c.args.group.now _ c.loop-number.number c.as_slice.result.now _ c.requires c.in_ok-all.ensures
+    (omega (arith, c.loop-number-test.true, c.len-number-end.ensures)) (c.as_slice.ensures ∙ c.get.ensures) in
+    omega (
+      arith,
+      c.loop-number.invariant.few,
+      pvs_are_few c.args.group.now c.requires,
+      c.total-free.ensures,
+      here.1,
+      c.loop-number-test.true,
+      c.len-number-end.ensures,
+      c.in_ok-all.ensures.count,
+    )
 
 pub loop-number-preserved : goal.loop-number-preserved
 loop-number-preserved c =
     let here =
-        free_there c.args.group.now _ c.loop-number.number c.as_slice.result.now _ c.requires c.in_ok-all.ensures
-            (omega (arith, c.loop-number-test.true, c.len-number-end.ensures)) (c.as_slice.ensures ∙ c.get.ensures) in
+    free_there c.args.group.now _ c.loop-number.number c.as_slice.result.now _ c.requires c.in_ok-all.ensures
+    (omega (arith, c.loop-number-test.true, c.len-number-end.ensures)) (c.as_slice.ensures ∙ c.get.ensures) in
     record {
       counted = omega (
         arith,
@@ -33,7 +44,7 @@ loop-number-preserved c =
         here.0,
         sum_row (free_extents c.args.group.now) (range_with_len 0 (length c.args.group.now.pvs)) c.loop-number.number c.loop-number.number
             (range_at (length c.args.group.now.pvs) c.loop-number.number
-                (omega (arith, c.loop-number-test.true, c.len-number-end.ensures, c.in_ok-all.ensures.count))),
+            (omega (arith, c.loop-number-test.true, c.len-number-end.ensures, c.in_ok-all.ensures.count))),
       );
       few = omega (arith, c.loop-number.invariant.few, c.total-free.ensures, here.1);
     }

@@ -9,8 +9,12 @@ overflow_add-count c = omega (arith, c.loop-number.invariant.few, c.one_if-count
 pub loop-number-preserved : goal.loop-number-preserved
 loop-number-preserved c = record {
   counted =
-      omega (arith, c.loop-number.invariant.counted, c.one_if-count.ensures,
-          count_next c.args.group.now c.loop-number.number (c.get.result.0.now, c.get.result.1.now) c.get.ensures);
+      omega (
+        arith,
+        c.loop-number.invariant.counted,
+        c.one_if-count.ensures,
+        count_next c.args.group.now c.loop-number.number (c.get.result.0.now, c.get.result.1.now) c.get.ensures,
+      );
   few = omega (arith, c.loop-number.invariant.few, c.one_if-count.ensures, one_at_most c.get.result.1.now.status.visible);
 }
 

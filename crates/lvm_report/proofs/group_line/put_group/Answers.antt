@@ -25,21 +25,21 @@ returns c =
     let line5 : List ℕ = line4 ++ right 10 (extents_of_group group) ++ space in
     let first : one ≡ text ++ line1 =
     first_column text one (left 16 group.name) space
-        (c.in_ok-put_left.ensures ∙ ap (λ (name : List ℕ). text ++ left 16 name ++ space) c.as_bytes.ensures)
+    (c.in_ok-put_left.ensures ∙ ap (λ (name : List ℕ). text ++ left 16 name ++ space) c.as_bytes.ensures)
     in
     let second : two ≡ text ++ line2 =
     column text one line1 two (right 6 (length group.pvs)) space first
-        (c.in_ok-put_right.ensures ∙ ap (λ (n : ℕ). one ++ right 6 n ++ space) c.len.ensures.count)
+    (c.in_ok-put_right.ensures ∙ ap (λ (n : ℕ). one ++ right 6 n ++ space) c.len.ensures.count)
     in
     let third : three ≡ text ++ line3 =
     column text two line2 three (right 6 (length (visible_volumes group))) space second
-        (c.in_ok-put_right-2.ensures ∙ ap (λ (n : ℕ). two ++ right 6 n ++ space) c.count_visible.ensures)
+    (c.in_ok-put_right-2.ensures ∙ ap (λ (n : ℕ). two ++ right 6 n ++ space) c.count_visible.ensures)
     in
     let fourth : four ≡ text ++ line4 = column text three line3 four (right 10 group.seqno) space third c.in_ok-put_right-3.ensures in
     let fifth : five ≡ text ++ line5 =
     column text four line4 five (right 10 (extents_of_group group)) space fourth
-        (c.in_ok-put_right-4.ensures ∙ ap (λ (n : ℕ). four ++ right 10 n ++ space) c.count_extents.ensures)
+    (c.in_ok-put_right-4.ensures ∙ ap (λ (n : ℕ). four ++ right 10 n ++ space) c.count_extents.ensures)
     in
     last_column c.put_last.result text five line5 c.put_last.new.text.items (right 10 (free_of_group group)) end fifth
     (subst (λ (n : ℕ). IfOk c.put_last.result (λ _. c.put_last.new.text.items ≡ five ++ right 10 n ++ end)) c.in_ok-count_free.ensures
-        c.put_last.ensures)
+    c.put_last.ensures)

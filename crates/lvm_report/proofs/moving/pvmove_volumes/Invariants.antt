@@ -7,4 +7,4 @@ use Rattle.lvm_report.proofs.moving.pvmove_volumes.Given as goal
 abbrev pub invariant-loop-number : goal.invariant-loop-number
 invariant-loop-number l =
     l.moving.items ++ map (has_pvmove l.group) (drop l.number (range_with_len 0 (length l.group.lvs)))
-        ≡ map (has_pvmove l.group) (range_with_len 0 (length l.group.lvs))
+    ≡ map (has_pvmove l.group) (range_with_len 0 (length l.group.lvs))

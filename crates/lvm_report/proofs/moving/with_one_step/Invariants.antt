@@ -7,4 +7,4 @@ use Rattle.lvm_report.proofs.moving.with_one_step.Given as goal
 abbrev pub invariant-loop-number : goal.invariant-loop-number
 invariant-loop-number l =
     l.moving.items ++ map (next_mark l.group l.below) (drop l.number (range_with_len 0 (length l.group.lvs)))
-        ≡ map (next_mark l.group l.below) (range_with_len 0 (length l.group.lvs))
+    ≡ map (next_mark l.group l.below) (range_with_len 0 (length l.group.lvs))

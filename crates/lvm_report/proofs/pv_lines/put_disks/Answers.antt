@@ -16,15 +16,15 @@ loop-number-preserved c =
     let before : List ℕ = c.loop-number.text.items in
     let disks : List Disk = c.args.found.now.disks in
     line_more (λ (disk : ℕ × Disk). disk_line c.args.found.now.group (name_in c.args.names.now disk.0) disk.1.contents)
-        (enumerate_from 0 disks) number (number, c.get-disk.result.now) before c.put_disk.new.text.items
+    (enumerate_from 0 disks) number (number, c.get-disk.result.now) before c.put_disk.new.text.items
     (c.args.text.now.items ++ pvs_text c.args.found.now c.args.names.now)
     (numbered_at disks number c.get-disk.result.now
-        (slice_get_read disks (length disks) number c.get-disk.result.now refl (omega arith) c.get-disk.ensures))
+    (slice_get_read disks (length disks) number c.get-disk.result.now refl (omega arith) c.get-disk.ensures))
     (c.in_ok-put_disk.ensures ∙ ap (λ (name : List ℕ). before ++ disk_line c.args.found.now.group name c.get-disk.result.now.contents)
-        c.bytes_of-name.ensures) c.loop-number.invariant
+    c.bytes_of-name.ensures) c.loop-number.invariant
 
 pub returns : goal.returns
 returns c =
     rows_walked (flat_map (λ (disk : ℕ × Disk). disk_line c.args.found.now.group (name_in c.args.names.now disk.0) disk.1.contents))
-        c.args.found.now.disks c.loop-number.number c.loop-number.text.items
+    c.args.found.now.disks c.loop-number.number c.loop-number.text.items
     (c.args.text.now.items ++ pvs_text c.args.found.now c.args.names.now) refl (omega arith) c.loop-number.invariant

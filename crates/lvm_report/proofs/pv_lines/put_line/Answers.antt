@@ -17,8 +17,8 @@ returns c =
     let extents : List ℕ = right 10 c.args.extents in
     let first : one ≡ text ++ (name ++ space) = first_column text one name space c.in_ok-put_left.ensures in
     let second : two ≡ text ++ (name ++ space ++ group ++ space) =
-        column text one (name ++ space) two group space first c.in_ok-put_left-2.ensures in
+    column text one (name ++ space) two group space first c.in_ok-put_left-2.ensures in
     let third : three ≡ text ++ (name ++ space ++ group ++ space ++ extents ++ space) =
-        column text two (name ++ space ++ group ++ space) three extents space second c.in_ok-put_right.ensures in
+    column text two (name ++ space ++ group ++ space) three extents space second c.in_ok-put_right.ensures in
     last_column c.put_last.result text three (name ++ space ++ group ++ space ++ extents ++ space) c.put_last.new.text.items
-        (right 10 c.args.free) (codes "\n") third c.put_last.ensures
+    (right 10 c.args.free) (codes "\n") third c.put_last.ensures

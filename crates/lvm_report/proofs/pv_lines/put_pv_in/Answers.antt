@@ -15,12 +15,12 @@ pub returns-in-Some : goal.returns-in-Some
 returns-in-Some c =
     let is = c.get.ensures ∙ ap (λ m. map.get m c.args.id.now) c.requires.numbers ∙ number_is c.args.group.now c.args.id.now in
     subst (λ (number : Option ℕ). IfOk c.put_listed.result
-        (λ x. c.put_listed.new.text.items ≡ c.args.text.now.items ++ pv_line_in c.args.group.now c.args.name.now number))
-        (sym c.in-Some.is ∙ is) c.put_listed.ensures
+    (λ x. c.put_listed.new.text.items ≡ c.args.text.now.items ++ pv_line_in c.args.group.now c.args.name.now number))
+    (sym c.in-Some.is ∙ is) c.put_listed.ensures
 
 pub returns-in-None : goal.returns-in-None
 returns-in-None c =
     let is = c.get.ensures ∙ ap (λ m. map.get m c.args.id.now) c.requires.numbers ∙ number_is c.args.group.now c.args.id.now in
     subst (λ (number : Option ℕ). IfOk c.put_line.result
-        (λ x. c.put_line.new.text.items ≡ c.args.text.now.items ++ pv_line_in c.args.group.now c.args.name.now number))
-        (sym c.in-None.is ∙ is) c.put_line.ensures
+    (λ x. c.put_line.new.text.items ≡ c.args.text.now.items ++ pv_line_in c.args.group.now c.args.name.now number))
+    (sym c.in-None.is ∙ is) c.put_line.ensures

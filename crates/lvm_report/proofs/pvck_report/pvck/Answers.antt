@@ -15,9 +15,9 @@ returns-clause-one g c =
     let found = c.in_ok-found.found in
     let text = c.in_ok-report.field-0 in
     holds_weaker before.told c.args.pv (λ sector_at. IsFound sector_at disk found)
-        (λ sector_at. (other : List ℕ) → IsReport sector_at disk other → other ≡ text)
+    (λ sector_at. (other : List ℕ) → IsReport sector_at disk other → other ≡ text)
     (λ sector_at is other report. one_report sector_at disk other text report (found, is, c.in_ok-report.ensures))
-        c.in_ok-found.ensures.found.1
+    c.in_ok-found.ensures.found.1
 
 pub returns-in_err-report-clause-reads : goal.returns-in_err-report-clause-reads
 returns-in_err-report-clause-reads g c =
@@ -25,4 +25,4 @@ returns-in_err-report-clause-reads g c =
     let p = err_from_is_err_and c.from_residual-in_err-report.result c.from_residual-in_err-report.ensures.1 in
     rw p.1
     (reads_first c.args.pv (slice_index_or before.sizes c.args.pv 0) before _
-        (record { found = c.in_ok-found.found; is = c.in_ok-found.ensures.found.1; reads = c.in_ok-found.ensures.found.0.reads }))
+    (record { found = c.in_ok-found.found; is = c.in_ok-found.ensures.found.1; reads = c.in_ok-found.ensures.found.0.reads }))

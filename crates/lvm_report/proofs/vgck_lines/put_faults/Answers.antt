@@ -26,7 +26,7 @@ stale_disks-stale-requires c = record {
   few = λ k d within.
       let on : All (λ (area : ℕ × ℕ). area.0 < length c.args.found.now.disks) c.as_slice.result.now =
       subst (λ (areas : List (ℕ × ℕ)). All (λ (area : ℕ × ℕ). area.0 < length c.args.found.now.disks) areas) (sym c.as_slice.ensures)
-          c.requires.stale
+      c.requires.stale
       in
       let below = on k d within in
       omega (arith, below, c.requires.few);
@@ -51,21 +51,21 @@ returns c =
     in
     let first : one ≡ text ++ stale =
     c.in_ok-put_set.ensures ∙ ap (λ (n : ℕ). text ++ disk_lines (codes "stale ") names n (set.contains c.stale_disks-stale.result))
-        c.len.ensures
+    c.len.ensures
     ∙ ap (λ (test : ℕ → Bool). text ++ disk_lines (codes "stale ") names disks test) marked
     in
     let second : two ≡ text ++ (stale ++ strays) =
     part text one stale two strays first (c.in_ok-put_set-2.ensures
-        ∙ ap (λ (n : ℕ). one ++ disk_lines (codes "stray ") names n (set.contains found.strays)) c.len-2.ensures)
+    ∙ ap (λ (n : ℕ). one ++ disk_lines (codes "stray ") names n (set.contains found.strays)) c.len-2.ensures)
     in
     let third : three ≡ text ++ (stale ++ strays ++ missing) =
     part text two (stale ++ strays) three missing second
-        (c.in_ok-put_missing.ensures ∙ ap (λ (ids : List (List ℕ)). two ++ missing_lines ids) c.as_slice-2.ensures)
+    (c.in_ok-put_missing.ensures ∙ ap (λ (ids : List (List ℕ)). two ++ missing_lines ids) c.as_slice-2.ensures)
     in
     let fourth : four ≡ text ++ (stale ++ strays ++ missing ++ unknown) =
-        part text three (stale ++ strays ++ missing) four unknown third c.in_ok-put_unknown.ensures in
+    part text three (stale ++ strays ++ missing) four unknown third c.in_ok-put_unknown.ensures in
     last_put c.put_set-3.result text four (stale ++ strays ++ missing ++ unknown) c.put_set-3.new.text.items
-        (disk_lines (codes "unreadable ") names disks (set.contains found.unread)) fourth
+    (disk_lines (codes "unreadable ") names disks (set.contains found.unread)) fourth
     (subst (λ (n : ℕ). IfOk c.put_set-3.result
-        (λ _. c.put_set-3.new.text.items ≡ four ++ disk_lines (codes "unreadable ") names n (set.contains found.unread))) c.len-3.ensures
-        c.put_set-3.ensures)
+    (λ _. c.put_set-3.new.text.items ≡ four ++ disk_lines (codes "unreadable ") names n (set.contains found.unread))) c.len-3.ensures
+    c.put_set-3.ensures)

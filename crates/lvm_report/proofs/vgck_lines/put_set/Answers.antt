@@ -13,15 +13,15 @@ loop-number-preserved c =
     let before : List ℕ = c.loop-number.text.items in
     let line : List ℕ = c.args.word.now ++ name_in c.args.names.now number ++ codes "\n" in
     line_more (λ pv. if set.contains c.args.pvs.now pv then c.args.word.now ++ name_in c.args.names.now pv ++ codes "\n" else [])
-        (range_with_len 0 c.args.disks) number number
+    (range_with_len 0 c.args.disks) number number
     before c.put_disk_if.new.text.items (c.args.text.now.items
-        ++ disk_lines c.args.word.now c.args.names.now c.args.disks (set.contains c.args.pvs.now))
+    ++ disk_lines c.args.word.now c.args.names.now c.args.disks (set.contains c.args.pvs.now))
     (range_at c.args.disks number (omega arith))
-        (c.in_ok-put_disk_if.ensures ∙ ap (λ (is : Bool). before ++ (if is then line else [])) c.contains.ensures) c.loop-number.invariant
+    (c.in_ok-put_disk_if.ensures ∙ ap (λ (is : Bool). before ++ (if is then line else [])) c.contains.ensures) c.loop-number.invariant
 
 pub returns : goal.returns
 returns c =
     range_walked (flat_map (λ pv. if set.contains c.args.pvs.now pv then c.args.word.now ++ name_in c.args.names.now pv
-        ++ codes "\n" else [])) c.args.disks c.loop-number.number c.loop-number.text.items
+    ++ codes "\n" else [])) c.args.disks c.loop-number.number c.loop-number.text.items
     (c.args.text.now.items ++ disk_lines c.args.word.now c.args.names.now c.args.disks (set.contains c.args.pvs.now)) refl (omega arith)
-        c.loop-number.invariant
+    c.loop-number.invariant

@@ -9,5 +9,5 @@ use Rattle.lvm_report.proofs.vgck_lines.put_set.Given as goal
 abbrev pub invariant-loop-number : goal.invariant-loop-number
 invariant-loop-number l =
     l.text.items ++ flat_map (λ pv. if set.contains l.pvs pv then l.word ++ name_in l.names pv ++ codes "\n" else [])
-        (drop l.number (range_with_len 0 l.disks))
+    (drop l.number (range_with_len 0 l.disks))
     ≡ l.fn.text.items ++ disk_lines l.word l.names l.disks (set.contains l.pvs)

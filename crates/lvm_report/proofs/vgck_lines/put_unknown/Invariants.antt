@@ -7,4 +7,4 @@ use Rattle.lvm_report.proofs.vgck_lines.put_unknown.Given as goal
 abbrev pub invariant-loop-number : goal.invariant-loop-number
 invariant-loop-number l =
     l.text.items ++ flat_map (λ path. codes "unknown key " ++ path ++ codes "\n") (drop l.number l.paths)
-        ≡ l.fn.text.items ++ flat_map (λ path. codes "unknown key " ++ path ++ codes "\n") l.paths
+    ≡ l.fn.text.items ++ flat_map (λ path. codes "unknown key " ++ path ++ codes "\n") l.paths

@@ -6,4 +6,4 @@ use Rattle.lvm_report.proofs.volume_lines.count_extents.Given as goal
 abbrev pub invariant-loop-segment : goal.invariant-loop-segment
 invariant-loop-segment l =
     l.extents + sum_by (λ (segment : Segment). segment.count) (drop l.segment-index l.segments)
-        ≡ sum_by (λ (segment : Segment). segment.count) l.segments
+    ≡ sum_by (λ (segment : Segment). segment.count) l.segments

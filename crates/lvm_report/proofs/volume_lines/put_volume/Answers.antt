@@ -27,20 +27,20 @@ returns c =
     let line3 : List ℕ = line2 ++ left 6 c.args.kind.now ++ space in
     let first : one ≡ text ++ line1 =
     first_column text one (left 16 c.args.name.now) space
-        (c.in_ok-put_left.ensures ∙ ap (λ (name : List ℕ). text ++ left 16 name ++ space) c.as_bytes.ensures)
+    (c.in_ok-put_left.ensures ∙ ap (λ (name : List ℕ). text ++ left 16 name ++ space) c.as_bytes.ensures)
     in
     let second : two ≡ text ++ line2 =
     column text one line1 two (left 16 c.args.group.now.name) space first
-        (c.in_ok-put_left-2.ensures ∙ ap (λ (name : List ℕ). one ++ left 16 name ++ space) c.as_bytes-2.ensures)
+    (c.in_ok-put_left-2.ensures ∙ ap (λ (name : List ℕ). one ++ left 16 name ++ space) c.as_bytes-2.ensures)
     in
     let third : three ≡ text ++ line3 =
     column text two line2 three (left 6 c.args.kind.now) space second
-        (c.in_ok-put_left-3.ensures ∙ ap (λ (kind : List ℕ). two ++ left 6 kind ++ space) c.as_bytes-3.ensures.value)
+    (c.in_ok-put_left-3.ensures ∙ ap (λ (kind : List ℕ). two ++ left 6 kind ++ space) c.as_bytes-3.ensures.value)
     in
     let extents : c.count_extents-extents.result ≡ extents_of c.args.lv.now =
     c.count_extents-extents.ensures ∙ ap (λ (segments : List Segment). sum_by (λ (segment : Segment). segment.count) segments)
-        c.as_slice.ensures
+    c.as_slice.ensures
     in
     last_column c.put_last.result text three line3 c.put_last.new.text.items (right 12 (extents_of c.args.lv.now * size)) end third
     (subst (λ (n : ℕ). IfOk c.put_last.result (λ _. c.put_last.new.text.items ≡ three ++ right 12 (n * size) ++ end)) extents
-        c.put_last.ensures)
+    c.put_last.ensures)

@@ -22,14 +22,14 @@ put_if_visible-requires-clause-few c =
 pub loop-number-preserved : goal.loop-number-preserved
 loop-number-preserved c =
     line_more c.args.group.now c.loop-number.number (c.get.result.0.now, c.get.result.1.now) c.index.result.now c.kind_of-kind.result.now
-        c.loop-number.text.items c.put_if_visible.new.text.items (c.args.text.now.items ++ lv_lines c.args.group.now) c.get.ensures
+    c.loop-number.text.items c.put_if_visible.new.text.items (c.args.text.now.items ++ lv_lines c.args.group.now) c.get.ensures
     (c.index.ensures ∙ mark_at c.args.group.now c.in_ok-moving.moving.items 4 c.loop-number.number c.index.result.now c.in_ok-moving.ensures
-        (omega arith))
+    (omega arith))
     c.kind_of-kind.ensures c.in_ok-put_if_visible.ensures c.loop-number.invariant
 
 pub returns : goal.returns
 returns c =
     rows_walked (λ (rows : List (ℕ × (List ℕ × Lv))). flat_map (lv_line c.args.group.now)
-        (filter (λ (lv : ℕ × (List ℕ × Lv)). lv.1.1.status.visible) rows)) c.args.group.now.lvs c.loop-number.number
-        c.loop-number.text.items
+    (filter (λ (lv : ℕ × (List ℕ × Lv)). lv.1.1.status.visible) rows)) c.args.group.now.lvs c.loop-number.number
+    c.loop-number.text.items
     (c.args.text.now.items ++ lv_lines c.args.group.now) refl (omega arith) c.loop-number.invariant

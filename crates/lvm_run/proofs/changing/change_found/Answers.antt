@@ -29,7 +29,7 @@ returns-in-Err g c =
 pub carry_out-requires-clause-state : goal.carry_out-requires-clause-state
 carry_out-requires-clause-state g c =
     subst IsState (sym c.in-Ok.ensures.2) (whole_is_state c.args.found c.args.names.now c.in-Ok.ensures.0 c.requires.shape c.requires.whole
-        c.requires.count c.requires.named)
+    c.requires.count c.requires.named)
 
 pub carry_out-requires-clause-backup : goal.carry_out-requires-clause-backup
 carry_out-requires-clause-backup g c =
@@ -51,5 +51,5 @@ returns g c =
       again = e.again;
       carried =
           subst (λ (state : GroupState). IsCarried state c.args.line.now c.args.now (g.S.Shelf.state c.args.shelf.now) c.carry_out.result
-              (g.S.Shelf.state c.carry_out.new.shelf)) judged.2 e.carried;
+          (g.S.Shelf.state c.carry_out.new.shelf)) judged.2 e.carried;
     }

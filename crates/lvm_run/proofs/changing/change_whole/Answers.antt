@@ -40,24 +40,25 @@ returns-in-Ok g c =
       follows = (told_of s1 (g.met.S.Shelf.lawful c.repair.new.shelf)).record_is;
       steps = (told_of s1 (g.met.S.Shelf.lawful c.repair.new.shelf)).steps;
       begun_is = c.steps-begun.ensures;
-      whole =
-          (subst HasShape c.into_found-found.ensures.found c.into_found-found.ensures.shape,
-              subst IsWhole c.into_found-found.ensures.found c.into_found-found.ensures.whole);
+      whole = (
+        subst HasShape c.into_found-found.ensures.found c.into_found-found.ensures.shape,
+        subst IsWhole c.into_found-found.ensures.found c.into_found-found.ensures.whole,
+      );
       cause = e.cause;
       told = e.told;
       images = e.images;
       goes =
           subst (λ (f : Found). IsCarriedOut f c.args.names.now c.args.line.now c.args.now s1 c.change_found-outcome.result.0
-              c.change_found-outcome.result.1 (g.S.Shelf.state c.change_found-outcome.new.shelf)) c.into_found-found.ensures.found
-              c.change_found-outcome.ensures;
+          c.change_found-outcome.result.1 (g.S.Shelf.state c.change_found-outcome.new.shelf)) c.into_found-found.ensures.found
+          c.change_found-outcome.ensures;
     }
 
 pub change_found-outcome-requires-clause-count : goal.change_found-outcome-requires-clause-count
 change_found-outcome-requires-clause-count g c =
     c.requires.count ∙ sym (repaired_count c.args.whole)
-        ∙ ap (λ (f : Found). length f.disks) (sym (c.into_found-found.ensures.found ∙ c.in-Ok.ensures.cause.now))
+    ∙ ap (λ (f : Found). length f.disks) (sym (c.into_found-found.ensures.found ∙ c.in-Ok.ensures.cause.now))
 
 pub change_found-outcome-requires-clause-sizes : goal.change_found-outcome-requires-clause-sizes
 change_found-outcome-requires-clause-sizes g c =
     c.in-Ok.ensures.again.sizes ∙ c.requires.sizes ∙ sym (repaired_sizes c.args.whole)
-        ∙ ap (λ (f : Found). sizes_of f.disks) (sym (c.into_found-found.ensures.found ∙ c.in-Ok.ensures.cause.now))
+    ∙ ap (λ (f : Found). sizes_of f.disks) (sym (c.into_found-found.ensures.found ∙ c.in-Ok.ensures.cause.now))

@@ -23,13 +23,13 @@ pub returns-in-Err-clause-meets : goal.returns-in-Err-clause-meets
 returns-in-Err-clause-meets g c =
     let e = c.in-Err.ensures in
     meets_unopened c.args.names.now c.args.line.now.command c.args.line.now.id c.args.now (g.S.Shelf.state c.args.shelf.now)
-        (g.S.Shelf.state c.open_disks.new.shelf) c.in-Err.ending e.again e.cause e.told
+    (g.S.Shelf.state c.open_disks.new.shelf) c.in-Err.ending e.again e.cause e.told
 
 pub returns-in-Err-clause-entered : goal.returns-in-Err-clause-entered
 returns-in-Err-clause-entered g c =
     let s1 = g.S.Shelf.state c.open_disks.new.shelf in
     kept_unopened c.args.names.now c.args.now c.args.line.now (g.S.Shelf.state c.args.shelf.now) s1 c.steps.result c.in-Err.ending
-        c.in-Err.ensures.again.later (told_of s1 (g.met.S.Shelf.lawful c.open_disks.new.shelf)) c.in-Err.ensures.told
+    c.in-Err.ensures.again.later (told_of s1 (g.met.S.Shelf.lawful c.open_disks.new.shelf)) c.in-Err.ensures.told
 
 pub returns-in-Ok-clause-meets : goal.returns-in-Ok-clause-meets
 returns-in-Ok-clause-meets g c =
@@ -42,13 +42,13 @@ returns-in-Ok-clause-meets g c =
     let count : length c.args.names.now ≡ length c.in-Ok.whole.disks = omega (arith, many, sizes, c.requires.disks.many) in
     let line = c.args.line.now in
     let same : line ≡ record { number = 1; id = line.id; command = line.command } =
-        ap (λ (n : ℕ). record { number = n; id = line.id; command = line.command }) c.requires.first in
+    ap (λ (n : ℕ). record { number = n; id = line.id; command = line.command }) c.requires.first in
     let changed =
-        subst (λ (l : Line). IsChanged c.in-Ok.whole c.args.names.now l c.args.now s1 c.change_whole.result.outcome
-            c.change_whole.result.begun c.change_whole.result.took s2) same c.change_whole.ensures in
+    subst (λ (l : Line). IsChanged c.in-Ok.whole c.args.names.now l c.args.now s1 c.change_whole.result.outcome
+    c.change_whole.result.begun c.change_whole.result.took s2) same c.change_whole.ensures in
     meets_changed c.args.names.now line.command line.id c.args.now s0 c.in-Ok.whole s1 e.cause e.again e.told
     (told_of s0 (g.met.S.Shelf.lawful c.args.shelf.now)).record_is c.requires.planned c.requires.time count c.requires.named
-        c.change_whole.result.outcome c.change_whole.result.begun c.change_whole.result.took s2
+    c.change_whole.result.outcome c.change_whole.result.begun c.change_whole.result.took s2
     (told_of s2 (g.met.S.Shelf.lawful c.change_whole.new.shelf)).record_is changed
 
 pub returns-in-Ok-clause-entered : goal.returns-in-Ok-clause-entered
@@ -61,7 +61,7 @@ returns-in-Ok-clause-entered g c =
     let s2 = g.S.Shelf.state c.change_whole.new.shelf in
     let e = c.in-Ok.ensures in
     kept_changed c.line_histories.ensures.lines c.line_histories.ensures.clears c.line_histories.ensures.ends c.done_sets_agree.ensures.done
-        c.done_sets_agree.ensures.made c.args.names.now c.args.now c.args.line.now s0 c.in-Ok.whole s1 e.cause e.told count c.requires.named
-        c.requires.planned c.requires.time
+    c.done_sets_agree.ensures.made c.args.names.now c.args.now c.args.line.now s0 c.in-Ok.whole s1 e.cause e.told count c.requires.named
+    c.requires.planned c.requires.time
     (told_of s0 (g.met.S.Shelf.lawful c.args.shelf.now)) e.again.later s2 c.change_whole.result.outcome c.change_whole.result.begun
-        c.change_whole.result.took (told_of s2 (g.met.S.Shelf.lawful c.change_whole.new.shelf)) c.change_whole.ensures
+    c.change_whole.result.took (told_of s2 (g.met.S.Shelf.lawful c.change_whole.new.shelf)) c.change_whole.ensures

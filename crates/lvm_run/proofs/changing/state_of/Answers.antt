@@ -17,11 +17,16 @@ same_words (x ∷ xs) (y ∷ ys) same =
 pub returns : goal.returns
 returns c =
     let names =
-        c.from_vec-names.ensures ∙ (same_words c.as_vec.result.now.items c.in_ok-clone.field-0.items c.in_ok-clone.ensures.cases.0
-            ∙ c.as_vec.ensures) in
-    (
+    c.from_vec-names.ensures ∙ (same_words c.as_vec.result.now.items c.in_ok-clone.field-0.items c.in_ok-clone.ensures.cases.0
+    ∙ c.as_vec.ensures) in (
       c.in_ok-backup.backup,
       c.in_ok-backup.ensures,
-      λ i. record { group = c.args.found.group; disks = c.args.found.disks; names = names i; areas = c.args.found.areas;
-          disk_of = c.args.found.disk_of; backup = c.in_ok-backup.backup },
+      λ i. record {
+        group = c.args.found.group;
+        disks = c.args.found.disks;
+        names = names i;
+        areas = c.args.found.areas;
+        disk_of = c.args.found.disk_of;
+        backup = c.in_ok-backup.backup;
+      },
     )

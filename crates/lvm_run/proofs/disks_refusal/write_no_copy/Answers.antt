@@ -14,4 +14,4 @@ pub returns-in_err-write_refused : goal.returns-in_err-write_refused
 returns-in_err-write_refused g c =
     let p = err_from_is_err_and c.from_residual-in_err-write_refused.result c.from_residual-in_err-write_refused.ensures.1 in
     rw p.1 (stopped_at (codes "NoCopy") (refused_values c.args.names.now) _ _ _ _ _ _ _ _ _ c.loop-area-test.true c.area-item.is
-        c.loop-area.invariant c.in_err-write_refused.ensures)
+    c.loop-area.invariant c.in_err-write_refused.ensures)

@@ -14,4 +14,4 @@ pub returns-in_err-write_id : goal.returns-in_err-write_id
 returns-in_err-write_id g c =
     let p = err_from_is_err_and c.from_residual-in_err-write_id.result c.from_residual-in_err-write_id.ensures.1 in
     rw p.1 (stopped_at (codes "Partial") id_values _ _ _ _ _ _ _ _ _ c.loop-id-test.true c.id-item.is c.loop-id.invariant
-        c.in_err-write_id.ensures)
+    c.in_err-write_id.ensures)

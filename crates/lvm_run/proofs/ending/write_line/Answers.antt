@@ -7,9 +7,9 @@ pub returns-in_err-write_bytes-2 : goal.returns-in_err-write_bytes-2
 returns-in_err-write_bytes-2 g c =
     let p = err_from_is_err_and c.from_residual-in_err-write_bytes-2.result c.from_residual-in_err-write_bytes-2.ensures.1 in
     rw p.1 (failed_before _ _ _ _ _ (codes "\n")
-        (written_both _ _ _ _ _ _ _ _ false c.in_ok-write_bytes.ensures c.in_err-write_bytes-2.ensures))
+    (written_both _ _ _ _ _ _ _ _ false c.in_ok-write_bytes.ensures c.in_err-write_bytes-2.ensures))
 
 pub returns : goal.returns
 returns g c =
     written_both _ _ _ _ _ _ _ (codes "\n") _ (written_both _ _ _ _ _ _ _ _ true c.in_ok-write_bytes.ensures c.in_ok-write_bytes-2.ensures)
-        c.write_bytes-3.ensures
+    c.write_bytes-3.ensures

@@ -12,9 +12,9 @@ pub returns-in_err-write : goal.returns-in_err-write
 returns-in_err-write g c =
     let p = err_from_is_err_and c.from_residual-in_err-write.result c.from_residual-in_err-write.ensures.1 in
     rw p.1 (failed_before _ _ _ _ _ (codes "\n")
-        (written_both _ _ _ _ _ _ (codes "scan refused ") _ false c.in_ok-write_bytes.ensures c.in_err-write.ensures))
+    (written_both _ _ _ _ _ _ (codes "scan refused ") _ false c.in_ok-write_bytes.ensures c.in_err-write.ensures))
 
 pub returns : goal.returns
 returns g c =
     written_both _ _ _ _ _ _ _ (codes "\n") _
-        (written_both _ _ _ _ _ _ (codes "scan refused ") _ true c.in_ok-write_bytes.ensures c.in_ok-write.ensures) c.write_bytes-2.ensures
+    (written_both _ _ _ _ _ _ (codes "scan refused ") _ true c.in_ok-write_bytes.ensures c.in_ok-write.ensures) c.write_bytes-2.ensures

@@ -15,9 +15,9 @@ returns-in-Ok-None-clause-kept g c = λ unforced.
 pub returns-in-Ok-Some-clause-kept : goal.returns-in-Ok-Some-clause-kept
 returns-in-Ok-Some-clause-kept g c = λ unforced.
     left_looked_at (words_of c.args.words.now.items) (g.S.Shelf.state c.args.shelf) (g.S.Shelf.state c.find_unless.new.shelf)
-        c.find_unless.ensures.looks
+    c.find_unless.ensures.looks
 
 pub returns-in-Err-clause-kept : goal.returns-in-Err-clause-kept
 returns-in-Err-clause-kept g c = λ unforced.
     left_looked_at (words_of c.args.words.now.items) (g.S.Shelf.state c.args.shelf) (g.S.Shelf.state c.find_unless.new.shelf)
-        c.find_unless.ensures.looks
+    c.find_unless.ensures.looks

@@ -25,7 +25,7 @@ finish-status-requires-clause-first g c =
     let from = source (g.R.Source.left c.args.script.now) (g.R.Source.fault_count c.args.script.now) in
     let to = source (g.R.Source.left c.run_words-ran.new.script) (g.R.Source.fault_count c.run_words-ran.new.script) in
     words_first (words_of c.deref.result.now) c.args.now e.0 from to (g.N.Words64.upcoming c.args.ids.now) (g.S.Shelf.state c.args.shelf)
-        ran.outcome (g.N.Words64.upcoming c.run_words-ran.new.ids) (g.S.Shelf.state c.run_words-ran.new.shelf) e.1
+    ran.outcome (g.N.Words64.upcoming c.run_words-ran.new.ids) (g.S.Shelf.state c.run_words-ran.new.shelf) e.1
 
 pub returns : goal.returns
 returns g c =
@@ -40,7 +40,7 @@ returns g c =
     let words = words_of c.args.words.now.items in
     let words_are = c.deref.ensures.value in
     let runs : RunsWords words c.args.now e.0 from to ids s0 ran.outcome after s1 =
-        subst (λ (w : List (String _)). RunsWords (words_of w) c.args.now e.0 from to ids s0 ran.outcome after s1) words_are e.1 in
+    subst (λ (w : List (String _)). RunsWords (words_of w) c.args.now e.0 from to ids s0 ran.outcome after s1) words_are e.1 in
     let journal = c.finish-status.ensures.journal ∙ ap (λ (n : ℕ). journal_by ran.begun ran.took n ran.outcome) c.steps.ensures in
     record {
       run = (
@@ -49,7 +49,7 @@ returns g c =
         runs,
         ends_alike c.run_words-ran.result.1 (names_of words) ran.outcome c.finish-status.result _ _ _ _
             (c.run_words-ran.ensures.output ∙ ap (λ (w : List (String _)). output_of (names_of (words_of w)) ran.outcome) words_are)
-                c.finish-status.ensures.ends,
+            c.finish-status.ensures.ends,
         record {
           printed = λ is.
               printed_answers (names_of words) ran.outcome (words_first words c.args.now e.0 from to ids s0 ran.outcome after s1 runs) is
@@ -58,9 +58,9 @@ returns g c =
               c.finish-status.ensures.answers ∙ sym (entered_answers words c.args.now e.0 from to ids s0 ran.outcome after s1 runs);
           entered =
               subst (λ (j : List JournalEntry). IsEntered (names_of words) c.args.now s0 j (lines_of_words words e.0 ids ran.outcome) s1)
-                  (sym {A = List JournalEntry} journal)
+              (sym {A = List JournalEntry} journal)
               (subst (λ (w : List (String _)). IsEntered (names_of (words_of w)) c.args.now s0
-                  (journal_by ran.begun ran.took s1.steps ran.outcome) (lines_of_words (words_of w) e.0 ids ran.outcome) s1) words_are e.2);
+              (journal_by ran.begun ran.took s1.steps ran.outcome) (lines_of_words (words_of w) e.0 ids ran.outcome) s1) words_are e.2);
         },
       );
     }

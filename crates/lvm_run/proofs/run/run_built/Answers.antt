@@ -14,7 +14,7 @@ pub returns-then-changes-clause-meets : goal.returns-then-changes-clause-meets
 returns-then-changes-clause-meets g c =
     let s0 = g.S.Shelf.state c.args.shelf.now in
     subst (λ (spec : CommandSpec). Meets spec (context_with c.args.names.now c.args.line.id c.args.now s0) s0 c.run_change.result.outcome
-        (g.S.Shelf.state c.run_change.new.shelf))
+    (g.S.Shelf.state c.run_change.new.shelf))
     (sym (spec_of_changing c.args.line.command c.requires.built (sym c.changes.ensures ∙ c.if-changes.true))) c.run_change.ensures.meets
 
 pub returns-clause-entered : goal.returns-clause-entered
@@ -35,11 +35,11 @@ returns-clause-entered g c =
     ]
     in
     subst (λ (n : ℕ). IsEntered c.args.names.now c.args.now s0 (journal_by n c.if-is_report.took s1.steps outcome)
-        (lines_by c.args.line outcome) s1) (sym begun)
+    (lines_by c.args.line outcome) s1) (sym begun)
     (subst (λ (o : Option ℕ). IsEntered c.args.names.now c.args.now s0
-        (journal_by (if reports_scan c.args.line.command then s1.steps else s0.steps) o s1.steps outcome) (lines_by c.args.line outcome) s1)
-        (sym took)
+    (journal_by (if reports_scan c.args.line.command then s1.steps else s0.steps) o s1.steps outcome) (lines_by c.args.line outcome) s1)
+    (sym took)
     (kept_report c.args.names.now c.args.now c.args.line s0 s1 c.run_reading-outcome.ensures.again.later
-        (told_of s0 (g.met.S.Shelf.lawful c.args.shelf.now)) (told_of s1 (g.met.S.Shelf.lawful c.run_reading-outcome.new.shelf))
+    (told_of s0 (g.met.S.Shelf.lawful c.args.shelf.now)) (told_of s1 (g.met.S.Shelf.lawful c.run_reading-outcome.new.shelf))
     (report_is c.args.line.command c.requires.built (sym c.changes.ensures ∙ c.if-changes.false)) c.run_reading-outcome.ensures.given
-        outcome c.run_reading-outcome.ensures.cause c.run_reading-outcome.ensures.told))
+    outcome c.run_reading-outcome.ensures.cause c.run_reading-outcome.ensures.told))

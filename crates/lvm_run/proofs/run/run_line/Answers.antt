@@ -14,12 +14,12 @@ returns-then-not-is_built g c =
     let s0 = g.S.Shelf.state c.args.shelf.now in
     let from = source (g.R.Source.left c.args.script.now) (g.R.Source.fault_count c.args.script.now) in
     rw (sym c.is_built.ensures ∙ c.if-not-is_built.true, c.ended.ensures)
-        ([], refused_alone from s0, kept_undone c.args.names.now c.args.now s0 (told_of s0 (g.met.S.Shelf.lawful c.args.shelf.now)))
+    ([], refused_alone from s0, kept_undone c.args.names.now c.args.now s0 (told_of s0 (g.met.S.Shelf.lawful c.args.shelf.now)))
 
 pub run_built-requires-clause-built : goal.run_built-requires-clause-built
 run_built-requires-clause-built g c =
     ap (λ (l : Line). is_built l.command) c.in-Ok.ensures.2 ∙ built_with_text c.in-Ok.ensures.0 c.args.line ∙ sym c.is_built.ensures
-        ∙ c.if-not-is_built.false
+    ∙ c.if-not-is_built.false
 
 pub run_built-requires-clause-planned : goal.run_built-requires-clause-planned
 run_built-requires-clause-planned g c =
@@ -43,6 +43,8 @@ returns-in-Ok g c =
 pub returns-in-Err : goal.returns-in-Err
 returns-in-Err g c =
     let s0 = g.S.Shelf.state c.args.shelf.now in
-    rw (sym c.is_built.ensures ∙ c.if-not-is_built.false, c.ended-in-Err.ensures)
-    ([], inr (record { ending = c.in-Err.ending; is = refl; why = c.in-Err.ensures; nothing = refl {a = s0} }),
-        kept_undone c.args.names.now c.args.now s0 (told_of s0 (g.met.S.Shelf.lawful c.args.shelf.now)))
+    rw (sym c.is_built.ensures ∙ c.if-not-is_built.false, c.ended-in-Err.ensures) (
+      [],
+      inr (record { ending = c.in-Err.ending; is = refl; why = c.in-Err.ensures; nothing = refl {a = s0} }),
+      kept_undone c.args.names.now c.args.now s0 (told_of s0 (g.met.S.Shelf.lawful c.args.shelf.now)),
+    )

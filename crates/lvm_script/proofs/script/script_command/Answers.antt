@@ -7,4 +7,4 @@ pub returns-in-Err : goal.returns-in-Err
 returns-in-Err c =
     rw c.refusal_at.ensures
     (refused_words c.args.name c.args.place c.args.end (placed c.args.rest.now) c.in-Err.refusal
-        (sym c.is_for_scripts.ensures ∙ c.if-not-is_for_scripts.false) c.in-Err.ensures.err)
+    (sym c.is_for_scripts.ensures ∙ c.if-not-is_for_scripts.false) c.in-Err.ensures.err)

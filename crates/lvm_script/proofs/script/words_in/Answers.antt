@@ -16,4 +16,4 @@ pub returns : goal.returns
 returns c =
     let here : c.loop-at.at ≡ length c.args.line.now = omega arith in
     c.in_ok-push_word-2.ensures ∙ line_end (subst (λ n. Named c.args.line.now c.loop-at.from n (placed c.loop-at.words.items)) here
-        c.loop-at.invariant)
+    c.loop-at.invariant)

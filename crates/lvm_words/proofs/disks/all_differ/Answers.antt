@@ -15,10 +15,10 @@ returns-then-not-branch c =
     let next = from_before names at c.index-names-at.result (omega arith) (omega arith) c.index-names-at.is in
     let words = words_of (drop at names) in
     let word : c.as_str.result.now ∷ words ≡ words_of (drop (at - 1) names) =
-        ap (λ (w : Word). w ∷ words) c.as_str.ensures.value ∙ sym next in
+    ap (λ (w : Word). w ∷ words) c.as_str.ensures.value ∙ sym next in
     sym (stands_twice names (at - 1) (ap all_differ (sym word)
-        ∙ one_repeats c.loop-at.behind c.as_str.result words c.loop-at.invariant c.in_ok-insert.field-0 c.in_ok-insert.ensures.added
-        c.if-not-branch.true))
+    ∙ one_repeats c.loop-at.behind c.as_str.result words c.loop-at.invariant c.in_ok-insert.field-0 c.in_ok-insert.ensures.added
+    c.if-not-branch.true))
 
 pub loop-at-preserved : goal.loop-at-preserved
 loop-at-preserved c =
@@ -27,10 +27,10 @@ loop-at-preserved c =
     let next = from_before names at c.index-names-at.result (omega arith) (omega arith) c.index-names-at.is in
     let words = words_of (drop at names) in
     let word : c.as_str.result.now ∷ words ≡ words_of (drop (at - 1) names) =
-        ap (λ (w : Word). w ∷ words) c.as_str.ensures.value ∙ sym next in
+    ap (λ (w : Word). w ∷ words) c.as_str.ensures.value ∙ sym next in
     subst (λ (ws : List Word). DifferIn c.insert.new.self ws) word
     (one_differs c.loop-at.behind c.as_str.result words c.loop-at.invariant c.in_ok-insert.field-0 c.in_ok-insert.ensures.added
-        c.insert.new.self c.if-not-branch.false c.in_ok-insert.ensures.updates)
+    c.insert.new.self c.if-not-branch.false c.in_ok-insert.ensures.updates)
 
 pub returns : goal.returns
 returns c =

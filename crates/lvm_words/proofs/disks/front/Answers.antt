@@ -23,7 +23,7 @@ returns-then-not-is_disk_name-clause-no_meaning c = λ _.
     ∙ ap (option_map (after_names (words_of c.loop-at.names.items)))
     (misnamed_at c.args.words.now c.loop-at.at c.index-words-at.result c.loop-at-test.true c.index-words-at.is
     c.index-words-at-in-loop-at.result (omega arith) c.index-words-at-in-loop-at.is
-        (sym c.is_disk_option.ensures ∙ c.if-is_disk_option.true)
+    (sym c.is_disk_option.ensures ∙ c.if-is_disk_option.true)
     (ap is_disk_name (sym c.as_bytes.ensures.value) ∙ sym c.is_disk_name.ensures ∙ c.if-not-is_disk_name.true))
 
 pub loop-at-preserved : goal.loop-at-preserved
@@ -33,7 +33,7 @@ loop-at-preserved c =
     let names = words_of c.loop-at.names.items in
     let name = c.index-words-at-in-loop-at.result in
     let pair =
-        pair_at words at c.index-words-at.result c.loop-at-test.true c.index-words-at.is name (omega arith) c.index-words-at-in-loop-at.is
+    pair_at words at c.index-words-at.result c.loop-at-test.true c.index-words-at.is name (omega arith) c.index-words-at-in-loop-at.is
     (sym c.is_disk_option.ensures ∙ c.if-is_disk_option.true)
     (ap is_disk_name (sym c.as_bytes.ensures.value) ∙ sym c.is_disk_name.ensures ∙ c.if-not-is_disk_name.false) in
     let more : words_of c.push.new.self.items ≡ names ++ string_bytes name ∷ [] =
@@ -56,7 +56,7 @@ returns-clause-ok c =
     elim c.loop-at-test.branch [
       | then-loop-at-test+else-is_disk_option w ↦ ends_with words _ at names (take_rest words at) c.loop-at.invariant.front
           (ends_at words at w.index-words-at.result w.loop-at-test.true w.index-words-at.is
-              (sym w.is_disk_option.ensures ∙ w.if-is_disk_option.false))
+          (sym w.is_disk_option.ensures ∙ w.if-is_disk_option.false))
       | else-loop-at-test w ↦ ends_with words _ at names (take_rest words at) c.loop-at.invariant.front
           (ends_past words at w.loop-at-test.false)
     ]

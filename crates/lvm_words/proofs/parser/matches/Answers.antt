@@ -12,7 +12,7 @@ returns-clause-matches c =
     let app = c.in_ok-command.ensures in
     IfOk-weaker c.try_get_matches_from.result _ _
     (λ m h. (h (ap is_simple app ∙ simple_app c.args.rows.now)).0 ∙ ap (λ a. matches_of a (words_of c.args.words.now)) app)
-        c.try_get_matches_from.ensures.matches
+    c.try_get_matches_from.ensures.matches
 
 pub returns-clause-kinds : goal.returns-clause-kinds
 returns-clause-kinds c =

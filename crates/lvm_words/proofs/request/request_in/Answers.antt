@@ -16,11 +16,11 @@ returns c =
     ap (list_all (values_pass found)) (sym c.options.ensures) ∙ sym c.options_pass.ensures ∙ c.if-not-options_pass.false in
     let words_fine : arguments_pass c.args.name 0 (words_in c.as_slice-2.result.now) ≡ true =
     ap (λ words. arguments_pass c.args.name 0 (words_in words)) (c.as_slice-2.ensures.value ∙ sym c.deref.ensures.value)
-        ∙ sym c.arguments_pass.ensures ∙ c.if-not-arguments_pass.false in
+    ∙ sym c.arguments_pass.ensures ∙ c.if-not-arguments_pass.false in
     let pairs : map (λ pair. (pair.0, pair.1.now)) c.as_slice.result.now ≡ pairs_of (options_of c.args.name) found =
     ap (map (λ pair. (pair.0, pair.1.now))) c.as_slice.ensures.value ∙ c.in_ok-pairs.ensures
-        ∙ ap (λ options. pairs_of options found) c.options-2.ensures in
+    ∙ ap (λ options. pairs_of options found) c.options-2.ensures in
     IfOk-weaker c.request_by_name.result _ _
     (λ request is. is ∙ request_alike c.args.name found _ _ pairs (ap words_in c.as_slice-2.ensures.value ∙ c.in_ok-words.ensures)
-        options_fine words_fine)
+    options_fine words_fine)
     c.request_by_name.ensures

@@ -15,7 +15,7 @@ pub returns-then-not-branch : goal.returns-then-not-branch
 returns-then-not-branch c =
     let words = words_of c.args.words.now in
     strays_mean_nothing c.args.name words c.in_ok-only_options.field-0
-        (c.in_ok-only_options.ensures ∙ ap (λ rows. no_stray rows nothing_split words) c.options.ensures) c.if-not-branch.true
+    (c.in_ok-only_options.ensures ∙ ap (λ rows. no_stray rows nothing_split words) c.options.ensures) c.if-not-branch.true
 
 pub returns-in-Ok : goal.returns-in-Ok
 returns-in-Ok c =
@@ -34,4 +34,4 @@ returns-in-Err-2 c =
     let words = words_of c.args.words.now in
     let other : kind_of c.in-Err-2.field-0 ≢ kind.OutOfMemory = search rules in
     open_means_nothing c.args.name words (ap (λ rows. is_complete (split_of rows words)) (sym c.options-2.ensures)
-        ∙ c.in-Err-2.ensures.lacks other)
+    ∙ c.in-Err-2.ensures.lacks other)

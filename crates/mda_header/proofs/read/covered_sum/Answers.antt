@@ -7,4 +7,4 @@ use Rattle.mda_header.proofs.read.covered_sum.Goals as goal
 pub returns : goal.returns
 returns c =
     c.crc.ensures ∙ ap (checksum lvm_crc_start)
-        (between_to_end c.as_bytes.result.now 4 512 (omega arith) ∙ ap (drop 4) c.as_bytes.ensures.value)
+    (between_to_end c.as_bytes.result.now 4 512 (omega arith) ∙ ap (drop 4) c.as_bytes.ensures.value)

@@ -4,15 +4,15 @@ use Rattle.mda_header.specs.declared.header.MdaHeader.{MdaHeader}
 use Rattle.mda_header.specs.Header.{IsCommitted, IsHeader}
 use Rattle.mda_header.proofs.Fields.{inside_committed, inside_precommitted, none_committed, one_reading}
 use Rattle.mda_header.proofs.read.read_mda.Goals as goal
-use Rattle.mda_header.proofs.read.read_mda.Goals.{else-committed-ne0-via-then-committed-ne0+else-not-is_inside,
-    else-committed-ne0-via-else-committed-ne0}
+use Rattle.mda_header.proofs.read.read_mda.Goals.{else-committed-ne0-via-then-committed-ne0+else-not-is_inside}
+use Rattle.mda_header.proofs.read.read_mda.Goals.{else-committed-ne0-via-else-committed-ne0}
 
 committed_is : (c : goal.After-has_ignored_bit) → IsCommitted c.args.sector.now c.args.size c.if_inside.result
 committed_is c =
     elim c.else-committed-ne0.branch [
       | else-committed-ne0-via-then-committed-ne0+else-not-is_inside w ↦
           inside_committed c.args.sector.now c.args.size c.if_inside.result c.get_locn-committed.result c.get_locn-committed.ensures
-              c.if_inside.ensures (w.is_inside.ensures.0 w.if-not-is_inside.false)
+          c.if_inside.ensures (w.is_inside.ensures.0 w.if-not-is_inside.false)
       | else-committed-ne0-via-else-committed-ne0 w ↦ none_committed c.args.sector.now c.args.size c.if_inside.result
           c.get_locn-committed.result c.get_locn-committed.ensures c.if_inside.ensures w.if-committed-ne0.false
     ]
@@ -35,7 +35,7 @@ header_is c = record {
   committed = committed_is c;
   precommitted =
       inside_precommitted c.args.sector.now c.args.size c.if_inside-2.result c.get_locn-precommitted.result c.get_locn-precommitted.ensures
-          c.if_inside-2.ensures;
+      c.if_inside-2.ensures;
   ignored = c.has_ignored_bit.ensures;
 }
 

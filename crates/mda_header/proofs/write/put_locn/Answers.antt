@@ -15,9 +15,9 @@ returns-clause-bytes c =
     let b : List ℕ = little_bytes 8 text.size in
     let s : List ℕ = little_bytes 4 text.sum in
     let two : c.put_u64-2.new.s ≡ with_bytes base at (a ++ b) =
-        one_more base a b c.put_u64.new.s c.put_u64-2.new.s at (at + 8) c.put_u64.ensures c.put_u64-2.ensures refl (omega arith) in
+    one_more base a b c.put_u64.new.s c.put_u64-2.new.s at (at + 8) c.put_u64.ensures c.put_u64-2.ensures refl (omega arith) in
     let three : c.put_u32.new.s ≡ with_bytes base at (a ++ b ++ s) =
-        one_more base (a ++ b) s c.put_u64-2.new.s c.put_u32.new.s at (at + 16) two c.put_u32.ensures refl (omega arith) in
+    one_more base (a ++ b) s c.put_u64-2.new.s c.put_u32.new.s at (at + 16) two c.put_u32.ensures refl (omega arith) in
     one_more base (a ++ b ++ s) (little_bytes 4 c.args.flags) c.put_u32.new.s c.put_u32-2.new.s at (at + 20) three c.put_u32-2.ensures refl
-        (omega arith)
+    (omega arith)
     ∙ ap (with_bytes base at) (locn_bytes-fields c.args.locn NO_TEXT text c.args.flags refl refl refl c.unwrap_or-locn.ensures)

@@ -9,7 +9,7 @@ returns-clause-gathered c = λ sector_at read.
     let sectors = c.args.sectors.now in
     MatchResult-weaker c.bytes_from.result c.bytes_from.ensures
     (λ bytes is. taken-text_at c.args.area.now locn sectors bytes.items sector_at c.requires.area c.requires.entry c.requires.sectors
-        (taken-slice locn sectors _ bytes.items c.as_slice.ensures.value is) read)
+    (taken-slice locn sectors _ bytes.items c.as_slice.ensures.value is) read)
     (λ _ none. none)
 
 pub returns-clause-text_sectors : goal.returns-clause-text_sectors
@@ -18,7 +18,7 @@ returns-clause-text_sectors c = λ text put whole long.
     let sectors = c.args.sectors.now in
     MatchResult-weaker c.bytes_from.result c.bytes_from.ensures
     (λ bytes is. taken-text_sectors locn sectors bytes.items text (taken-slice locn sectors _ bytes.items c.as_slice.ensures.value is) put
-        whole long)
+    whole long)
     (λ _ none. none)
 
 pub returns-clause-count : goal.returns-clause-count

@@ -12,6 +12,6 @@ returns-clause-bytes c =
     let sector = c.as_bytes.result.now in
     let among : place / 512 < length sectors = omega arith in
     let of : sector ≡ get_or sectors (place / 512) [] =
-        c.as_bytes.ensures.value ∙ c.index-sectors-place.is ∙ get_or_default sectors (place / 512) c.index-sectors-place.result [] among in
+    c.as_bytes.ensures.value ∙ c.index-sectors-place.is ∙ get_or_default sectors (place / 512) c.index-sectors-place.result [] among in
     part_bytes sectors sector _ c.args.at place c.min.result c.requires.some refl of (omega arith)
-        (ap (take c.min.result) (between_to_end sector (place % 512) 512 (omega arith)))
+    (ap (take c.min.result) (between_to_end sector (place % 512) 512 (omega arith)))

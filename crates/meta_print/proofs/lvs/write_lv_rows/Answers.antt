@@ -8,4 +8,4 @@ pub loop-number-preserved : goal.loop-number-preserved
 loop-number-preserved g c =
     prints_as (prints_both g.S.TextSink.laws c.loop-number.invariant c.in_ok-write_lv.ensures.added)
     (rows_more (lv_entries c.args.group.now) c.args.group.now.lvs c.loop-number.number (c.get.result.0.now, c.get.result.1.now)
-        c.get.ensures)
+    c.get.ensures)

@@ -15,9 +15,9 @@ loop-at-preserved g c =
     let leg : Leg = get_or c.args.legs.now c.loop-at.at (record { on = on.Pv 0; first = 0 }) in
     let name : c.name_of.result.now ≡ name_of c.args.group.now leg.on = c.name_of.ensures in
     adds_as g.S.TextSink.laws (g.S.TextSink.laws.both {ys = list_added c.loop-at.at (Text c.name_of.result.now ∷ Number leg.first ∷ [])}
-        c.loop-at.invariant c.in_ok-list_pair.ensures.added)
+    c.loop-at.invariant c.in_ok-list_pair.ensures.added)
     (ap (λ text. list_begun c.args.key.now (flat_map (pair_of c.args.group.now) (take c.loop-at.at c.args.legs.now))
-        ++ list_added c.loop-at.at (Text text ∷ Number leg.first ∷ [])) name
+    ++ list_added c.loop-at.at (Text text ∷ Number leg.first ∷ [])) name
     ∙ pieces_more (pair_of c.args.group.now) (λ l. omega arith) c.args.key.now c.args.legs.now c.loop-at.at leg
     (record { on = on.Pv 0; first = 0 }) c.loop-at-test.true refl)
 

@@ -7,7 +7,7 @@ pub returns-clause-added : goal.returns-clause-added
 returns-clause-added g c =
     let laws = g.S.TextSink.laws in
     let numbers =
-        prints_both laws (prints_both laws c.in_ok-write_numbered_open.ensures.added c.in_ok-write_number.ensures.added)
-            c.in_ok-write_number-2.ensures.added in
+    prints_both laws (prints_both laws c.in_ok-write_numbered_open.ensures.added c.in_ok-write_number.ensures.added)
+    c.in_ok-write_number-2.ensures.added in
     prints_whole laws _ _ c.write_close.result _ (prints_both laws numbers c.in_ok-write_kind.ensures.added) c.write_close.ensures.added
-        refl
+    refl

@@ -19,8 +19,8 @@ loop-is_set-preserved g c =
     elim c.if-is_set.branch [
       | then-is_set+in_ok-list_text w ↦
           let more =
-              words_set-set c.args.key.now c.args.words.now c.loop-is_set.is_set-index c.loop-is_set.count no_pair within old.counts
-                  w.if-is_set.true in
+          words_set-set c.args.key.now c.args.words.now c.loop-is_set.is_set-index c.loop-is_set.count no_pair within old.counts
+          w.if-is_set.true in
           record {
             text = rw w.sink-is (adds_as g.S.TextSink.laws (g.S.TextSink.laws.both old.text w.in_ok-list_text.ensures.added) more.0);
             counts = w.count-is ∙ more.1;

@@ -7,4 +7,4 @@ use Rattle.meta_read.proofs.pairs.pairs_in.Goals as goal
 pub returns : goal.returns
 returns c =
     sym (c.loop-rest.invariant ∙ ap (option_map (λ more. as_pairs c.loop-rest.pairs ++ more))
-        (pairs_of-one c.loop-rest.rest.now c.in_default.len_below (sym c.is_empty.ensures ∙ c.if-is_empty.false)))
+    (pairs_of-one c.loop-rest.rest.now c.in_default.len_below (sym c.is_empty.ensures ∙ c.if-is_empty.false)))

@@ -12,6 +12,6 @@ returns-else-is_striped c =
     ∷ codes "region_size" ∷ codes "extents_moved" ∷ codes "mirror_log" ∷ []) in
     let known : keys false ≡ segment_keys (items c.args.section.now) = ap keys (sym (sym c.is_striped.ensures ∙ c.if-is_striped.false)) in
     subst (λ (known : List (List ℕ)). OnOk c.pass_known-else-is_striped.result
-        (c.pass_known-else-is_striped.new.unknown.items
-        ≡ c.args.unknown.now.items ++ flat_map (λ item. unless_known known c.args.path.now item.0) (items c.args.section.now))) known
+    (c.pass_known-else-is_striped.new.unknown.items
+    ≡ c.args.unknown.now.items ++ flat_map (λ item. unless_known known c.args.path.now item.0) (items c.args.section.now))) known
     c.pass_known-else-is_striped.ensures

@@ -12,6 +12,6 @@ loop-number-preserved c = λ (q : List ℕ).
     let within : c.loop-number.number < length c.args.lvs.now = omega arith in
     let same : c.in-Ok.number ≡ c.loop-number.number = search rules in
     next_found (λ number. Lv number) c.args.lvs.now c.loop-number.number c.in-Ok.number c.index-lvs-number.result _ _ q within
-        c.index-lvs-number.is same
+    c.index-lvs-number.is same
     (c.in_ok-add-in-Ok.ensures q ∙ ap (λ before. option_or before
-        (cond (pointwise nat_eq q c.index-lvs-number.result.0.now) (Some (Lv c.in-Ok.number)) None)) (c.loop-number.invariant q))
+    (cond (pointwise nat_eq q c.index-lvs-number.result.0.now) (Some (Lv c.in-Ok.number)) None)) (c.loop-number.invariant q))

@@ -12,6 +12,6 @@ loop-number-preserved c = λ (q : List ℕ).
     let within : c.loop-number.number < length c.args.pvs.now = omega arith in
     let same : c.in-Ok.number ≡ c.loop-number.number = search rules in
     next_found (λ number. Pv number) c.args.pvs.now c.loop-number.number c.in-Ok.number c.index-pvs-number.result _ _ q within
-        c.index-pvs-number.is same
+    c.index-pvs-number.is same
     (c.in_ok-add-in-Ok.ensures q ∙ ap (λ before. option_or before
-        (cond (pointwise nat_eq q c.index-pvs-number.result.0.now) (Some (Pv c.in-Ok.number)) None)) (c.loop-number.invariant q))
+    (cond (pointwise nat_eq q c.index-pvs-number.result.0.now) (Some (Pv c.in-Ok.number)) None)) (c.loop-number.invariant q))

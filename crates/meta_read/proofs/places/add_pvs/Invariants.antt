@@ -9,4 +9,4 @@ use Rattle.meta_read.proofs.places.add_pvs.Given as goal
 abbrev pub invariant-loop-number : goal.invariant-loop-number
 invariant-loop-number l =
     (q : List ℕ) → place_in l.on.entries q ≡ option_or (place_in l.fn.on.entries q)
-        (option_map (λ number. Pv number) (position (pointwise nat_eq q) (take l.number (names_in l.pvs))))
+    (option_map (λ number. Pv number) (position (pointwise nat_eq q) (take l.number (names_in l.pvs))))

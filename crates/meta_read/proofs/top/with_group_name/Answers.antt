@@ -16,7 +16,7 @@ returns-in_err-name c =
     let tested : Read (List ℕ) = if is_none (group_name_refusal name) then Ok name else Err (BadName name) in
     let body : List ConfEntry = c.args.found.now.1 in
     rw (given.1, given.2) (subst (λ (wanted : Read (List ℕ × List ConfEntry)). GivesBy as_named wanted (Err c.in_err-name.field-0.0))
-        (tested_pair (is_none (group_name_refusal name)) name body (BadName name))
+    (tested_pair (is_none (group_name_refusal name)) name body (BadName name))
     (refused_first as_named (λ x. x) tested (paired body) c.in_err-name.field-0.0 c.in_err-name.ensures))
 
 pub returns : goal.returns
@@ -24,4 +24,4 @@ returns c =
     let name : List ℕ = c.args.found.now.0.now in
     let body : List ConfEntry = c.args.found.now.1 in
     sym (tested_pair (is_none (group_name_refusal name)) name body (BadName name))
-        ∙ ap (λ (named : Read (List ℕ)). named >>= paired body) c.in_ok-name.ensures
+    ∙ ap (λ (named : Read (List ℕ)). named >>= paired body) c.in_ok-name.ensures

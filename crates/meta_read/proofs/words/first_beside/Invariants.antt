@@ -7,4 +7,4 @@ use Rattle.meta_read.proofs.words.first_beside.Given as goal
 abbrev pub invariant-loop-word : goal.invariant-loop-word
 invariant-loop-word l =
     find (λ word. not (is_among (map as_bytes l.known) word)) (map as_bytes l.words)
-        ≡ find (λ word. not (is_among (map as_bytes l.known) word)) (map as_bytes (drop l.word-index l.words))
+    ≡ find (λ word. not (is_among (map as_bytes l.known) word)) (map as_bytes (drop l.word-index l.words))

@@ -8,4 +8,4 @@ use Rattle.meta_read.proofs.words.texts_in.Given as goal
 abbrev pub invariant-loop-scalar : goal.invariant-loop-scalar
 invariant-loop-scalar l =
     texts_of (map scalar_view l.scalars) ≡ option_map (λ more. as_words l.words ++ more)
-        (texts_of (map scalar_view (drop l.scalar-index l.scalars)))
+    (texts_of (map scalar_view (drop l.scalar-index l.scalars)))

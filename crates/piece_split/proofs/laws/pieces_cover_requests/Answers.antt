@@ -10,5 +10,7 @@ returns-clause-request c = λ volume first count write. All-from_recursion _ _ (
 
 pub returns-clause-cut : goal.returns-clause-cut
 returns-clause-cut c =
-    λ volume first count write. (All-from_recursion _ _ (all_in_blocks volume first count write),
-        All-from_recursion _ _ (later_begin volume first count write))
+    λ volume first count write. (
+      All-from_recursion _ _ (all_in_blocks volume first count write),
+      All-from_recursion _ _ (later_begin volume first count write),
+    )

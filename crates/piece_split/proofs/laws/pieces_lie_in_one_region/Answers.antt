@@ -11,7 +11,8 @@ pub returns : goal.returns
 returns c = λ group lv volume first count k write piece p accepted within lt is.
     let pieces = pieces_of volume first count write in
     let block : IsInOneBlock piece =
-        All-contains IsInOneBlock pieces piece (All-from_recursion IsInOneBlock pieces (all_in_blocks volume first count write)) within in
-    let same = sym (block.1 k lt) in
-    (places_later group lv piece.first k p accepted same is,
-        way_same group lv piece.first k p.primary accepted same (places_are group lv piece.first p is).is_primary)
+    All-contains IsInOneBlock pieces piece (All-from_recursion IsInOneBlock pieces (all_in_blocks volume first count write)) within in
+    let same = sym (block.1 k lt) in (
+      places_later group lv piece.first k p accepted same is,
+      way_same group lv piece.first k p.primary accepted same (places_are group lv piece.first p is).is_primary,
+    )

@@ -25,4 +25,4 @@ loop-left-preserved c =
 pub returns : goal.returns
 returns c =
     c.from_vec.ensures ∙ all_pieces c.args.volume c.loop-left.at c.loop-left.left c.args.write c.loop-left.pieces.items
-        (pieces_of c.args.volume c.args.first c.args.count c.args.write) (omega arith) c.loop-left.invariant.so_far
+    (pieces_of c.args.volume c.args.first c.args.count c.args.write) (omega arith) c.loop-left.invariant.so_far

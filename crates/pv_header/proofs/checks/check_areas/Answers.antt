@@ -12,7 +12,7 @@ ends_fit : (areas : List Extent) (disk_bytes : ℕ) → disk_bytes < 2 ^ 64 → 
     → All (λ area. area.offset + area.size < 2 ^ 64) areas
 ends_fit areas disk_bytes fits none =
     All-weaker (λ area. is_outside disk_bytes area ≡ false) (λ area. area.offset + area.size < 2 ^ 64)
-        (λ area h. below area.offset area.size disk_bytes fits h) areas
+    (λ area h. below area.offset area.size disk_bytes fits h) areas
     (All-from_find (is_outside disk_bytes) areas none)
   where
     below : (offset size disk_bytes : ℕ) → disk_bytes < 2 ^ 64 → nat_lt disk_bytes (offset + size) ≡ false → offset + size < 2 ^ 64

@@ -5,4 +5,4 @@ use Rattle.pv_header.proofs.checks.find_sharing.Given as goal
 abbrev pub invariant-loop-other : goal.invariant-loop-other
 invariant-loop-other l =
     find (shares_byte l.areas l.disk_bytes l.area) (drop l.other-index l.other-items)
-        ≡ find (shares_byte l.areas l.disk_bytes l.area) l.other-items
+    ≡ find (shares_byte l.areas l.disk_bytes l.area) l.other-items

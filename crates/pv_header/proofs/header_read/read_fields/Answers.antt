@@ -2,8 +2,8 @@ use Rattle.std.proofs.Common.{ℕ, ◌+◌, ◌*◌, List, sym, ap, subst, ◌�
 use Rattle.std.proofs.lemmas.Result.{err_from_is_err_and}
 use Rattle.lvm_id.specs.LvmId.{IsId}
 use Rattle.pv_header.specs.declared.refusal.PvRefusal.{PvRefusal}
-use Rattle.pv_header.specs.declared.refusal.PvRefusal.TheVariants.{NoMemory, BadId, ListUnended, AreaOutside, AreaShape, AreasOverlap,
-    Bootloader}
+use Rattle.pv_header.specs.declared.refusal.PvRefusal.TheVariants.{NoMemory, BadId, ListUnended, AreaOutside, AreaShape, AreasOverlap}
+use Rattle.pv_header.specs.declared.refusal.PvRefusal.TheVariants.{Bootloader}
 use Rattle.pv_header.specs.Extents.{IsListAt, IsUnended}
 use Rattle.pv_header.specs.PvHeader.{after_list}
 use Rattle.pv_header.specs.PvRefusal.{RefusesList, RefusesFields, IsFirstUnended}
@@ -47,8 +47,8 @@ returns-in_err-bootloader c =
     let areas = c.in_ok-areas.areas in
     let areas_at = ap (λ n. 72 + 16 * (n + 1)) c.len.ensures in
     let bootloader_at =
-        ap (λ n. n + 16 * (c.len-2.result + 1) + 8) areas_at ∙ ap (λ n. after_list 72 data_areas + 16 * (n + 1) + 8) c.len-2.ensures in
+    ap (λ n. n + 16 * (c.len-2.result + 1) + 8) areas_at ∙ ap (λ n. after_list 72 data_areas + 16 * (n + 1) + 8) c.len-2.ensures in
     rw (p.1, p.2) (list_refused sector (72 + 16 * (c.len.result + 1) + 16 * (c.len-2.result + 1) + 8) 3 c.in_err-bootloader.field-0.0
-        c.in_err-bootloader.ensures id
+    c.in_err-bootloader.ensures id
     (λ unended. bootloader_list data_areas areas c.in_ok-data_areas.ensures
-        (subst (λ at. IsListAt sector at areas) areas_at c.in_ok-areas.ensures) (subst (IsUnended sector) bootloader_at unended)))
+    (subst (λ at. IsListAt sector at areas) areas_at c.in_ok-areas.ensures) (subst (IsUnended sector) bootloader_at unended)))

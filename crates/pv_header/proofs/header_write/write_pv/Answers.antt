@@ -19,33 +19,37 @@ returns-clause-bytes c =
     let areas_len : length c.as_slice-2.result.now ≡ length h.areas = ap length c.as_slice-2.ensures in
     let zeroed = Fills-zeroed c.args.into.now c.put.new.self size c.put.ensures in
     let id_put =
-        Fills-put _ _ 32 c.put-2.new.self h.id 64 zeroed (c.put-2.ensures ∙ ap (with_bytes c.put.new.self 32) c.plain.ensures.value)
-            (omega (arith, id)) (omega arith) in
+    Fills-put _ _ 32 c.put-2.new.self h.id 64 zeroed (c.put-2.ensures ∙ ap (with_bytes c.put.new.self 32) c.plain.ensures.value)
+    (omega (arith, id)) (omega arith) in
     let device_put =
-        Fills-put _ _ 64 c.put_u64.new.s (little_bytes 8 h.device_bytes) 72 id_put c.put_u64.ensures
-            (omega (arith, length-bytes_low_first 0 8 h.device_bytes)) (omega arith) in
+    Fills-put _ _ 64 c.put_u64.new.s (little_bytes 8 h.device_bytes) 72 id_put c.put_u64.ensures
+    (omega (arith, length-bytes_low_first 0 8 h.device_bytes)) (omega arith) in
     let data_put = Fills-put _ _ 72 c.put_list-data_end.new.into (list_bytes h.data_areas) c.put_list-data_end.result device_put
     (c.put_list-data_end.ensures.bytes ∙ ap (λ xs. with_bytes c.put_u64.new.s 72 (list_bytes xs)) c.as_slice.ensures)
-        (omega (arith, length-list_bytes h.data_areas, c.put_list-data_end.ensures.end)) (omega (arith, c.put_list-data_end.ensures.end)) in
+    (omega (arith, length-list_bytes h.data_areas, c.put_list-data_end.ensures.end)) (omega (arith, c.put_list-data_end.ensures.end)) in
     let data_ended =
-        Fills-skip _ _ c.put_list-data_end.result 16 (c.put_list-data_end.result + 16) data_put refl
-            (omega (arith, c.put_list-data_end.ensures.end)) in
+    Fills-skip _ _ c.put_list-data_end.result 16 (c.put_list-data_end.result + 16) data_put refl
+    (omega (arith, c.put_list-data_end.ensures.end)) in
     let areas_put =
-        Fills-put _ _ (c.put_list-data_end.result + 16) c.put_list-areas_end.new.into (list_bytes h.areas) c.put_list-areas_end.result
-            data_ended
+    Fills-put _ _ (c.put_list-data_end.result + 16) c.put_list-areas_end.new.into (list_bytes h.areas) c.put_list-areas_end.result
+    data_ended
     (c.put_list-areas_end.ensures.bytes ∙ ap
-        (λ xs. with_bytes c.put_list-data_end.new.into (c.put_list-data_end.result + 16) (list_bytes xs)) c.as_slice-2.ensures)
-        (omega (arith, length-list_bytes h.areas, c.put_list-areas_end.ensures.end))
-        (omega (arith, c.put_list-data_end.ensures.end, c.put_list-areas_end.ensures.end)) in
+    (λ xs. with_bytes c.put_list-data_end.new.into (c.put_list-data_end.result + 16) (list_bytes xs)) c.as_slice-2.ensures)
+    (omega (arith, length-list_bytes h.areas, c.put_list-areas_end.ensures.end))
+    (omega (arith, c.put_list-data_end.ensures.end, c.put_list-areas_end.ensures.end)) in
     let extension : ℕ = c.put_list-areas_end.result + 16 in
     let extension_is : extension ≡ 104 + 16 * length h.data_areas + 16 * length h.areas =
-        omega (arith, c.put_list-data_end.ensures.end, c.put_list-areas_end.ensures.end) in
+    omega (arith, c.put_list-data_end.ensures.end, c.put_list-areas_end.ensures.end) in
     let areas_ended = Fills-skip _ _ c.put_list-areas_end.result 16 extension areas_put refl (omega arith) in
     let extension_put =
-        Fills-put _ _ extension c.put_extension.new.into (little_bytes 4 2 ++ little_bytes 4 h.flags) (extension + 8) areas_ended
-            c.put_extension.ensures.bytes
-    (omega (arith, length-append (little_bytes 4 2) (little_bytes 4 h.flags), length-bytes_low_first 0 4 2,
-        length-bytes_low_first 0 4 h.flags)) (omega arith) in
+    Fills-put _ _ extension c.put_extension.new.into (little_bytes 4 2 ++ little_bytes 4 h.flags) (extension + 8) areas_ended
+    c.put_extension.ensures.bytes
+    (omega (
+      arith,
+      length-append (little_bytes 4 2) (little_bytes 4 h.flags),
+      length-bytes_low_first 0 4 2,
+      length-bytes_low_first 0 4 h.flags,
+    )) (omega arith) in
     Fills-fields (take 32 c.args.into.now) c.put_extension.new.into h (extension + 8) id (omega arith) (omega arith) extension_put
 
 pub returns-clause-read_again : goal.returns-clause-read_again
@@ -53,6 +57,6 @@ returns-clause-read_again c = λ offsets.
     let h = c.args.header.now in
     let size : length c.args.into.now ≡ 512 = search rules in
     IsPvHeader-written c.put_extension.new.into (take 32 c.args.into.now) h (length-take-le 32 c.args.into.now (omega arith))
-        (returns-clause-bytes c) c.plain.ensures.valid (search rules) c.put_extension.ensures.fits c.requires
+    (returns-clause-bytes c) c.plain.ensures.valid (search rules) c.put_extension.ensures.fits c.requires
     (subst (All Fits64) c.as_slice.ensures c.put_list-data_end.ensures.fits)
-        (subst (All Fits64) c.as_slice-2.ensures c.put_list-areas_end.ensures.fits) offsets
+    (subst (All Fits64) c.as_slice-2.ensures c.put_list-areas_end.ensures.fits) offsets

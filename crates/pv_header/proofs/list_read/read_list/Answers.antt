@@ -21,17 +21,22 @@ returns-then-place-gt512 c = (
 pub loop-place-preserved : goal.loop-place-preserved
 loop-place-preserved c =
     let more =
-        BeginsList-more c.args.sector.now c.args.at c.loop-place.place c.get_u64-offset.result c.get_u64-size.result c.loop-place.list.items
+    BeginsList-more c.args.sector.now c.args.at c.loop-place.place c.get_u64-offset.result c.get_u64-size.result c.loop-place.list.items
     c.loop-place.invariant.begins c.loop-place.invariant.place c.get_u64-offset.ensures c.get_u64-size.ensures c.if-offset-eq0.false in
     record {
       place =
-          omega (arith, ap length c.in_ok-push.ensures.items,
-              length_push c.loop-place.list.items (record { offset = c.get_u64-offset.result; size = c.get_u64-size.result }));
+          omega (
+            arith,
+            ap length c.in_ok-push.ensures.items,
+            length_push c.loop-place.list.items (record { offset = c.get_u64-offset.result; size = c.get_u64-size.result }),
+          );
       bound = omega arith;
       begins = subst (BeginsList c.args.sector.now c.args.at) (sym c.in_ok-push.ensures.items) more;
     }
 
 pub returns : goal.returns
-returns c =
-    (refl, IsUnended-past c.args.sector.now c.args.at c.loop-place.place c.loop-place.list.items c.loop-place.invariant.begins
-        c.loop-place.invariant.place c.loop-place-test.false)
+returns c = (
+  refl,
+  IsUnended-past c.args.sector.now c.args.at c.loop-place.place c.loop-place.list.items c.loop-place.invariant.begins
+      c.loop-place.invariant.place c.loop-place-test.false,
+)

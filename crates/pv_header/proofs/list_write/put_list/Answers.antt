@@ -22,10 +22,10 @@ with_more : (old : List ℕ) (at : ℕ) (list : List Extent) (i : ℕ) (d : Exte
     ≡ with_bytes old at (list_bytes (take (i + 1) list))
 with_more old at list i d place size room h e =
     let before : length (list_bytes (take i list)) ≡ 16 * i =
-        length-list_bytes (take i list) ∙ ap (λ n. 16 * n) (length-take-le i list (omega arith)) in
+    length-list_bytes (take i list) ∙ ap (λ n. 16 * n) (length-take-le i list (omega arith)) in
     let joined =
-        with_bytes-with_bytes old at (list_bytes (take i list)) (pair_bytes (get_or list i d)) place (omega arith)
-            (omega (arith, length-pair_bytes (get_or list i d))) in
+    with_bytes-with_bytes old at (list_bytes (take i list)) (pair_bytes (get_or list i d)) place (omega arith)
+    (omega (arith, length-pair_bytes (get_or list i d))) in
     joined ∙ ap (with_bytes old at) (sym (list_bytes_more list i d h))
 
 pub loop-area-preserved : goal.loop-area-preserved
@@ -34,15 +34,15 @@ loop-area-preserved c =
     let list = c.args.list.now in
     let none : Extent = record { offset = 0; size = 0 } in
     let more =
-        with_more c.args.into.now c.args.at list i none c.loop-area.place c.loop-area.invariant.size c.requires c.loop-area-test.true
-            c.loop-area.invariant.place in
+    with_more c.args.into.now c.args.at list i none c.loop-area.place c.loop-area.invariant.size c.requires c.loop-area-test.true
+    c.loop-area.invariant.place in
     record {
       place = omega arith;
       bytes =
           c.put_pair.ensures.bytes ∙ ap (λ s. with_bytes s c.loop-area.place (pair_bytes (get_or list i none))) c.loop-area.invariant.bytes
-              ∙ more;
+          ∙ more;
       fits =
           λ k d. below_more (λ k. Fits64 (get_or list k d)) i (λ k h. c.loop-area.invariant.fits k d h)
-              (subst Fits64 (get_or_default list i none d c.loop-area-test.true) c.put_pair.ensures.fits) k;
+          (subst Fits64 (get_or_default list i none d c.loop-area-test.true) c.put_pair.ensures.fits) k;
       size = c.loop-area.invariant.size;
     }

@@ -9,6 +9,8 @@ pub returns : goal.returns
 returns c =
     let all : length c.as_bytes.result.now ≤ 512 = omega arith in
     let sum : c.crc.result ≡ checksum lvm_crc_start (drop 20 c.args.sector.now) =
-    c.crc.ensures ∙ ap (checksum lvm_crc_start) (between_to_end c.as_bytes.result.now 20 512 all ∙ ap (drop 20) c.as_bytes.ensures.value) in
-    (λ same. sym c.get_u32.ensures ∙ exact_unsigned_eq c.get_u32.result c.crc.result same ∙ sum,
-        λ same. eq-eqb c.get_u32.result c.crc.result (c.get_u32.ensures ∙ same ∙ sym sum))
+    c.crc.ensures ∙ ap (checksum lvm_crc_start)
+    (between_to_end c.as_bytes.result.now 20 512 all ∙ ap (drop 20) c.as_bytes.ensures.value) in (
+      λ same. sym c.get_u32.ensures ∙ exact_unsigned_eq c.get_u32.result c.crc.result same ∙ sum,
+      λ same. eq-eqb c.get_u32.result c.crc.result (c.get_u32.ensures ∙ same ∙ sym sum),
+    )

@@ -17,7 +17,7 @@ loop-number-preserved c =
       none = below_more _ _ c.loop-number.invariant.none (IsRefused-no_label (sector_at sectors n) n c.in-Err.cause refused);
       cause =
           rw c.first_of-refusal.ensures (IsFirstRefusal-more sectors n c.loop-number.refusal c.in-Err.cause c.loop-number.invariant.cause
-              refused);
+          refused);
     }
 
 pub returns : goal.returns

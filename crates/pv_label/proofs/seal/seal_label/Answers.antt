@@ -19,8 +19,12 @@ covered_is c =
     let written : length (with_bytes (with_bytes old 20 (little_bytes 4 32)) 24 (codes "LVM2 001")) ≡ 512 =
     ap length (sym (c.put.ensures ∙ ap (λ (s : List ℕ). with_bytes s 24 (codes "LVM2 001")) c.put_u32.ensures)) ∙ lowest in
     let fits : length old ≡ 512 =
-    omega (arith, written, length-with_bytes (with_bytes old 20 (little_bytes 4 32)) 24 (codes "LVM2 001"),
-        length-with_bytes old 20 (little_bytes 4 32)) in
+    omega (
+      arith,
+      written,
+      length-with_bytes (with_bytes old 20 (little_bytes 4 32)) 24 (codes "LVM2 001"),
+      length-with_bytes old 20 (little_bytes 4 32),
+    ) in
     let low : c.put.new.self ≡ with_bytes old 20 tail =
     c.put.ensures ∙ ap (λ (s : List ℕ). with_bytes s 24 (codes "LVM2 001")) c.put_u32.ensures
     ∙ with_bytes-behind old 20 (little_bytes 4 32) 24 (codes "LVM2 001") refl (omega arith) in
@@ -62,5 +66,5 @@ pub returns-clause-label : goal.returns-clause-label
 returns-clause-label c =
     let P : List ℕ → Type 0 = λ s. IsLabel s c.args.sector in
     let fits : checksum lvm_crc_start (summed_bytes c.args.contents.now) < 256 ^ 4 =
-        subst (λ (n : ℕ). n < 256 ^ 4) (sum_is c) c.crc-sum.type_inv in
+    subst (λ (n : ℕ). n < 256 ^ 4) (sum_is c) c.crc-sum.type_inv in
     subst P (sym (sealed_is c)) (IsLabel-with_label c.args.contents.now c.args.sector (omega arith) fits)

@@ -27,4 +27,4 @@ returns c =
     ∙ (λ i. missing_by (c.requires.found i) ((c.group.ensures.group ∙ group) i).pvs)
     ∙ missing_by_disks (readings_of [] disks) copy.group.pvs in
     decided_for copies disks c.args.held.now c.args.best copy _ c.requires.copy c.in_default.ensures c.requires.read refl stale strays
-        missing
+    missing

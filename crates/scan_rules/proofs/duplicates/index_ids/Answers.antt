@@ -22,6 +22,7 @@ loop-i-preserved c =
     elim c.match-get.branch [
       | in-Some w ↦ w.repeated-is ∙ repeats_with one more w.in-Some.other (got ∙ w.in-Some.is)
       | in_default w ↦ w.repeated-is ∙ c.loop-i.invariant.1 ∙ repeats_later one more (got ∙ w.in_default.is)
-    ] in
-    (c.in_ok-insert.ensures.ok ∙ ap (λ m. map.insert m one.1 one.0) c.loop-i.invariant.0 ∙ sym (ap disks_by_id next),
-        repeated ∙ sym (ap first_duplicate next))
+    ] in (
+      c.in_ok-insert.ensures.ok ∙ ap (λ m. map.insert m one.1 one.0) c.loop-i.invariant.0 ∙ sym (ap disks_by_id next),
+      repeated ∙ sym (ap first_duplicate next),
+    )

@@ -9,8 +9,8 @@ returns-then-has_unsupported_text c =
     let i = c.loop-number.number in
     let disk = c.index-disks-number.result in
     sym (unsupported_step i (drop i disks) disk (drop (i + 1) disks)
-        (next_read disks i disk c.loop-number-test.true c.index-disks-number.is)
-        (sym c.has_unsupported_text.ensures ∙ c.if-has_unsupported_text.true))
+    (next_read disks i disk c.loop-number-test.true c.index-disks-number.is)
+    (sym c.has_unsupported_text.ensures ∙ c.if-has_unsupported_text.true))
     ∙ c.loop-number.invariant
 
 pub loop-number-preserved : goal.loop-number-preserved
@@ -19,5 +19,5 @@ loop-number-preserved c =
     let i = c.loop-number.number in
     let disk = c.index-disks-number.result in
     supported_step i (drop i disks) disk (drop (i + 1) disks) (next_read disks i disk c.loop-number-test.true c.index-disks-number.is)
-        (sym c.has_unsupported_text.ensures ∙ c.if-has_unsupported_text.false)
+    (sym c.has_unsupported_text.ensures ∙ c.if-has_unsupported_text.false)
     ∙ c.loop-number.invariant

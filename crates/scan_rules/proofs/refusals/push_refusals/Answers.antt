@@ -12,4 +12,4 @@ loop-area-preserved-in-Continue-1 c =
 pub loop-area-preserved : goal.loop-area-preserved
 loop-area-preserved c =
     passed_more (refused_in c.args.disk) c.loop-area.refused.items c.args.refused.now.items c.loop-area.yielded c.in-Some.area
-        c.loop-area.invariant c.in_default.ensures
+    c.loop-area.invariant c.in_default.ensures

@@ -8,4 +8,4 @@ use Rattle.scan_rules.proofs.shape.meets_areas.Given as goal
 abbrev pub invariant-loop-area : goal.invariant-loop-area
 invariant-loop-area l =
     list_any (meets_area l.start l.end) (map (area_of []) (drop l.area-index l.areas))
-        ≡ list_any (meets_area l.start l.end) (map (area_of []) l.areas)
+    ≡ list_any (meets_area l.start l.end) (map (area_of []) l.areas)

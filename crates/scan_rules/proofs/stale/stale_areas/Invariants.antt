@@ -7,4 +7,4 @@ use Rattle.scan_rules.proofs.stale.stale_areas.Given as goal
 abbrev pub invariant-loop-number : goal.invariant-loop-number
 invariant-loop-number l =
     (l.stale.items ++ stale_on l.members l.copy.text l.number (readings_of l.copies (drop l.number l.disks))
-        ≡ stale_on l.members l.copy.text 0 (readings_of l.copies l.disks)) × AllByRecursion HasFewAreas (drop l.number l.disks)
+    ≡ stale_on l.members l.copy.text 0 (readings_of l.copies l.disks)) × AllByRecursion HasFewAreas (drop l.number l.disks)

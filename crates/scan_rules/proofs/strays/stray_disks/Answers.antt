@@ -7,4 +7,4 @@ pub returns : goal.returns
 returns c =
     let none : c.loop-number.number ≡ 0 = omega (arith, c.loop-number-test.false) in
     subst (λ (n : ℕ). c.loop-number.strays ≡ set.from_list (strays_on c.args.members.now n (drop n c.args.disks.now))) none
-        c.loop-number.invariant
+    c.loop-number.invariant

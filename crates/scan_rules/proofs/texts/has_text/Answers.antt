@@ -9,7 +9,7 @@ use Rattle.scan_rules.proofs.texts.has_text.Goals as goal
 pub returns-then-number-own : goal.returns-then-number-own
 returns-then-number-own c =
     sym (ap (λ (n : ℕ). unwrap_or (option_map (λ (other : GroupCopy). same_bytes other.text c.args.copy.now.text)
-        (slice_get c.args.copies.now n)) false) c.if-number-own.true
+    (slice_get c.args.copies.now n)) false) c.if-number-own.true
     ∙ ap (λ (o : Option GroupCopy). unwrap_or (option_map (λ (other : GroupCopy). same_bytes other.text c.args.copy.now.text) o) false)
     c.requires
     ∙ same_bytes_to c.args.copy.now.text c.args.copy.now.text refl)

@@ -6,4 +6,4 @@ use Rattle.scan_rules.proofs.texts.is_held_by_listed.Given as goal
 abbrev pub invariant-loop-disk : goal.invariant-loop-disk
 invariant-loop-disk l =
     is_held l.members l.copy.text (readings_of l.copies (drop l.disk-index l.disks))
-        ≡ is_held l.members l.copy.text (readings_of l.copies l.disks)
+    ≡ is_held l.members l.copy.text (readings_of l.copies l.disks)

@@ -24,6 +24,6 @@ pub returns : goal.returns
 unfolding checksum
 returns c =
     let all : take c.loop-byte.byte-index c.args.bytes.now ≡ c.args.bytes.now =
-        take_all c.loop-byte.byte-index c.args.bytes.now c.loop-byte-test.false in
+    take_all c.loop-byte.byte-index c.args.bytes.now c.loop-byte-test.false in
     sym (number_of-bits_of 32 c.loop-byte.state c.loop-byte.invariant.fits)
     ∙ ap number_of (c.loop-byte.invariant.with_bit ∙ ap (λ (l : List ℕ). with_bits (bits_of 32 c.args.start) (flat_map (bits_of 8) l)) all)

@@ -7,4 +7,4 @@ use Rattle.sector_base.proofs.shown.write_shown.Given as goal
 abbrev pub invariant-loop-value : goal.invariant-loop-value
 invariant-loop-value g l =
     IsPlainFormatter l.fn.f → HasWritten g.W.Write.write_str_gives l.fn.f (shown_text (l.kind, map value_of (take l.value-index l.values)))
-        l.f
+    l.f

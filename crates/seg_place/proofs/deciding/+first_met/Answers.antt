@@ -10,7 +10,7 @@ is_sought-requires g t c =
     let group = c.args.group.now in
     let met = seen c.segment_at-met.result in
     let meets : Meets group c.in-Lv.lv c.args.spot.sector met =
-        meets_is group c.in-Lv.lv c.args.spot.sector met c.segment_at-met.ensures.met in
+    meets_is group c.in-Lv.lv c.args.spot.sector met c.segment_at-met.ensures.met in
     let there = volume_there group c.in-Lv.lv c.args.spot.sector c.requires.accepted (some_is _ met c.segment_at-met.ensures.met) in
     omega (arith, there, meets.same_lv)
 

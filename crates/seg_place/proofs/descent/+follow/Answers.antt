@@ -19,10 +19,10 @@ returns-in-Lv-clause-steps g t c =
     let met = seen c.segment_at-met.result in
     let spot = as_spot c.primary_spot.result in
     let leads : IsSome (down group (on.Lv c.in-Lv.lv) c.args.most c.args.spot.sector) =
-        subst (λ (o : On). IsSome (down group o c.args.most c.args.spot.sector)) c.in-Lv.is c.requires.leads in
+    subst (λ (o : On). IsSome (down group o c.args.most c.args.spot.sector)) c.in-Lv.is c.requires.leads in
     let same : way group c.args.spot.on c.args.most c.args.spot.sector ≡ met ∷ way group spot.on (c.args.most - 1) spot.sector =
     ap (λ (o : On). way group o c.args.most c.args.spot.sector) c.in-Lv.is
-        ∙ way_by group c.in-Lv.lv c.args.spot.sector c.args.most met spot leads c.segment_at-met.ensures.met c.primary_spot.ensures.spot in
+    ∙ way_by group c.in-Lv.lv c.args.spot.sector c.args.most met spot leads c.segment_at-met.ensures.met c.primary_spot.ensures.spot in
     subst (λ (w : List Met). TakesSteps group w c.args.steps.now c.follow.new.steps) (sym same)
     (takes_first group c.in-Lv.lv c.args.spot.sector met (way group spot.on (c.args.most - 1) spot.sector) c.args.steps.now
-        c.segment_at-met.new.steps c.follow.new.steps c.segment_at-met.ensures.met c.segment_at-met.ensures.steps c.follow.ensures.steps)
+    c.segment_at-met.new.steps c.follow.new.steps c.segment_at-met.ensures.met c.segment_at-met.ensures.steps c.follow.ensures.steps)

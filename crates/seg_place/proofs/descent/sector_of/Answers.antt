@@ -4,5 +4,9 @@ use Rattle.seg_place.proofs.descent.sector_of.Goals as goal
 
 pub overflow_add-result : goal.overflow_add-result
 overflow_add-result c =
-    omega (arith, c.requires.small, pv_fits c.args.group.now c.args.pv (c.get.result.0.now, c.get.result.1.now) c.requires.accepted
-        c.get.ensures)
+    omega (
+      arith,
+      c.requires.small,
+      pv_fits c.args.group.now c.args.pv (c.get.result.0.now, c.get.result.1.now) c.requires.accepted
+          c.get.ensures,
+    )

@@ -23,66 +23,66 @@ nonzero_div-sector g c = omega (arith, extent_is_some c.args.group.now c.require
 pub number_with-number-requires-clause-follow : goal.number_with-number-requires-clause-follow
 number_with-number-requires-clause-follow g c =
     subst (Follow 0) (sym (c.of.ensures ∙ c.as_slice-segments.ensures))
-        (lv_is_well c.args.group.now c.args.lv (c.get.result.0.now, c.get.result.1.now) c.requires.accepted c.get.ensures).follow
+    (lv_is_well c.args.group.now c.args.lv (c.get.result.0.now, c.get.result.1.now) c.requires.accepted c.get.ensures).follow
 
 pub number_with-number-requires-clause-within : goal.number_with-number-requires-clause-within
 number_with-number-requires-clause-within g c =
     subst (λ (segments : List Segment). c.args.sector / c.args.group.now.extent_size < sum_by (λ (s : Segment). s.count) segments)
-        (sym (c.of.ensures ∙ c.as_slice-segments.ensures))
+    (sym (c.of.ensures ∙ c.as_slice-segments.ensures))
     (volume_within c.args.group.now c.args.lv c.args.sector (c.get.result.0.now, c.get.result.1.now) c.requires.accepted c.requires.stands
-        c.get.ensures)
+    c.get.ensures)
 
 pub offset_bounds-segments-number : goal.offset_bounds-segments-number
 offset_bounds-segments-number g c =
     let found = at_slice c.of.result c.as_slice-segments.result.now (c.args.sector / c.args.group.now.extent_size)
-        c.number_with-number.result c.of.ensures c.number_with-number.ensures.found in omega
-        (arith, slice_get_within c.as_slice-segments.result.now c.number_with-number.result found.0 found.1)
+    c.number_with-number.result c.of.ensures c.number_with-number.ensures.found in omega
+    (arith, slice_get_within c.as_slice-segments.result.now c.number_with-number.result found.0 found.1)
 
 pub bounds-segments-number : goal.bounds-segments-number
 bounds-segments-number g c =
     let found = at_slice c.of.result c.as_slice-segments.result.now (c.args.sector / c.args.group.now.extent_size)
-        c.number_with-number.result c.of.ensures c.number_with-number.ensures.found in slice_get_within c.as_slice-segments.result.now
-        c.number_with-number.result found.0 found.1
+    c.number_with-number.result c.of.ensures c.number_with-number.ensures.found in slice_get_within c.as_slice-segments.result.now
+    c.number_with-number.result found.0 found.1
 
 pub overflow_cast-result : goal.overflow_cast-result
 overflow_cast-result g c =
     let found =
-        is_found_at c.args.group.now c.args.lv c.args.sector (c.get.result.0.now, c.get.result.1.now) c.as_slice-segments.result.now
-            c.number_with-number.result c.index-segments-number.result c.requires.accepted c.get.ensures c.as_slice-segments.ensures
+    is_found_at c.args.group.now c.args.lv c.args.sector (c.get.result.0.now, c.get.result.1.now) c.as_slice-segments.result.now
+    c.number_with-number.result c.index-segments-number.result c.requires.accepted c.get.ensures c.as_slice-segments.ensures
     (at_slice c.of.result c.as_slice-segments.result.now (c.args.sector / c.args.group.now.extent_size) c.number_with-number.result
-        c.of.ensures c.number_with-number.ensures.found) (λ lt. c.index-segments-number.is) in
+    c.of.ensures c.number_with-number.ensures.found) (λ lt. c.index-segments-number.is) in
     omega (arith, found.few)
 
 pub overflow_mul-result : goal.overflow_mul-result
 overflow_mul-result g c =
     let found =
-        is_found_at c.args.group.now c.args.lv c.args.sector (c.get.result.0.now, c.get.result.1.now) c.as_slice-segments.result.now
-            c.number_with-number.result c.index-segments-number.result c.requires.accepted c.get.ensures c.as_slice-segments.ensures
+    is_found_at c.args.group.now c.args.lv c.args.sector (c.get.result.0.now, c.get.result.1.now) c.as_slice-segments.result.now
+    c.number_with-number.result c.index-segments-number.result c.requires.accepted c.get.ensures c.as_slice-segments.ensures
     (at_slice c.of.result c.as_slice-segments.result.now (c.args.sector / c.args.group.now.extent_size) c.number_with-number.result
-        c.of.ensures c.number_with-number.ensures.found) (λ lt. c.index-segments-number.is) in
+    c.of.ensures c.number_with-number.ensures.found) (λ lt. c.index-segments-number.is) in
     omega (arith, found.begins)
 
 pub overflow_sub-result : goal.overflow_sub-result
 overflow_sub-result g c =
     let found =
-        is_found_at c.args.group.now c.args.lv c.args.sector (c.get.result.0.now, c.get.result.1.now) c.as_slice-segments.result.now
-            c.number_with-number.result c.index-segments-number.result c.requires.accepted c.get.ensures c.as_slice-segments.ensures
+    is_found_at c.args.group.now c.args.lv c.args.sector (c.get.result.0.now, c.get.result.1.now) c.as_slice-segments.result.now
+    c.number_with-number.result c.index-segments-number.result c.requires.accepted c.get.ensures c.as_slice-segments.ensures
     (at_slice c.of.result c.as_slice-segments.result.now (c.args.sector / c.args.group.now.extent_size) c.number_with-number.result
-        c.of.ensures c.number_with-number.ensures.found) (λ lt. c.index-segments-number.is) in
+    c.of.ensures c.number_with-number.ensures.found) (λ lt. c.index-segments-number.is) in
     found.begins
 
 pub returns-clause-met : goal.returns-clause-met
 returns-clause-met g c =
     let found =
-        is_found_at c.args.group.now c.args.lv c.args.sector (c.get.result.0.now, c.get.result.1.now) c.as_slice-segments.result.now
-            c.number_with-number.result c.index-segments-number.result c.requires.accepted c.get.ensures c.as_slice-segments.ensures
+    is_found_at c.args.group.now c.args.lv c.args.sector (c.get.result.0.now, c.get.result.1.now) c.as_slice-segments.result.now
+    c.number_with-number.result c.index-segments-number.result c.requires.accepted c.get.ensures c.as_slice-segments.ensures
     (at_slice c.of.result c.as_slice-segments.result.now (c.args.sector / c.args.group.now.extent_size) c.number_with-number.result
-        c.of.ensures c.number_with-number.ensures.found) (λ lt. c.index-segments-number.is) in
+    c.of.ensures c.number_with-number.ensures.found) (λ lt. c.index-segments-number.is) in
     found.meets
 
 pub returns-clause-steps : goal.returns-clause-steps
 returns-clause-steps g c =
     let many : length c.of.result ≡ segments_in c.args.group.now c.args.lv =
     ap (λ (segments : List Segment). length segments) (c.of.ensures ∙ c.as_slice-segments.ensures)
-        ∙ sym (segments_in_one c.args.group.now c.args.lv (c.get.result.0.now, c.get.result.1.now) c.get.ensures) in
+    ∙ sym (segments_in_one c.args.group.now c.args.lv (c.get.result.0.now, c.get.result.1.now) c.get.ensures) in
     subst (λ (m : ℕ). Halves m c.args.steps.now c.number_with-number.new.steps) many c.number_with-number.ensures.steps

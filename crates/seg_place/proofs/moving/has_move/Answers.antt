@@ -7,9 +7,9 @@ use Rattle.seg_place.proofs.moving.has_move.Goals as goal
 pub returns-then-volume : goal.returns-then-volume
 returns-then-volume c =
     any_here (λ (row : List ℕ × Lv). row.1.status.pvmove) c.args.group.now.lvs c.loop-number.number _ (has_move c.args.group.now)
-        c.get.ensures c.loop-number.invariant c.if-volume.true
+    c.get.ensures c.loop-number.invariant c.if-volume.true
 
 pub loop-number-preserved : goal.loop-number-preserved
 loop-number-preserved c =
     any_past (λ (row : List ℕ × Lv). row.1.status.pvmove) c.args.group.now.lvs c.loop-number.number _ (has_move c.args.group.now)
-        c.get.ensures c.loop-number.invariant c.if-volume.false
+    c.get.ensures c.loop-number.invariant c.if-volume.false

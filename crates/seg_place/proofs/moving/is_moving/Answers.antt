@@ -16,10 +16,10 @@ marks_above-marks-requires c = volumes_are_few c.args.group.now c.requires
 pub loop-round-preserved : goal.loop-round-preserved
 loop-round-preserved c =
     after_more c.args.group.now c.loop-round.marks c.marks_above-marks.result c.loop-round._round c.loop-round.invariant
-        c.marks_above-marks.ensures
+    c.marks_above-marks.ensures
 
 pub returns : goal.returns
 returns c =
     let five : c.loop-round._round ≡ 5 = omega arith in
     c.lies_on_marked.ensures ∙ c.loop-round.invariant c.args.lv ∙ ap (λ (n : ℕ). marked_after c.args.group.now n c.args.lv) five
-        ∙ leads_after c.args.group.now 4 c.args.lv
+    ∙ leads_after c.args.group.now 4 c.args.lv

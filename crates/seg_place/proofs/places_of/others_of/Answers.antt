@@ -12,19 +12,24 @@ loop-leg-init g c =
     record {
       so_far =
           ap (λ (others : List At). others ++ behind) c.new-others.ensures
-              ∙ others_first c.args.group.now (seen c.args.met) c.requires.mirror;
+          ∙ others_first c.args.group.now (seen c.args.met) c.requires.mirror;
       few = omega (arith, ap (λ (others : List At). length others) c.new-others.ensures);
     }
 
 pub follow-requires-clause-leads : goal.follow-requires-clause-leads
 follow-requires-clause-leads g c =
     other_leads c.args.group.now (seen c.args.met) c.loop-leg.leg (as_spot c.leg_spot.result) c.requires.accepted c.requires.met
-        c.leg_spot.ensures.spot
+    c.leg_spot.ensures.spot
 
 pub push-requires : goal.push-requires
 push-requires g c =
-    omega (arith, c.loop-leg.invariant.few, c.len-leg-end.ensures, ap (λ (legs : List Leg). length legs) c.legs.ensures,
-        legs_are_few c.args.group.now (seen c.args.met) c.requires.accepted c.requires.met)
+    omega (
+      arith,
+      c.loop-leg.invariant.few,
+      c.len-leg-end.ensures,
+      ap (λ (legs : List Leg). length legs) c.legs.ensures,
+      legs_are_few c.args.group.now (seen c.args.met) c.requires.accepted c.requires.met,
+    )
 
 pub loop-leg-preserved : goal.loop-leg-preserved
 loop-leg-preserved g c =
@@ -37,11 +42,15 @@ loop-leg-preserved g c =
           ∙ others_more group met c.loop-leg.leg (as_spot c.leg_spot.result) c.follow.result c.loop-leg.others (others_of group met)
           c.requires.mirror (omega arith) c.leg_spot.ensures.spot c.follow.ensures.at c.loop-leg.invariant.so_far;
       few =
-          omega (arith, c.loop-leg.invariant.few, ap (λ (others : List At). length others) c.push.ensures,
-              length-append c.loop-leg.others (c.follow.result ∷ []));
+          omega (
+            arith,
+            c.loop-leg.invariant.few,
+            ap (λ (others : List At). length others) c.push.ensures,
+            length-append c.loop-leg.others (c.follow.result ∷ []),
+          );
     }
 
 pub returns : goal.returns
 returns g c =
     others_all c.args.group.now (seen c.args.met) c.loop-leg.leg c.loop-leg.others (others_of c.args.group.now (seen c.args.met))
-        (omega (arith, c.len-leg-end.ensures, ap (λ (legs : List Leg). length legs) c.legs.ensures)) c.loop-leg.invariant.so_far
+    (omega (arith, c.len-leg-end.ensures, ap (λ (legs : List Leg). length legs) c.legs.ensures)) c.loop-leg.invariant.so_far

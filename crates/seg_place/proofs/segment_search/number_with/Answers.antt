@@ -26,8 +26,8 @@ loop-high-preserved-then-is_at_most g c =
       between = halves_up c.args.segments.now c.args.extent low high middle found old.between (omega arith) answer.1 begun;
       halved =
           subst (HasHalved (length c.args.segments.now) middle high c.args.steps.now) (sym c.is_at_most.ensures.step)
-              (halves_more (length c.args.segments.now) low high middle high c.args.steps.now c.loop-high.steps (omega arith) (omega arith)
-              old.halved);
+          (halves_more (length c.args.segments.now) low high middle high c.args.steps.now c.loop-high.steps (omega arith) (omega arith)
+          old.halved);
     }
 
 past : (test : Bool) (start extent : ℕ) → IsTrue test ↔ (start ≤ extent) → test ≡ false → extent < start
@@ -46,11 +46,11 @@ loop-high-preserved g c =
       between = halves_down c.args.segments.now c.args.extent low high middle found old.between (omega arith) answer.1 later;
       halved =
           subst (HasHalved (length c.args.segments.now) low middle c.args.steps.now) (sym c.is_at_most.ensures.step)
-              (halves_more (length c.args.segments.now) low high low middle c.args.steps.now c.loop-high.steps (omega arith) (omega arith)
-              old.halved);
+          (halves_more (length c.args.segments.now) low high low middle c.args.steps.now c.loop-high.steps (omega arith) (omega arith)
+          old.halved);
     }
 
 pub returns-clause-found : goal.returns-clause-found
 returns-clause-found g c =
     one_left c.args.segments.now c.args.extent c.loop-high.low c.loop-high.high c.requires.follow c.requires.within
-        c.loop-high.invariant.between (omega arith)
+    c.loop-high.invariant.between (omega arith)

@@ -18,8 +18,8 @@ pub overflow_mul-result : goal.overflow_mul-result
 overflow_mul-result c =
     let leg = slice_index_or c.as_slice.result.now c.args.leg none in
     let there =
-        leg_read c.as_slice.result.now (legs_of c.args.met.segment.now.kind) c.args.leg none (c.as_slice.ensures ∙ c.legs.ensures)
-            c.requires.within in
+    leg_read c.as_slice.result.now (legs_of c.args.met.segment.now.kind) c.args.leg none (c.as_slice.ensures ∙ c.legs.ensures)
+    c.requires.within in
     let small = leg_small c.args.group.now (seen c.args.met) c.args.leg leg c.requires.accepted c.requires.met there in
     omega (arith, small)
 
@@ -27,8 +27,8 @@ pub overflow_add-result : goal.overflow_add-result
 overflow_add-result c =
     let leg = slice_index_or c.as_slice.result.now c.args.leg none in
     let there =
-        leg_read c.as_slice.result.now (legs_of c.args.met.segment.now.kind) c.args.leg none (c.as_slice.ensures ∙ c.legs.ensures)
-            c.requires.within in
+    leg_read c.as_slice.result.now (legs_of c.args.met.segment.now.kind) c.args.leg none (c.as_slice.ensures ∙ c.legs.ensures)
+    c.requires.within in
     let small = leg_small c.args.group.now (seen c.args.met) c.args.leg leg c.requires.accepted c.requires.met there in
     omega (arith, small, c.offset_in-offset.ensures)
 
@@ -36,16 +36,16 @@ pub returns-clause-spot : goal.returns-clause-spot
 returns-clause-spot c =
     let leg = slice_index_or c.as_slice.result.now c.args.leg none in
     let there =
-        leg_read c.as_slice.result.now (legs_of c.args.met.segment.now.kind) c.args.leg none (c.as_slice.ensures ∙ c.legs.ensures)
-            c.requires.within in
+    leg_read c.as_slice.result.now (legs_of c.args.met.segment.now.kind) c.args.leg none (c.as_slice.ensures ∙ c.legs.ensures)
+    c.requires.within in
     leg_there c.args.group.now.extent_size (seen c.args.met) c.args.leg leg there
-        ∙ ap (λ (n : ℕ). Some (spot_in c.args.group.now.extent_size n leg)) (sym c.offset_in-offset.ensures)
+    ∙ ap (λ (n : ℕ). Some (spot_in c.args.group.now.extent_size n leg)) (sym c.offset_in-offset.ensures)
 
 pub returns-clause-small : goal.returns-clause-small
 returns-clause-small c =
     let leg = slice_index_or c.as_slice.result.now c.args.leg none in
     let there =
-        leg_read c.as_slice.result.now (legs_of c.args.met.segment.now.kind) c.args.leg none (c.as_slice.ensures ∙ c.legs.ensures)
-            c.requires.within in
+    leg_read c.as_slice.result.now (legs_of c.args.met.segment.now.kind) c.args.leg none (c.as_slice.ensures ∙ c.legs.ensures)
+    c.requires.within in
     let small = leg_small c.args.group.now (seen c.args.met) c.args.leg leg c.requires.accepted c.requires.met there in
     omega (arith, small, c.offset_in-offset.ensures)

@@ -11,5 +11,5 @@ pub leg_spot-requires-clause-within : goal.leg_spot-requires-clause-within
 leg_spot-requires-clause-within c =
     let segment = c.args.met.segment.now in
     subst (λ (k : ℕ). k < length (legs_of segment.kind)) (sym c.primary_leg.ensures)
-        (primary_within segment.count segment.kind c.args.met.at
-        (has_legs c.args.group.now (seen c.args.met) c.requires.accepted c.requires.met))
+    (primary_within segment.count segment.kind c.args.met.at
+    (has_legs c.args.group.now (seen c.args.met) c.requires.accepted c.requires.met))

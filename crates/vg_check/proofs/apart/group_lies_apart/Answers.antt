@@ -18,4 +18,4 @@ returns-clause-apart c =
 pub returns-clause-sorted : goal.returns-clause-sorted
 returns-clause-sorted c =
     sorted_front c.args.group.now c.put_group-count.result _ _ c.put_group-count.ensures.counted c.put_group-count.ensures.front
-        c.front_lies_apart.ensures.order c.front_lies_apart.ensures.moved
+    c.front_lies_apart.ensures.order c.front_lies_apart.ensures.moved

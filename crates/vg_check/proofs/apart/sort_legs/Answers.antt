@@ -14,4 +14,4 @@ sort_front-requires-clause-sortable c =
 pub returns-clause-sorted : goal.returns-clause-sorted
 returns-clause-sorted c =
     sorted_front c.args.group.now c.put_group-count.result _ _ c.put_group-count.ensures.counted c.put_group-count.ensures.front
-        c.sort_front.ensures.order c.sort_front.ensures.moved
+    c.sort_front.ensures.order c.sort_front.ensures.moved

@@ -8,6 +8,6 @@ use Rattle.vg_check.proofs.block.has_id.Goals as goal
 pub returns : goal.returns
 returns c =
     found_tells c.args.group.now c.args.kind c.args.block.now c.args.id.now c.plain.result c.binary_search_by_key.result c.is_ok.result
-        c.plain.ensures.value c.requires
+    c.plain.ensures.value c.requires
     (c.binary_search_by_key.ensures.position (λ (run : ExtentSpan). id_of c.args.group.now c.args.kind run.on)
-        (always_returns_same _ _ _ (λ a r f k. search rules))) c.binary_search_by_key.ensures.bound c.is_ok.ensures.value
+    (always_returns_same _ _ _ (λ a r f k. search rules))) c.binary_search_by_key.ensures.bound c.is_ok.ensures.value

@@ -7,4 +7,4 @@ pub loop-leg-preserved : goal.loop-leg-preserved
 loop-leg-preserved c =
     let none : Leg = record { on = on.Pv 0; first = 0 } in
     leg_more c.args.numbers.now c.args.legs.now c.loop-leg.leg-index none c.loop-leg.best c.number_on.result c.max-best.result
-        c.loop-leg-test.true c.loop-leg.invariant c.number_on.ensures c.max-best.ensures
+    c.loop-leg-test.true c.loop-leg.invariant c.number_on.ensures c.max-best.ensures

@@ -11,4 +11,4 @@ pub returns : goal.returns
 returns c =
     let result = c.lvs_have_few_segments.result in
     decided c.args.group.now result (subst (λ (group : Group). IsTrue result ↔ HasFewSegments group.lvs) c.group.view_is
-        c.lvs_have_few_segments.ensures)
+    c.lvs_have_few_segments.ensures)

@@ -21,14 +21,14 @@ loop-run-preserved c =
       | then-run-on+else-run-end w ↦
           subst (CoversTo c.args.runs.now c.args.on (c.loop-run.run-index + 1)) (sym w.end-is)
           (covers_more c.args.runs.now c.args.on c.loop-run.run-index c.loop-run.end none c.loop-run-test.true w.if-run-on.true
-              w.if-run-end.false c.loop-run.invariant)
+          w.if-run-end.false c.loop-run.invariant)
       | else-run-on w ↦
           subst (CoversTo c.args.runs.now c.args.on (c.loop-run.run-index + 1)) (sym w.end-is)
           (covers_other c.args.runs.now c.args.on c.loop-run.run-index c.loop-run.end none c.loop-run-test.true w.if-run-on.false
-              c.loop-run.invariant)
+          c.loop-run.invariant)
     ]
 
 pub returns : goal.returns
 returns c =
     covers_all c.args.runs.now c.args.on c.loop-run.run-index c.loop-run.end c.args.extents _ c.loop-run-test.false c.requires.within
-        c.loop-run.invariant refl
+    c.loop-run.invariant refl

@@ -6,4 +6,4 @@ use Rattle.vg_check.proofs.depth.climbs_at_most.Goals as goal
 pub returns : goal.returns
 returns c =
     climbs_tell c.args.group.now c.args.climb c.args.most c.climb_five.new.numbers c.named_are_at_most.result
-        (c.requires.below Within (omega arith)) c.climb_five.ensures c.named_are_at_most.ensures
+    (c.requires.below Within (omega arith)) c.climb_five.ensures c.named_are_at_most.ensures

@@ -10,9 +10,11 @@ pub loop-leg-preserved : goal.loop-leg-preserved
 loop-leg-preserved c =
     let none : Leg = record { on = on.Pv 0; first = 0 } in
     All-more (λ (leg : Leg). OnIsHidden c.args.group.now leg.on) c.args.legs.now c.loop-leg.leg-index none c.loop-leg-test.true
-        c.loop-leg.invariant (c.if-not-is_hidden.ensures.0 (search rules))
+    c.loop-leg.invariant (c.if-not-is_hidden.ensures.0 (search rules))
 
 pub returns : goal.returns
-returns c =
-    (λ is. all_done (λ (leg : Leg). OnIsHidden c.args.group.now leg.on) c.args.legs.now c.loop-leg.leg-index c.loop-leg-test.false
-        c.loop-leg.invariant, λ all. search rules)
+returns c = (
+  λ is. all_done (λ (leg : Leg). OnIsHidden c.args.group.now leg.on) c.args.legs.now c.loop-leg.leg-index c.loop-leg-test.false
+      c.loop-leg.invariant,
+  λ all. search rules,
+)

@@ -11,7 +11,7 @@ IsWhole extent_size row = Follow 0 row.1.segments × (extents_of row.1 * extent_
 pub loop-number-preserved : goal.loop-number-preserved
 loop-number-preserved c =
     all_more (IsWhole c.args.extent_size) c.args.lvs.now c.loop-number.number _ c.loop-number.invariant c.get.ensures
-        (c.if-not-is_whole.ensures.0 refl)
+    (c.if-not-is_whole.ensures.0 refl)
 
 pub returns : goal.returns
 returns c = all_seen (IsWhole c.args.extent_size) c.args.lvs.now c.loop-number.number c.loop-number.invariant (omega arith)

@@ -11,11 +11,13 @@ returns-then-has_id c = (
 )
 
 pub returns-in-Pv : goal.returns-in-Pv
-returns-in-Pv c =
-    (λ is. pvs_tell c.args.group.now c.args.kind c.args.block.now c.own_id.result.now c.in-Pv.is c.own_id.ensures
-        (λ has. false≢true (c.if-has_id.ensures.1 has)), λ none. search rules)
+returns-in-Pv c = (
+  λ is. pvs_tell c.args.group.now c.args.kind c.args.block.now c.own_id.result.now c.in-Pv.is c.own_id.ensures
+      (λ has. false≢true (c.if-has_id.ensures.1 has)),
+  λ none. search rules,
+)
 
 pub returns-in-Lv : goal.returns-in-Lv
 returns-in-Lv c =
     lvs_tell c.args.group.now c.args.kind c.args.block.now c.own_id.result.now c.none_has.result c.in-Lv.is c.own_id.ensures
-        (λ has. false≢true (c.if-has_id.ensures.1 has)) c.none_has.ensures
+    (λ has. false≢true (c.if-has_id.ensures.1 has)) c.none_has.ensures

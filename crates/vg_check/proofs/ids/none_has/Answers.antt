@@ -14,7 +14,7 @@ returns-then-has_id c = (
 pub loop-number-preserved : goal.loop-number-preserved
 loop-number-preserved c =
     none_more c.args.group.now c.args.kind c.args.block.now c.args.other c.args.from c.loop-number.number c.id_at.result c.id_at.ensures
-        (λ has. false≢true (c.if-has_id.ensures.1 has)) c.loop-number.invariant
+    (λ has. false≢true (c.if-has_id.ensures.1 has)) c.loop-number.invariant
 
 pub returns : goal.returns
 returns c = (λ is number past lt. c.loop-number.invariant number past (omega arith), λ none. search rules)

@@ -7,8 +7,11 @@ pub returns-then-none_has : goal.returns-then-none_has
 returns-then-none_has c =
     elim c.if-neighbours_differ.branch [
       | then-neighbours_differ w ↦ (
-        λ yes. (c.neighbours_differ.ensures.0 w.if-neighbours_differ.true, w.none_has.ensures.0 (sym w.value-is ∙ c.if-none_has.true),
-            c.none_before_has.ensures.0 yes),
+        λ yes. (
+          c.neighbours_differ.ensures.0 w.if-neighbours_differ.true,
+          w.none_has.ensures.0 (sym w.value-is ∙ c.if-none_has.true),
+          c.none_before_has.ensures.0 yes,
+        ),
         λ all. c.none_before_has.ensures.1 all.2,
       )
       | else-neighbours_differ w ↦ absurd (false≢true (sym w.if-neighbours_differ.false ∙ (sym w.value-is ∙ c.if-none_has.true)))

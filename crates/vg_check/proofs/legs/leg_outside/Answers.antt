@@ -10,14 +10,14 @@ use Rattle.vg_check.proofs.legs.leg_outside.Goals as goal
 pub segment_outside-requires-clause-whole : goal.segment_outside-requires-clause-whole
 segment_outside-requires-clause-whole c =
     subst (All SegmentIsWhole) (sym c.as_slice-segments.ensures)
-        (lvs_whole c.args.group.now c.loop-number.number _ c.requires c.lv.ensures.1)
+    (lvs_whole c.args.group.now c.loop-number.number _ c.requires c.lv.ensures.1)
 
 pub returns-in-Some : goal.returns-in-Some
 returns-in-Some c =
     fails_there c.args.group.now c.loop-number.number _ c.in-Some.other c.lv.ensures.1
-        (subst (λ s. SegmentFails c.args.group.now s c.in-Some.other) c.as_slice-segments.ensures c.in-Some.ensures)
+    (subst (λ s. SegmentFails c.args.group.now s c.in-Some.other) c.as_slice-segments.ensures c.in-Some.ensures)
 
 pub returns : goal.returns
 returns c =
     all_within c.args.group.now (λ n row is. c.loop-number.invariant n row (omega (arith, slice_get_within c.args.group.now.lvs n row is))
-        is)
+    is)

@@ -14,7 +14,7 @@ extents-requires-clause-small c = lvs_small c.args.group.now c.args.number _ c.r
 pub returns-then-number-lv_count : goal.returns-then-number-lv_count
 returns-then-number-lv_count c =
     subst (λ e. IsTrue (leb c.args.end e) ↔ LiesWithin c.args.group.now (on.Lv c.args.number) c.args.end) (sym c.extents.ensures)
-        (lv_end c.args.group.now c.args.number c.args.end _ _ c.lv.ensures.1)
+    (lv_end c.args.group.now c.args.number c.args.end _ _ c.lv.ensures.1)
 
 pub returns-else-number-lv_count : goal.returns-else-number-lv_count
 returns-else-number-lv_count c =

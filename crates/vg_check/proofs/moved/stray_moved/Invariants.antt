@@ -8,4 +8,4 @@ use Rattle.vg_check.proofs.moved.stray_moved.Given as goal
 abbrev pub invariant-loop-number : goal.invariant-loop-number
 invariant-loop-number l =
     All (λ (row : List ℕ × Lv). All (λ (segment : Segment). MovedIsAllowed row.1.status.pvmove segment.count segment.kind) row.1.segments)
-        (take l.number l.group.lvs)
+    (take l.number l.group.lvs)

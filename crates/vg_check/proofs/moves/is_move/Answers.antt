@@ -10,8 +10,8 @@ returns-then-move_from_one c =
     elim c.if-looks_like_move.branch [
       | then-looks_like_move w ↦
           move_tells c.args.group.now c.args.number c.lv_row.result.0.now c.lv_row.result.1.now c.is_used_whole.result c.lv_row.ensures
-              (c.looks_like_move.ensures.0 w.if-looks_like_move.true)
+          (c.looks_like_move.ensures.0 w.if-looks_like_move.true)
           (subst MovesFromOne w.as_slice.ensures (w.move_from_one.ensures.0 (sym w.value-is ∙ c.if-move_from_one.true)))
-              c.is_used_whole.ensures
+          c.is_used_whole.ensures
       | else-looks_like_move w ↦ absurd (false≢true (sym w.if-looks_like_move.false ∙ (sym w.value-is ∙ c.if-move_from_one.true)))
     ]

@@ -16,13 +16,17 @@ overflow_add-on c = let few : VolumesAreFew c.args.group.now = c.requires.below 
 
 pub slice_bounds-cover-end : goal.slice_bounds-cover-end
 slice_bounds-cover-end c =
-    omega (arith, front_long c.args.group.now c.sort_legs-count.new.runs c.sort_legs-count.result c.sort_legs-count.ensures.sorted
-        c.sort_legs-count.ensures.count, length-take c.sort_legs-count.result c.sort_legs-count.new.runs)
+    omega (
+      arith,
+      front_long c.args.group.now c.sort_legs-count.new.runs c.sort_legs-count.result c.sort_legs-count.ensures.sorted
+          c.sort_legs-count.ensures.count,
+      length-take c.sort_legs-count.result c.sort_legs-count.new.runs,
+    )
 
 pub slice_bounds-cover-end-2 : goal.slice_bounds-cover-end-2
 slice_bounds-cover-end-2 c =
     sym (front_long c.args.group.now c.sort_legs-count.new.runs c.sort_legs-count.result c.sort_legs-count.ensures.sorted
-        c.sort_legs-count.ensures.count)
+    c.sort_legs-count.ensures.count)
 
 pub extents-requires-clause-follow : goal.extents-requires-clause-follow
 extents-requires-clause-follow c =
@@ -35,22 +39,22 @@ extents-requires-clause-small c =
 pub cover-requires-clause-sortable : goal.cover-requires-clause-sortable
 cover-requires-clause-sortable c =
     front_sortable c.args.group.now c.sort_legs-count.new.runs c.sort_legs-count.result
-        (fewer c.args.group.now 10 13 (omega arith) c.requires.below) c.sort_legs-count.ensures.sorted c.sort_legs-count.ensures.count
+    (fewer c.args.group.now 10 13 (omega arith) c.requires.below) c.sort_legs-count.ensures.sorted c.sort_legs-count.ensures.count
 
 pub cover-requires-clause-apart : goal.cover-requires-clause-apart
 cover-requires-clause-apart c =
     front_apart c.args.group.now c.sort_legs-count.new.runs c.sort_legs-count.result
-        (fewer c.args.group.now 10 13 (omega arith) c.requires.below) (c.requires.below Apart (omega arith))
-        c.sort_legs-count.ensures.sorted c.sort_legs-count.ensures.count
+    (fewer c.args.group.now 10 13 (omega arith) c.requires.below) (c.requires.below Apart (omega arith))
+    c.sort_legs-count.ensures.sorted c.sort_legs-count.ensures.count
 
 pub cover-requires-clause-within : goal.cover-requires-clause-within
 cover-requires-clause-within c =
     subst (λ e. All (EndsWithin (2 * c.args.number + 1) e) (take c.sort_legs-count.result c.sort_legs-count.new.runs))
-        (sym c.extents.ensures)
+    (sym c.extents.ensures)
     (front_within c.args.group.now c.sort_legs-count.new.runs c.sort_legs-count.result c.args.number c.lv.result.now
-        (c.requires.below Within (omega arith)) c.lv.ensures c.sort_legs-count.ensures.sorted c.sort_legs-count.ensures.count)
+    (c.requires.below Within (omega arith)) c.lv.ensures c.sort_legs-count.ensures.sorted c.sort_legs-count.ensures.count)
 
 pub returns : goal.returns
 returns c =
     used_tells c.args.group.now c.sort_legs-count.new.runs c.sort_legs-count.result c.args.number c.extents.result c.lv.result.now
-        c.cover.result c.lv.ensures c.sort_legs-count.ensures.sorted c.sort_legs-count.ensures.count c.extents.ensures c.cover.ensures
+    c.cover.result c.lv.ensures c.sort_legs-count.ensures.sorted c.sort_legs-count.ensures.count c.extents.ensures c.cover.ensures

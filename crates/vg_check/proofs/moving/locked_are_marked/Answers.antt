@@ -7,10 +7,15 @@ use Rattle.vg_check.proofs.moving.locked_are_marked.Goals.{else-lv-via-then-lv+e
 
 pub returns-then-numbers-number-eq0 : goal.returns-then-numbers-number-eq0
 returns-then-numbers-number-eq0 c =
-    let none : ExtentSpan = record { on = 0; first = 0; count = 0 } in
-    (λ is. absurd (false≢true is), λ marked. absurd
-        (omega (arith, marked c.loop-number.number c.lv.result.now c.loop-number-test.true c.lv.ensures c.if-lv.true,
-        told_at c.args.numbers.now c.loop-number.number none c.loop-number-test.true)))
+    let none : ExtentSpan = record { on = 0; first = 0; count = 0 } in (
+      λ is. absurd (false≢true is),
+      λ marked. absurd
+          (omega (
+            arith,
+            marked c.loop-number.number c.lv.result.now c.loop-number-test.true c.lv.ensures c.if-lv.true,
+            told_at c.args.numbers.now c.loop-number.number none c.loop-number-test.true,
+          )),
+    )
 
 pub loop-number-preserved : goal.loop-number-preserved
 loop-number-preserved c =

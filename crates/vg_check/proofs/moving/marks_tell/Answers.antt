@@ -17,11 +17,17 @@ climb_five-requires-clause-long c =
 
 pub locked_are_marked-requires : goal.locked_are_marked-requires
 locked_are_marked-requires c =
-    omega (arith, length-take-le c.lv_count.result c.args.runs.now (omega (arith, room_for_volumes c.args.group.now.lvs)),
-        c.lv_count.ensures)
+    omega (
+      arith,
+      length-take-le c.lv_count.result c.args.runs.now (omega (arith, room_for_volumes c.args.group.now.lvs)),
+      c.lv_count.ensures,
+    )
 
 pub returns : goal.returns
 returns c =
     locked_tell c.args.group.now c.climb_five.new.numbers c.locked_are_marked.result (c.requires.below Depth (omega arith))
-        (omega (arith, length-take-le c.lv_count.result c.args.runs.now (omega (arith, room_for_volumes c.args.group.now.lvs)),
-        c.lv_count.ensures)) c.climb_five.ensures c.locked_are_marked.ensures
+    (omega (
+      arith,
+      length-take-le c.lv_count.result c.args.runs.now (omega (arith, room_for_volumes c.args.group.now.lvs)),
+      c.lv_count.ensures,
+    )) c.climb_five.ensures c.locked_are_marked.ensures

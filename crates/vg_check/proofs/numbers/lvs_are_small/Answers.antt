@@ -13,9 +13,11 @@ loop-number-preserved c =
     all_more IsSmallRow c.args.lvs.now c.loop-number.number _ c.loop-number.invariant c.get.ensures (c.if-not-lv_is_small.ensures.0 refl)
 
 pub returns-then-not-lv_is_small : goal.returns-then-not-lv_is_small
-returns-then-not-lv_is_small c =
-    (λ no. absurd (false≢true no), λ all. c.if-not-lv_is_small.ensures.1
-        (row_of_all IsSmallRow c.args.lvs.now c.loop-number.number _ c.get.ensures all))
+returns-then-not-lv_is_small c = (
+  λ no. absurd (false≢true no),
+  λ all. c.if-not-lv_is_small.ensures.1
+      (row_of_all IsSmallRow c.args.lvs.now c.loop-number.number _ c.get.ensures all),
+)
 
 pub returns : goal.returns
 returns c = (λ _. all_seen IsSmallRow c.args.lvs.now c.loop-number.number c.loop-number.invariant (omega arith), λ _. refl)

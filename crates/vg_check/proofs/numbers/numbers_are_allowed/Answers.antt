@@ -19,4 +19,4 @@ decided group result own volumes = (
 pub returns-then-own_numbers_are_allowed : goal.returns-then-own_numbers_are_allowed
 returns-then-own_numbers_are_allowed c =
     decided c.args.group.now c.volumes_are_small.result (c.if-own_numbers_are_allowed.ensures.0 refl)
-        (subst (λ (group : Group). IsTrue c.volumes_are_small.result ↔ VolumesAreSmall group) c.group.view_is c.volumes_are_small.ensures)
+    (subst (λ (group : Group). IsTrue c.volumes_are_small.result ↔ VolumesAreSmall group) c.group.view_is c.volumes_are_small.ensures)

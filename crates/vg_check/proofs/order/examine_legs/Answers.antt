@@ -20,7 +20,7 @@ returns-then-not-legs_lie_apart-clause-first c =
     let group = c.args.group.now in
     let below10 = below_more group Within c.requires.below c.in_default.ensures in
     refused_first group (KeepsBelow 13 group) Apart 0 0 _ c.refused-then-not-legs_lie_apart.ensures below10
-        (refl, refl, λ keeps. false≢true (c.if-not-legs_lie_apart.ensures.apart.1 keeps))
+    (refl, refl, λ keeps. false≢true (c.if-not-legs_lie_apart.ensures.apart.1 keeps))
 
 pub depth_is_allowed-requires-clause-below : goal.depth_is_allowed-requires-clause-below
 depth_is_allowed-requires-clause-below c =
@@ -33,7 +33,7 @@ returns-then-not-depth_is_allowed-clause-first c =
     let below10 = below_more group Within c.requires.below c.in_default.ensures in
     let below11 = below_more group Apart below10 (c.if-not-legs_lie_apart.ensures.apart.0 refl) in
     refused_first group (KeepsBelow 13 group) Depth 0 0 _ c.refused-then-not-depth_is_allowed.ensures below11
-        (refl, refl, λ keeps. false≢true (c.if-not-depth_is_allowed.ensures.depth.1 keeps))
+    (refl, refl, λ keeps. false≢true (c.if-not-depth_is_allowed.ensures.depth.1 keeps))
 
 pub returns-in-Some-stray_moved-clause-first : goal.returns-in-Some-stray_moved-clause-first
 returns-in-Some-stray_moved-clause-first c =
@@ -42,7 +42,7 @@ returns-in-Some-stray_moved-clause-first c =
     let below11 = below_more group Apart below10 (c.if-not-legs_lie_apart.ensures.apart.0 refl) in
     let below12 = below_more group Depth below11 (c.if-not-depth_is_allowed.ensures.depth.0 refl) in
     refused_first group (KeepsBelow 13 group) Moved c.in-Some-stray_moved.at c.in-Some-stray_moved.other _
-        c.refused-in-Some-stray_moved.ensures below12 c.in-Some-stray_moved.ensures
+    c.refused-in-Some-stray_moved.ensures below12 c.in-Some-stray_moved.ensures
 
 pub returns-clause-first : goal.returns-clause-first
 returns-clause-first c =

@@ -17,14 +17,14 @@ pub returns-then-not-move_is_allowed-clause-first : goal.returns-then-not-move_i
 returns-then-not-move_is_allowed-clause-first c =
     let group = c.args.group.now in
     refused_first group (IsAccepted group) Pvmove 0 0 _ c.refused.ensures c.requires.below
-        (refl, refl, λ keeps. false≢true (c.if-not-move_is_allowed.ensures.allowed.1 keeps))
+    (refl, refl, λ keeps. false≢true (c.if-not-move_is_allowed.ensures.allowed.1 keeps))
 
 pub returns-then-not-locked_volumes_move-clause-first : goal.returns-then-not-locked_volumes_move-clause-first
 returns-then-not-locked_volumes_move-clause-first c =
     let group = c.args.group.now in
     let below14 = below_more group Pvmove c.requires.below (c.if-not-move_is_allowed.ensures.allowed.0 refl) in
     refused_first group (IsAccepted group) Locked 0 0 _ c.refused-then-not-locked_volumes_move.ensures below14
-        (refl, refl, λ keeps. false≢true (c.if-not-locked_volumes_move.ensures.locked.1 keeps))
+    (refl, refl, λ keeps. false≢true (c.if-not-locked_volumes_move.ensures.locked.1 keeps))
 
 pub locked_volumes_move-requires-clause-below : goal.locked_volumes_move-requires-clause-below
 locked_volumes_move-requires-clause-below c =

@@ -15,7 +15,7 @@ returns-in-Some-lv_with_gap c =
     let group = c.args.group.now in
     let below6 = below_more group Extents c.requires c.in_default.ensures in
     refused_first group (KeepsBelow 9 group) Follows c.in-Some-lv_with_gap.at 0 _ c.refused-in-Some-lv_with_gap.ensures below6
-        c.in-Some-lv_with_gap.ensures
+    c.in-Some-lv_with_gap.ensures
 
 pub returns-in-Some-uneven_stripes : goal.returns-in-Some-uneven_stripes
 returns-in-Some-uneven_stripes c =
@@ -23,7 +23,7 @@ returns-in-Some-uneven_stripes c =
     let below6 = below_more group Extents c.requires c.in_default.ensures in
     let below7 = below_more group Follows below6 c.in_default-lv_with_gap.ensures in
     refused_first group (KeepsBelow 9 group) Stripes c.in-Some-uneven_stripes.at c.in-Some-uneven_stripes.other _
-        c.refused-in-Some-uneven_stripes.ensures below7 c.in-Some-uneven_stripes.ensures
+    c.refused-in-Some-uneven_stripes.ensures below7 c.in-Some-uneven_stripes.ensures
 
 pub returns-in-Some-broken_mirror : goal.returns-in-Some-broken_mirror
 returns-in-Some-broken_mirror c =
@@ -32,7 +32,7 @@ returns-in-Some-broken_mirror c =
     let below7 = below_more group Follows below6 c.in_default-lv_with_gap.ensures in
     let below8 = below_more group Stripes below7 c.in_default-uneven_stripes.ensures in
     refused_first group (KeepsBelow 9 group) Mirrors c.in-Some-broken_mirror.at c.in-Some-broken_mirror.other _
-        c.refused-in-Some-broken_mirror.ensures below8 c.in-Some-broken_mirror.ensures
+    c.refused-in-Some-broken_mirror.ensures below8 c.in-Some-broken_mirror.ensures
 
 pub returns : goal.returns
 returns c =

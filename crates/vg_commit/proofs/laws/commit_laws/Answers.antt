@@ -1,7 +1,7 @@
 use Rattle.disk_batch.proofs.Elsewhere.{completes_elsewhere, submits_elsewhere, works_elsewhere}
 use Rattle.vg_commit.specs.CommitHolds.{is_own}
-use Rattle.vg_commit.proofs.CommitBeside.{com_elsewhere, com_shows, fenced_shows, lost_shows, pre_elsewhere, pre_shows, ready_elsewhere,
-    ready_shows, whole_elsewhere, whole_shows}
+use Rattle.vg_commit.proofs.CommitBeside.{com_elsewhere, com_shows, fenced_shows, lost_shows, pre_elsewhere, pre_shows, ready_elsewhere}
+use Rattle.vg_commit.proofs.CommitBeside.{ready_shows, whole_elsewhere, whole_shows}
 use Rattle.vg_commit.proofs.CommitLaws.{begins, commits_holding, goes_holding, publishes}
 use Rattle.vg_commit.proofs.CommitRoom.{begins_spending, commits_spending, goes_spending, publishes_spending}
 use Rattle.vg_commit.proofs.CommitTargets.{writes_its_areas}

@@ -11,5 +11,5 @@ use Rattle.vg_commit.proofs.preparing.prepare.Goals as goal
 pub returns-clause-prepared : goal.returns-clause-prepared
 returns-clause-prepared c =
     subst (λ (t : List ℕ). MatchResult c.prepare_text.result (λ (prepared : Prepared). IsPrepared prepared c.args.areas.now c.args.flush t)
-        (IsCause t c.args.areas.now))
+    (IsCause t c.args.areas.now))
     (c.in_ok-text.ensures ∙ ap (λ (g : Group). printed (tree_of g c.args.now)) c.group.ensures.group) c.prepare_text.ensures.prepared

@@ -16,13 +16,13 @@ batches_of-requires-clause-disks c =
 pub returns-clause-prepared : goal.returns-clause-prepared
 returns-clause-prepared c =
     let is_plan : IsPlan c.args.text.now c.args.areas.now c.in_ok-plan.plan =
-        subst (λ (l : List (Area × Option Locn)). IsPlan c.args.text.now l c.in_ok-plan.plan) c.as_slice.ensures c.in_ok-plan.ensures in
+    subst (λ (l : List (Area × Option Locn)). IsPlan c.args.text.now l c.in_ok-plan.plan) c.as_slice.ensures c.in_ok-plan.ensures in
     prepared_result c.args.text.now c.args.areas.now c.args.flush c.disks_of_areas-disks.result c.in_ok-plan.plan is_plan
-        c.disks_of_areas-disks.ensures c.requires c.batches_of.result c.batches_of.ensures.batches c.batches_of.ensures.cause
+    c.disks_of_areas-disks.ensures c.requires c.batches_of.result c.batches_of.ensures.batches c.batches_of.ensures.cause
 
 pub returns-clause-can_start : goal.returns-clause-can_start
 returns-clause-can_start c =
     let is_plan : IsPlan c.args.text.now c.args.areas.now c.in_ok-plan.plan =
-        subst (λ (l : List (Area × Option Locn)). IsPlan c.args.text.now l c.in_ok-plan.plan) c.as_slice.ensures c.in_ok-plan.ensures in
+    subst (λ (l : List (Area × Option Locn)). IsPlan c.args.text.now l c.in_ok-plan.plan) c.as_slice.ensures c.in_ok-plan.ensures in
     start_result c.args.text.now c.args.areas.now c.args.flush c.disks_of_areas-disks.result c.in_ok-plan.plan is_plan
-        c.disks_of_areas-disks.ensures c.requires c.batches_of.result c.batches_of.ensures.batches
+    c.disks_of_areas-disks.ensures c.requires c.batches_of.result c.batches_of.ensures.batches

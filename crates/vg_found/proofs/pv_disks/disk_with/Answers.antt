@@ -10,4 +10,4 @@ returns c =
     let count = length c.args.disks.now in
     let id = c.args.id.now in
     c.unwrap_or.ensures ∙ ap (λ o. unwrap_or o count) (c.get.ensures ∙ ap (λ m. map.get m id) c.requires.by_id)
-        ∙ number_found c.args.disks.now id
+    ∙ number_found c.args.disks.now id

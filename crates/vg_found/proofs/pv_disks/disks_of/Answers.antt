@@ -20,6 +20,6 @@ one_more f xs i x before after whole n here is pushed so_far =
 pub loop-number-preserved : goal.loop-number-preserved
 loop-number-preserved c =
     one_more (λ (pv : List ℕ × Pv). disk_with c.args.disks.now pv.1.id) c.args.group.now.pvs c.loop-number.number
-        (c.get.result.0.now, c.get.result.1.now) c.loop-number.numbers.items c.push.new.self.items
+    (c.get.result.0.now, c.get.result.1.now) c.loop-number.numbers.items c.push.new.self.items
     (disks_of c.args.group.now c.args.disks.now) c.disk_with.result c.get.ensures c.disk_with.ensures c.in_ok-push.ensures.items
-        c.loop-number.invariant
+    c.loop-number.invariant

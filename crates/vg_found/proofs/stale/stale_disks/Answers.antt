@@ -1,6 +1,6 @@
 -- One area more.
-use Rattle.std.proofs.Common.{◌≡◌, ◌<◌, ℕ, ◌+◌, Bool, true, false, ◌||◌, ◌==◌, List, length, drop, get_or, refl, sym, ap, ◌∙◌, add-one,
-    arith, drop-cons}
+use Rattle.std.proofs.Common.{◌≡◌, ◌<◌, ℕ, ◌+◌, Bool, true, false, ◌||◌, ◌==◌, List, length, drop, get_or, refl, sym, ap, ◌∙◌, add-one}
+use Rattle.std.proofs.Common.{arith, drop-cons}
 use Rattle.std.specs.Cmp.{nat_cmp_total, unsigned_tied}
 use Rattle.std.specs.FinSet as set
 use Rattle.std.specs.FinSet.{FinSet, contains-empty, contains-insert}
@@ -39,9 +39,9 @@ one_more areas i d old new within is so_far pv =
 pub loop-disk-init : goal.loop-disk-init
 loop-disk-init c pv =
     ap (λ (b : Bool). b || list_any (is_on pv) c.args.stale.now)
-        (ap (λ (s : FinSet nat_cmp). set.contains s pv) c.new-disks.ensures ∙ contains-empty nat_cmp pv)
+    (ap (λ (s : FinSet nat_cmp). set.contains s pv) c.new-disks.ensures ∙ contains-empty nat_cmp pv)
 
 pub loop-disk-preserved : goal.loop-disk-preserved
 loop-disk-preserved c =
     one_more c.args.stale.now c.loop-disk.disk-index _ c.loop-disk.disks c.insert.new.self c.loop-disk-test.true c.insert.ensures
-        c.loop-disk.invariant
+    c.loop-disk.invariant

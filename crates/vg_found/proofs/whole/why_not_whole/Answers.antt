@@ -4,9 +4,10 @@ use Rattle.vg_found.proofs.AllRead.{all_read}
 use Rattle.vg_found.proofs.whole.why_not_whole.Goals as goal
 
 pub returns-then-len-gt0 : goal.returns-then-len-gt0
-returns-then-len-gt0 c =
-    (all_read c.args.found.now c.first_of.result c.requires c.first_of.ensures c.in_default.not-Some,
-        λ none. absurd (omega (arith, ap length none, c.len.ensures, c.if-len-gt0.true)))
+returns-then-len-gt0 c = (
+  all_read c.args.found.now c.first_of.result c.requires c.first_of.ensures c.in_default.not-Some,
+  λ none. absurd (omega (arith, ap length none, c.len.ensures, c.if-len-gt0.true)),
+)
 
 pub returns : goal.returns
 returns c = record {

@@ -8,7 +8,7 @@ loop-place-preserved c = record {
   fits = omega (arith, c.saturating_add-count.ensures);
   all =
       counted_next c.args.lvs.now c.loop-place.count c.loop-place.place c.saturating_add-count.result c.len.result 18446744073709551615
-          (segment_count c.args.lvs.now) (c.get.result.0.now, c.get.result.1.now) c.get.ensures c.len.ensures
+      (segment_count c.args.lvs.now) (c.get.result.0.now, c.get.result.1.now) c.get.ensures c.len.ensures
       c.saturating_add-count.ensures c.loop-place.invariant.all;
 }
 
@@ -16,4 +16,4 @@ pub returns : goal.returns
 returns c =
     let past : length c.args.lvs.now ≤ c.loop-place.place = omega (arith, c.loop-place-test.false, c.len-place-end.ensures.count) in
     counted_all c.args.lvs.now c.loop-place.count c.loop-place.place 18446744073709551615 (segment_count c.args.lvs.now) past
-        c.loop-place.invariant.fits c.loop-place.invariant.all
+    c.loop-place.invariant.fits c.loop-place.invariant.all

@@ -19,7 +19,7 @@ leaves_place-requires c =
     let group = c.args.members.now in
     subst (λ (g : Group). FitsDevice g.extent_size c.in-Some.pv.now) (sym c.group-group.ensures.group)
     (holds_of_found (FitsDevice group.extent_size) c.args.header.now.id c.in-Some.pv.now group.pvs
-        (subst IsAccepted c.group-group.ensures.group c.group-group.ensures.accepted Extents) (sym c.in-Some.ensures))
+    (subst IsAccepted c.group-group.ensures.group c.group-group.ensures.accepted Extents) (sym c.in-Some.ensures))
 
 pub returns-in-Some : goal.returns-in-Some
 returns-in-Some c =

@@ -7,4 +7,4 @@ use Rattle.vg_plans.proofs.shape.meets_any.Given as goal
 abbrev pub invariant-loop-area : goal.invariant-loop-area
 invariant-loop-area l =
     list_any (meets_area l.start l.end) (map area_shape (drop l.area-index l.areas))
-        ≡ list_any (meets_area l.start l.end) (map area_shape l.areas)
+    ≡ list_any (meets_area l.start l.end) (map area_shape l.areas)

@@ -14,11 +14,11 @@ returns-in_err-judge_both c =
     let state = c.args.state.now in
     rw (p.1, p.2)
     (refused_front (both_rows state c.args.found.now c.args.said.now)
-        (shape_row c.args.said.now state.disks ∷ other_group_rows c.args.said.now c.args.found.now) _
+    (shape_row c.args.said.now state.disks ∷ other_group_rows c.args.said.now c.args.found.now) _
     (subst (λ (g : Group). IsRefusedBy (first_refusal (both_rows state g c.args.said.now)) c.in_err-judge_both.field-0.0)
-        c.group.ensures.group
+    c.group.ensures.group
     (subst (λ (g : Group). IsRefusedBy (first_refusal (both_rows state c.group.result.now g)) c.in_err-judge_both.field-0.0)
-        c.group-2.ensures.group c.in_err-judge_both.ensures)))
+    c.group-2.ensures.group c.in_err-judge_both.ensures)))
 
 pub returns-in_err-judge_shape : goal.returns-in_err-judge_shape
 returns-in_err-judge_shape c =
@@ -30,12 +30,12 @@ returns-in_err-judge_shape c =
     in
     rw (p.1, p.2)
     (refused_back (both_rows state c.args.found.now c.args.said.now)
-        (shape_row c.args.said.now state.disks ∷ other_group_rows c.args.said.now c.args.found.now) _ none
+    (shape_row c.args.said.now state.disks ∷ other_group_rows c.args.said.now c.args.found.now) _ none
     (refused_front (shape_row c.args.said.now state.disks ∷ []) (other_group_rows c.args.said.now c.args.found.now) _
     (one_row (shape_row c.args.said.now state.disks) _
     (subst (λ (g : Group). IsRefusedBy (shape_row g state.disks) c.in_err-judge_shape.field-0.0) c.in_ok-said.ensures
     (subst (λ (l : List Disk). IsRefusedBy (shape_row c.in_ok-said.said l) c.in_err-judge_shape.field-0.0) c.as_slice.ensures
-        c.in_err-judge_shape.ensures)))))
+    c.in_err-judge_shape.ensures)))))
 
 pub returns : goal.returns
 returns c =
@@ -46,12 +46,12 @@ returns c =
     in
     let shaped =
     subst (λ (g : Group). shape_row g state.disks ≡ None) c.in_ok-said.ensures
-        (subst (λ (l : List Disk). shape_row c.in_ok-said.said l ≡ None) c.as_slice.ensures c.in_ok-judge_shape.ensures)
+    (subst (λ (l : List Disk). shape_row c.in_ok-said.said l ≡ None) c.as_slice.ensures c.in_ok-judge_shape.ensures)
     in
     judges_back (both_rows state c.args.found.now c.args.said.now ++ shape_row c.args.said.now state.disks ∷ [])
-        (other_group_rows c.args.said.now c.args.found.now) c.judge_other.result
+    (other_group_rows c.args.said.now c.args.found.now) c.judge_other.result
     (none_both (both_rows state c.args.found.now c.args.said.now) (shape_row c.args.said.now state.disks ∷ []) none
-        (none_row (shape_row c.args.said.now state.disks) shaped))
+    (none_row (shape_row c.args.said.now state.disks) shaped))
     (subst (λ (g : Group). Judges c.judge_other.result (first_refusal (other_group_rows g c.args.found.now))) c.in_ok-said.ensures
     (subst (λ (g : Group). Judges c.judge_other.result (first_refusal (other_group_rows c.in_ok-said.said g))) c.in_ok-found.ensures
-        c.judge_other.ensures))
+    c.judge_other.ensures))

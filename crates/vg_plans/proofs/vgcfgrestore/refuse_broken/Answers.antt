@@ -8,4 +8,4 @@ use Rattle.vg_plans.proofs.vgcfgrestore.refuse_broken.Goals as goal
 pub returns-in-Err : goal.returns-in-Err
 returns-in-Err c =
     refused_front (both_rows c.args.state.now c.args.found.now c.args.said.now) (Some (BadRule (number_of c.args.rule)) ∷ []) _
-        c.in-Err.ensures
+    c.in-Err.ensures

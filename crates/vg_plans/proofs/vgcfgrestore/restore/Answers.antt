@@ -13,13 +13,13 @@ returns-in_err-judge_named c =
     let p = err_from_is_err_and c.from_residual.result c.from_residual.ensures.1 in
     rw (p.1, p.2)
     (refused_front (named_rows c.args.found.now c.args.vg.now) (backup_rows c.args.state.now c.args.found.now c.args.backup.now c.args.now)
-        _
+    _
     (subst (λ (g : Group). IsRefusedBy (first_refusal (named_rows g c.args.vg.now)) c.in_err-judge_named.field-0.0) c.group.ensures.group
-        c.in_err-judge_named.ensures))
+    c.in_err-judge_named.ensures))
 
 pub returns : goal.returns
 returns c =
     plans_back (named_rows c.args.found.now c.args.vg.now) (backup_rows c.args.state.now c.args.found.now c.args.backup.now c.args.now)
-        (backup_change c.args.state.now c.args.backup.now c.args.found.now) c.restore_from.result
+    (backup_change c.args.state.now c.args.backup.now c.args.found.now) c.restore_from.result
     (subst (λ (g : Group). first_refusal (named_rows g c.args.vg.now) ≡ None) c.group.ensures.group c.in_ok-judge_named.ensures)
-        c.restore_from.ensures
+    c.restore_from.ensures

@@ -21,7 +21,7 @@ returns-in_err-judge_sound c =
     let state = c.args.state.now in
     rw (p.1, p.2)
     (refused_front (sound_tests state c.args.found.now c.args.said.now)
-        (length_row_on state (disks_of c.args.said.now state.disks) (restored_group c.args.found.now c.args.said.now) c.args.now ∷ []) _
+    (length_row_on state (disks_of c.args.said.now state.disks) (restored_group c.args.found.now c.args.said.now) c.args.now ∷ []) _
     c.in_err-judge_sound.ensures)
 
 pub commit_version_on-requires-clause-disks : goal.commit_version_on-requires-clause-disks
@@ -30,7 +30,7 @@ commit_version_on-requires-clause-disks c =
     let none : first_refusal (sound_tests state c.args.found.now c.args.said.now) ≡ None = c.in_ok-judge_sound.ensures in
     subst (All IsBelow)
     (sym (c.in_ok-disk_of.ensures ∙ ap (λ (g : Group). disks_of g c.as_slice.result.now) c.group.ensures.group
-        ∙ ap (λ (l : List Disk). disks_of c.args.said.now l) c.as_slice.ensures))
+    ∙ ap (λ (l : List Disk). disks_of c.args.said.now l) c.as_slice.ensures))
     (sound_disks state c.requires.state c.args.found.now c.args.said.now c.requires.found none)
 
 pub commit_version_on-requires-clause-areas : goal.commit_version_on-requires-clause-areas
@@ -43,13 +43,13 @@ returns c =
     let next : c.in_ok-next.next ≡ restored_group c.args.found.now c.args.said.now = c.in_ok-next.ensures in
     let disks : c.in_ok-disk_of.disk_of ≡ disks_of c.args.said.now state.disks =
     c.in_ok-disk_of.ensures ∙ ap (λ (g : Group). disks_of g c.as_slice.result.now) c.group.ensures.group
-        ∙ ap (λ (l : List Disk). disks_of c.args.said.now l) c.as_slice.ensures
+    ∙ ap (λ (l : List Disk). disks_of c.args.said.now l) c.as_slice.ensures
     in
     plans_back (sound_tests state c.args.found.now c.args.said.now)
-        (length_row_on state (disks_of c.args.said.now state.disks) (restored_group c.args.found.now c.args.said.now) c.args.now ∷ [])
+    (length_row_on state (disks_of c.args.said.now state.disks) (restored_group c.args.found.now c.args.said.now) c.args.now ∷ [])
     (version_change_on (disks_of c.args.said.now state.disks) (restored_group c.args.found.now c.args.said.now)) c.commit_version_on.result
-        none
+    none
     (subst (λ (l : List ℕ). Plans (length_row_on state l (restored_group c.args.found.now c.args.said.now) c.args.now ∷ [])
-        (version_change_on l (restored_group c.args.found.now c.args.said.now)) c.commit_version_on.result) disks
+    (version_change_on l (restored_group c.args.found.now c.args.said.now)) c.commit_version_on.result) disks
     (subst (λ (g : Group). Plans (length_row_on state c.in_ok-disk_of.disk_of g c.args.now ∷ [])
-        (version_change_on c.in_ok-disk_of.disk_of g) c.commit_version_on.result) next c.commit_version_on.ensures))
+    (version_change_on c.in_ok-disk_of.disk_of g) c.commit_version_on.result) next c.commit_version_on.ensures))

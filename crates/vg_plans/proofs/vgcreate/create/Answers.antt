@@ -20,18 +20,18 @@ returns-in_err-all c =
     rw (p.1, p.2)
     (refused_front (unknown_row c.args.state.now c.args.names.now ∷ [])
     (create_rows c.args.state.now c.args.base (added_of c.args.state.now c.args.names.now)
-        ++ text_row c.args.state.now c.args.base [] (added_of c.args.state.now c.args.names.now) c.args.now ∷ []) _
+    ++ text_row c.args.state.now c.args.base [] (added_of c.args.state.now c.args.names.now) c.args.now ∷ []) _
     (one_row _ _ c.in_err-all.ensures))
 
 pub judge_added-requires-clause-added : goal.judge_added-requires-clause-added
 judge_added-requires-clause-added c =
     subst (All IsAdded) (sym c.in_ok-all.ensures.1 ∙ sym c.deref.ensures.value)
-        (all_added c.args.state.now c.requires.state c.args.names.now)
+    (all_added c.args.state.now c.requires.state c.args.names.now)
 
 pub judge_added-requires-clause-disks : goal.judge_added-requires-clause-disks
 judge_added-requires-clause-disks c =
     added_below _ (subst (All IsAdded) (sym c.in_ok-all.ensures.1 ∙ sym c.deref.ensures.value)
-        (all_added c.args.state.now c.requires.state c.args.names.now))
+    (all_added c.args.state.now c.requires.state c.args.names.now))
 
 pub judge_added-requires-clause-size : goal.judge_added-requires-clause-size
 judge_added-requires-clause-size c = c.requires.new.most
@@ -43,18 +43,18 @@ returns-in_err-judge_added c =
     rw (p.1, p.2)
     (refused_back (unknown_row c.args.state.now c.args.names.now ∷ [])
     (create_rows c.args.state.now c.args.base (added_of c.args.state.now c.args.names.now)
-        ++ text_row c.args.state.now c.args.base [] (added_of c.args.state.now c.args.names.now) c.args.now ∷ []) _
-        (none_row _ c.in_ok-all.ensures.0)
+    ++ text_row c.args.state.now c.args.base [] (added_of c.args.state.now c.args.names.now) c.args.now ∷ []) _
+    (none_row _ c.in_ok-all.ensures.0)
     (refused_front (create_rows c.args.state.now c.args.base (added_of c.args.state.now c.args.names.now))
-        (text_row c.args.state.now c.args.base [] (added_of c.args.state.now c.args.names.now) c.args.now ∷ []) _
+    (text_row c.args.state.now c.args.base [] (added_of c.args.state.now c.args.names.now) c.args.now ∷ []) _
     (subst (λ (l : List AddedPv). IsRefusedBy (first_refusal (create_rows c.args.state.now c.args.base l)) c.in_err-judge_added.field-0.0)
-        all c.in_err-judge_added.ensures)))
+    all c.in_err-judge_added.ensures)))
 
 pub commit-requires-clause-few : goal.commit-requires-clause-few
 commit-requires-clause-few c =
     created_few c.args.state.now c.args.base c.requires.new c.in_ok-all.all.items
-        (subst (λ (l : List AddedPv). first_refusal (create_rows c.args.state.now c.args.base l) ≡ None) c.deref.ensures.value
-        c.in_ok-judge_added.ensures)
+    (subst (λ (l : List AddedPv). first_refusal (create_rows c.args.state.now c.args.base l) ≡ None) c.deref.ensures.value
+    c.in_ok-judge_added.ensures)
 
 pub commit-requires-clause-size : goal.commit-requires-clause-size
 commit-requires-clause-size c = omega (arith, c.requires.new.least)
@@ -63,13 +63,13 @@ pub commit-requires-clause-accepted : goal.commit-requires-clause-accepted
 commit-requires-clause-accepted c =
     (created_whole c.args.state.now c.requires.state c.args.base c.requires.new c.args.names.now c.in_ok-all.all.items c.in_ok-all.ensures.1
     (subst (λ (l : List AddedPv). first_refusal (create_rows c.args.state.now c.args.base l) ≡ None) c.deref.ensures.value
-        c.in_ok-judge_added.ensures)).accepted
+    c.in_ok-judge_added.ensures)).accepted
 
 pub commit-requires-clause-tree : goal.commit-requires-clause-tree
 commit-requires-clause-tree c =
     (created_whole c.args.state.now c.requires.state c.args.base c.requires.new c.args.names.now c.in_ok-all.all.items c.in_ok-all.ensures.1
     (subst (λ (l : List AddedPv). first_refusal (create_rows c.args.state.now c.args.base l) ≡ None) c.deref.ensures.value
-        c.in_ok-judge_added.ensures)).tree
+    c.in_ok-judge_added.ensures)).tree
 
 pub commit-requires-clause-disks : goal.commit-requires-clause-disks
 commit-requires-clause-disks c =
@@ -85,13 +85,13 @@ commit-requires-clause-areas c = areas_take c.args.state.now c.requires.state
 pub returns : goal.returns
 returns c =
     let none =
-        subst (λ (l : List AddedPv). first_refusal (create_rows c.args.state.now c.args.base l) ≡ None)
-            (c.deref.ensures.value ∙ c.in_ok-all.ensures.1) c.in_ok-judge_added.ensures in
+    subst (λ (l : List AddedPv). first_refusal (create_rows c.args.state.now c.args.base l) ≡ None)
+    (c.deref.ensures.value ∙ c.in_ok-all.ensures.1) c.in_ok-judge_added.ensures in
     plans_back (unknown_row c.args.state.now c.args.names.now
-        ∷ create_rows c.args.state.now c.args.base (added_of c.args.state.now c.args.names.now))
+    ∷ create_rows c.args.state.now c.args.base (added_of c.args.state.now c.args.names.now))
     (text_row c.args.state.now c.args.base [] (added_of c.args.state.now c.args.names.now) c.args.now ∷ [])
-        (change_with c.args.base [] (added_of c.args.state.now c.args.names.now)) c.commit.result
+    (change_with c.args.base [] (added_of c.args.state.now c.args.names.now)) c.commit.result
     (none_both (unknown_row c.args.state.now c.args.names.now ∷ [])
-        (create_rows c.args.state.now c.args.base (added_of c.args.state.now c.args.names.now)) (none_row _ c.in_ok-all.ensures.0) none)
+    (create_rows c.args.state.now c.args.base (added_of c.args.state.now c.args.names.now)) (none_row _ c.in_ok-all.ensures.0) none)
     (subst (λ (l : List AddedPv). Plans (text_row c.args.state.now c.args.base [] l c.args.now ∷ []) (change_with c.args.base [] l)
-        c.commit.result) c.in_ok-all.ensures.1 c.commit.ensures)
+    c.commit.result) c.in_ok-all.ensures.1 c.commit.ensures)

@@ -27,28 +27,28 @@ returns-in_err-judge_group c =
     let p = err_from_is_err_and c.from_residual.result c.from_residual.ensures.1 in
     rw (p.1, p.2)
     (refused_front (group_rows c.args.group.now c.args.vg.now)
-        (unknown_row c.args.state.now c.args.names.now
-        ∷ (extend_rows c.args.state.now c.args.group.now (added_of c.args.state.now c.args.names.now)
-        ++ text_row c.args.state.now (next_version c.args.group.now) c.args.state.now.disk_of (added_of c.args.state.now c.args.names.now)
-        c.args.now ∷ [])) _
+    (unknown_row c.args.state.now c.args.names.now
+    ∷ (extend_rows c.args.state.now c.args.group.now (added_of c.args.state.now c.args.names.now)
+    ++ text_row c.args.state.now (next_version c.args.group.now) c.args.state.now.disk_of (added_of c.args.state.now c.args.names.now)
+    c.args.now ∷ [])) _
     (subst (λ (g : Group). IsRefusedBy (first_refusal (group_rows g c.args.vg.now)) c.in_err-judge_group.field-0.0)
-        c.group-found.ensures.group c.in_err-judge_group.ensures))
+    c.group-found.ensures.group c.in_err-judge_group.ensures))
 
 pub returns-in_err-all : goal.returns-in_err-all
 returns-in_err-all c =
     let p = err_from_is_err_and c.from_residual-in_err-all.result c.from_residual-in_err-all.ensures.1 in
     let none =
-        subst (λ (g : Group). first_refusal (group_rows g c.args.vg.now) ≡ None) c.group-found.ensures.group c.in_ok-judge_group.ensures in
+    subst (λ (g : Group). first_refusal (group_rows g c.args.vg.now) ≡ None) c.group-found.ensures.group c.in_ok-judge_group.ensures in
     rw (p.1, p.2)
     (refused_back (group_rows c.args.group.now c.args.vg.now)
-        (unknown_row c.args.state.now c.args.names.now
-        ∷ (extend_rows c.args.state.now c.args.group.now (added_of c.args.state.now c.args.names.now)
-        ++ text_row c.args.state.now (next_version c.args.group.now) c.args.state.now.disk_of (added_of c.args.state.now c.args.names.now)
-        c.args.now ∷ [])) _ none
+    (unknown_row c.args.state.now c.args.names.now
+    ∷ (extend_rows c.args.state.now c.args.group.now (added_of c.args.state.now c.args.names.now)
+    ++ text_row c.args.state.now (next_version c.args.group.now) c.args.state.now.disk_of (added_of c.args.state.now c.args.names.now)
+    c.args.now ∷ [])) _ none
     (refused_front (unknown_row c.args.state.now c.args.names.now ∷ [])
-        (extend_rows c.args.state.now c.args.group.now (added_of c.args.state.now c.args.names.now)
-        ++ text_row c.args.state.now (next_version c.args.group.now) c.args.state.now.disk_of (added_of c.args.state.now c.args.names.now)
-        c.args.now ∷ []) _ (one_row _ _ c.in_err-all.ensures)))
+    (extend_rows c.args.state.now c.args.group.now (added_of c.args.state.now c.args.names.now)
+    ++ text_row c.args.state.now (next_version c.args.group.now) c.args.state.now.disk_of (added_of c.args.state.now c.args.names.now)
+    c.args.now ∷ []) _ (one_row _ _ c.in_err-all.ensures)))
 
 pub judge_added-requires-clause-listed : goal.judge_added-requires-clause-listed
 judge_added-requires-clause-listed c = listed_below c.args.state.now c.args.group.now c.requires.state c.requires.found
@@ -56,7 +56,7 @@ judge_added-requires-clause-listed c = listed_below c.args.state.now c.args.grou
 pub judge_added-requires-clause-added : goal.judge_added-requires-clause-added
 judge_added-requires-clause-added c =
     subst (All IsAdded) (sym c.in_ok-all.ensures.1 ∙ sym c.deref.ensures.value)
-        (all_added c.args.state.now c.requires.state c.args.names.now)
+    (all_added c.args.state.now c.requires.state c.args.names.now)
 
 pub judge_added-requires-clause-size : goal.judge_added-requires-clause-size
 judge_added-requires-clause-size c = let most = (c.group-found.ensures.accepted Numbers).extent_size.1 in omega (arith, most)
@@ -71,32 +71,32 @@ pub returns-in_err-judge_added : goal.returns-in_err-judge_added
 returns-in_err-judge_added c =
     let p = err_from_is_err_and c.from_residual-in_err-judge_added.result c.from_residual-in_err-judge_added.ensures.1 in
     let none =
-        subst (λ (g : Group). first_refusal (group_rows g c.args.vg.now) ≡ None) c.group-found.ensures.group c.in_ok-judge_group.ensures in
+    subst (λ (g : Group). first_refusal (group_rows g c.args.vg.now) ≡ None) c.group-found.ensures.group c.in_ok-judge_group.ensures in
     let refused =
-        subst (λ (g : Group). IsRefusedBy (first_refusal (extend_rows c.args.state.now g c.deref.result.now))
-            c.in_err-judge_added.field-0.0) c.group-found.ensures.group c.in_err-judge_added.ensures in
+    subst (λ (g : Group). IsRefusedBy (first_refusal (extend_rows c.args.state.now g c.deref.result.now))
+    c.in_err-judge_added.field-0.0) c.group-found.ensures.group c.in_err-judge_added.ensures in
     rw (p.1, p.2)
     (refused_back (group_rows c.args.group.now c.args.vg.now)
-        (unknown_row c.args.state.now c.args.names.now
-        ∷ (extend_rows c.args.state.now c.args.group.now (added_of c.args.state.now c.args.names.now)
-        ++ text_row c.args.state.now (next_version c.args.group.now) c.args.state.now.disk_of (added_of c.args.state.now c.args.names.now)
-        c.args.now ∷ [])) _ none
+    (unknown_row c.args.state.now c.args.names.now
+    ∷ (extend_rows c.args.state.now c.args.group.now (added_of c.args.state.now c.args.names.now)
+    ++ text_row c.args.state.now (next_version c.args.group.now) c.args.state.now.disk_of (added_of c.args.state.now c.args.names.now)
+    c.args.now ∷ [])) _ none
     (refused_back (unknown_row c.args.state.now c.args.names.now ∷ [])
-        (extend_rows c.args.state.now c.args.group.now (added_of c.args.state.now c.args.names.now)
-        ++ text_row c.args.state.now (next_version c.args.group.now) c.args.state.now.disk_of (added_of c.args.state.now c.args.names.now)
-        c.args.now ∷ []) _ (none_row _ c.in_ok-all.ensures.0)
+    (extend_rows c.args.state.now c.args.group.now (added_of c.args.state.now c.args.names.now)
+    ++ text_row c.args.state.now (next_version c.args.group.now) c.args.state.now.disk_of (added_of c.args.state.now c.args.names.now)
+    c.args.now ∷ []) _ (none_row _ c.in_ok-all.ensures.0)
     (refused_front (extend_rows c.args.state.now c.args.group.now (added_of c.args.state.now c.args.names.now))
     (text_row c.args.state.now (next_version c.args.group.now) c.args.state.now.disk_of (added_of c.args.state.now c.args.names.now)
-        c.args.now ∷ []) _
+    c.args.now ∷ []) _
     (subst (λ (l : List AddedPv). IsRefusedBy (first_refusal (extend_rows c.args.state.now c.args.group.now l))
-        c.in_err-judge_added.field-0.0) (c.deref.ensures.value ∙ c.in_ok-all.ensures.1) refused))))
+    c.in_err-judge_added.field-0.0) (c.deref.ensures.value ∙ c.in_ok-all.ensures.1) refused))))
 
 pub commit-requires-clause-few : goal.commit-requires-clause-few
 commit-requires-clause-few c =
     let accepted : IsAccepted c.args.group.now = subst IsAccepted c.group-found.ensures.group c.group-found.ensures.accepted in
     let passed =
-        subst (λ (g : Group). first_refusal (extend_rows c.args.state.now g c.deref.result.now) ≡ None) c.group-found.ensures.group
-            c.in_ok-judge_added.ensures in
+    subst (λ (g : Group). first_refusal (extend_rows c.args.state.now g c.deref.result.now) ≡ None) c.group-found.ensures.group
+    c.in_ok-judge_added.ensures in
     next_few c.args.state.now c.args.group.now c.in_ok-base.base c.in_ok-base.ensures accepted c.in_ok-all.all.items
     (subst (λ (l : List AddedPv). first_refusal (extend_rows c.args.state.now c.args.group.now l) ≡ None) c.deref.ensures.value passed)
 
@@ -112,30 +112,30 @@ commit-requires-clause-accepted c =
     let accepted : IsAccepted c.args.group.now = subst IsAccepted c.group-found.ensures.group c.group-found.ensures.accepted in
     let tree : HasTree c.args.group.now = subst HasTree c.group-found.ensures.group c.group-found.ensures.stands in
     let passed =
-        subst (λ (g : Group). first_refusal (extend_rows c.args.state.now g c.deref.result.now) ≡ None) c.group-found.ensures.group
-            c.in_ok-judge_added.ensures in
+    subst (λ (g : Group). first_refusal (extend_rows c.args.state.now g c.deref.result.now) ≡ None) c.group-found.ensures.group
+    c.in_ok-judge_added.ensures in
     (next_whole c.args.state.now c.requires.state c.args.group.now c.in_ok-base.base c.args.names.now c.in_ok-all.all.items c.requires.found
-        c.in_ok-base.ensures c.in_ok-all.ensures.1 accepted tree
+    c.in_ok-base.ensures c.in_ok-all.ensures.1 accepted tree
     (subst (λ (l : List AddedPv). first_refusal (extend_rows c.args.state.now c.args.group.now l) ≡ None) c.deref.ensures.value
-        passed)).accepted
+    passed)).accepted
 
 pub commit-requires-clause-tree : goal.commit-requires-clause-tree
 commit-requires-clause-tree c =
     let accepted : IsAccepted c.args.group.now = subst IsAccepted c.group-found.ensures.group c.group-found.ensures.accepted in
     let tree : HasTree c.args.group.now = subst HasTree c.group-found.ensures.group c.group-found.ensures.stands in
     let passed =
-        subst (λ (g : Group). first_refusal (extend_rows c.args.state.now g c.deref.result.now) ≡ None) c.group-found.ensures.group
-            c.in_ok-judge_added.ensures in
+    subst (λ (g : Group). first_refusal (extend_rows c.args.state.now g c.deref.result.now) ≡ None) c.group-found.ensures.group
+    c.in_ok-judge_added.ensures in
     (next_whole c.args.state.now c.requires.state c.args.group.now c.in_ok-base.base c.args.names.now c.in_ok-all.all.items c.requires.found
-        c.in_ok-base.ensures c.in_ok-all.ensures.1 accepted tree
+    c.in_ok-base.ensures c.in_ok-all.ensures.1 accepted tree
     (subst (λ (l : List AddedPv). first_refusal (extend_rows c.args.state.now c.args.group.now l) ≡ None) c.deref.ensures.value
-        passed)).tree
+    passed)).tree
 
 pub commit-requires-clause-disks : goal.commit-requires-clause-disks
 commit-requires-clause-disks c =
     subst (λ (listed : List ℕ). All (λ number. number < 64) (listed ++ disks_added c.in_ok-all.all.items)) (sym c.as_slice.ensures)
     (both_below c.args.state.now.disk_of c.in_ok-all.all.items
-        (listed_below c.args.state.now c.args.group.now c.requires.state c.requires.found)
+    (listed_below c.args.state.now c.args.group.now c.requires.state c.requires.found)
     (subst (All IsAdded) (sym c.in_ok-all.ensures.1) (all_added c.args.state.now c.requires.state c.args.names.now)))
 
 pub commit-requires-clause-added : goal.commit-requires-clause-added
@@ -161,17 +161,17 @@ returns c =
     let group = c.args.group.now in
     let found = added_of state c.args.names.now in
     let first =
-        subst (λ (g : Group). first_refusal (group_rows g c.args.vg.now) ≡ None) c.group-found.ensures.group c.in_ok-judge_group.ensures in
+    subst (λ (g : Group). first_refusal (group_rows g c.args.vg.now) ≡ None) c.group-found.ensures.group c.in_ok-judge_group.ensures in
     let passed =
-        subst (λ (g : Group). first_refusal (extend_rows state g c.deref.result.now) ≡ None) c.group-found.ensures.group
-            c.in_ok-judge_added.ensures in
+    subst (λ (g : Group). first_refusal (extend_rows state g c.deref.result.now) ≡ None) c.group-found.ensures.group
+    c.in_ok-judge_added.ensures in
     let last =
-        subst (λ (l : List AddedPv). first_refusal (extend_rows state group l) ≡ None) (c.deref.ensures.value ∙ c.in_ok-all.ensures.1)
-            passed in
+    subst (λ (l : List AddedPv). first_refusal (extend_rows state group l) ≡ None) (c.deref.ensures.value ∙ c.in_ok-all.ensures.1)
+    passed in
     plans_back (group_rows group c.args.vg.now ++ unknown_row state c.args.names.now ∷ extend_rows state group found)
-        (text_row state (next_version group) state.disk_of found c.args.now ∷ [])
+    (text_row state (next_version group) state.disk_of found c.args.now ∷ [])
     (change_with (next_version group) state.disk_of found) c.commit.result
     (none_both (group_rows group c.args.vg.now) (unknown_row state c.args.names.now ∷ extend_rows state group found) first
     (none_both (unknown_row state c.args.names.now ∷ []) (extend_rows state group found) (none_row _ c.in_ok-all.ensures.0) last))
     (planned state c.in_ok-base.base (next_version group) c.as_slice.result.now state.disk_of c.in_ok-all.all.items found c.args.now
-        c.commit.result c.in_ok-base.ensures c.as_slice.ensures c.in_ok-all.ensures.1 c.commit.ensures)
+    c.commit.result c.in_ok-base.ensures c.as_slice.ensures c.in_ok-all.ensures.1 c.commit.ensures)

@@ -8,7 +8,7 @@ use Rattle.vg_plans.proofs.vgextend.judge_added.Goals as goal
 pub judge_areas-requires : goal.judge_areas-requires
 judge_areas-requires c =
     subst (All (λ number. number < 64)) (sym
-        (c.as_slice-4.ensures ∙ c.in_ok-disks.ensures ∙ ap (λ (l : List ℕ). l ++ disks_added c.args.all.now) c.as_slice-2.ensures))
+    (c.as_slice-4.ensures ∙ c.in_ok-disks.ensures ∙ ap (λ (l : List ℕ). l ++ disks_added c.args.all.now) c.as_slice-2.ensures))
     (both_below c.args.state.now.disk_of c.args.all.now c.requires.listed c.requires.added)
 
 pub overflow_add-count : goal.overflow_add-count

@@ -7,4 +7,4 @@ use Rattle.vg_plans.proofs.vgextend.judge_ids.Given as goal
 abbrev pub invariant-loop-added : goal.invariant-loop-added
 invariant-loop-added l =
     find (λ (added : AddedPv). has_other_id l.group added.header.id) (drop l.added-index l.all)
-        ≡ find (λ (added : AddedPv). has_other_id l.group added.header.id) l.all
+    ≡ find (λ (added : AddedPv). has_other_id l.group added.header.id) l.all

@@ -8,12 +8,12 @@ use Rattle.vg_plans.proofs.vgreduce.leave.Goals as goal
 pub judge_leaving-requires-clause-disks : goal.judge_leaving-requires-clause-disks
 judge_leaving-requires-clause-disks c =
     rest_below c.args.state.now c.args.group.now c.args.number c.in_ok-rest.rest c.requires.state c.requires.found
-        (c.in_ok-rest.ensures ∙ ap (λ (l : List ℕ). remove l c.args.number) c.as_slice.ensures)
+    (c.in_ok-rest.ensures ∙ ap (λ (l : List ℕ). remove l c.args.number) c.as_slice.ensures)
 
 pub commit_version_on-requires-clause-disks : goal.commit_version_on-requires-clause-disks
 commit_version_on-requires-clause-disks c =
     rest_below c.args.state.now c.args.group.now c.args.number c.in_ok-rest.rest c.requires.state c.requires.found
-        (c.in_ok-rest.ensures ∙ ap (λ (l : List ℕ). remove l c.args.number) c.as_slice.ensures)
+    (c.in_ok-rest.ensures ∙ ap (λ (l : List ℕ). remove l c.args.number) c.as_slice.ensures)
 
 pub commit_version_on-requires-clause-areas : goal.commit_version_on-requires-clause-areas
 commit_version_on-requires-clause-areas c = areas_take c.args.state.now c.requires.state

@@ -17,7 +17,7 @@ returns-in_err-judge_rename c =
     (refused_front (rename_tests c.args.state.now c.args.vg.now c.args.new.now c.args.group.now)
     (length_row c.args.state.now (renamed_group c.args.group.now c.args.new.now) c.args.now ∷ []) _
     (subst (λ (g : Group). IsRefusedBy (first_refusal (rename_tests c.args.state.now c.args.vg.now c.args.new.now g))
-        c.in_err-judge_rename.field-0.0) c.group.ensures.group c.in_err-judge_rename.ensures))
+    c.in_err-judge_rename.field-0.0) c.group.ensures.group c.in_err-judge_rename.ensures))
 
 pub commit_version-requires-clause-areas : goal.commit_version-requires-clause-areas
 commit_version-requires-clause-areas c = areas_take c.args.state.now c.requires.state

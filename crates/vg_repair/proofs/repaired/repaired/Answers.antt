@@ -18,14 +18,14 @@ repaired_disks-requires-clause-each c pv disk at =
       λ number found is area old. (has_room c.args.found c.requires.shape c.requires.room c.requires.fields pv disk there number found is
           area
           (ap (λ (stale : List (ℕ × ℕ)). stale_in stale pv (number, found)) (sym (c.in_ok-stale_set.ensures ∙ c.as_slice.ensures))
-              ∙ old)).1,
+          ∙ old)).1,
     )
 
 pub held_areas-requires : goal.held_areas-requires
 held_areas-requires c =
     let made : length c.deref.result.now ≡ length c.into_vec.result.items =
     ap (λ (l : List Disk). length l) (c.deref.ensures.value ∙ c.in_ok-disks.ensures)
-        ∙ mapped_length (repaired_disk c.in_ok-stale_set.stale_set c.args.found.strays (text_of c.args.found)) c.into_vec.result.items
+    ∙ mapped_length (repaired_disk c.in_ok-stale_set.stale_set c.args.found.strays (text_of c.args.found)) c.into_vec.result.items
     in
     let came : length c.into_vec.result.items ≡ length c.args.found.disks = ap (λ (l : List Disk). length l) c.into_vec.ensures in
     record { few = omega (arith, made, came, c.requires.shape.few) }
@@ -41,12 +41,16 @@ whole-requires c =
     in
     subst HasShape
     (sym (remade c.args.found c.from_vec.result c.in_ok-areas.areas c.from_vec-2.result c.new-2.result (c.from_vec.ensures ∙ same)
-        (c.in_ok-areas.ensures ∙ ap (held_areas 0) (c.deref.ensures.value ∙ same)) (c.from_vec-2.ensures ∙ c.new.ensures.items)
+    (c.in_ok-areas.ensures ∙ ap (held_areas 0) (c.deref.ensures.value ∙ same)) (c.from_vec-2.ensures ∙ c.new.ensures.items)
     c.new-2.ensures))
     (repaired_shape c.args.found c.requires.shape c.requires.room c.requires.fields)
 
 pub unreachable-requires : goal.unreachable-requires
 unreachable-requires c =
-    never_not_whole (record c.args.found { disks = c.from_vec.result; areas = c.in_ok-areas.areas; stale = c.from_vec-2.result;
-        strays = c.new-2.result }) c.in-Err.field-0.why
+    never_not_whole (record c.args.found {
+      disks = c.from_vec.result;
+      areas = c.in_ok-areas.areas;
+      stale = c.from_vec-2.result;
+      strays = c.new-2.result;
+    }) c.in-Err.field-0.why
     (record { read = c.requires.whole.read; there = c.requires.whole.there }) c.in-Err.ensures.1

@@ -7,5 +7,5 @@ use Rattle.vg_repair.proofs.repaired.repaired_areas.Given as goal
 abbrev pub invariant-loop-number : goal.invariant-loop-number
 invariant-loop-number l =
     l.list.items ++ map (repaired_area l.repair.stale l.repair.strays (text_put l.repair) l.pv)
-        (enumerate_from l.number (drop l.number l.areas))
+    (enumerate_from l.number (drop l.number l.areas))
     ≡ repaired_areas l.repair.stale l.repair.strays (text_put l.repair) l.pv l.areas

@@ -13,7 +13,7 @@ repaired_disk-requires-clause-room c =
     subst (λ (n : ℕ). HasRoom c.args.repair.now n (areas_on c.in-Some.disk.contents)) number
     (c.requires.each (length c.pop.new.self.items) c.in-Some.disk
     (stood c.loop-disk.rest.items c.pop.new.self.items c.loop-disk.invariant.front.0 c.args.disks.items c.in-Some.disk
-        c.in-Some.ensures.items c.loop-disk.invariant.front.1)).1
+    c.in-Some.ensures.items c.loop-disk.invariant.front.1)).1
 
 pub loop-disk-preserved : goal.loop-disk-preserved
 loop-disk-preserved c =
@@ -29,8 +29,8 @@ loop-disk-preserved c =
       );
       done =
           one_taken (repaired_disk stale strays text) c.loop-disk.rest.items c.pop.new.self.items c.in-Some.disk c.loop-disk.done.items
-              c.push.new.self.items (repaired_disks stale strays text c.args.disks.items) c.in-Some.ensures.items
+          c.push.new.self.items (repaired_disks stale strays text c.args.disks.items) c.in-Some.ensures.items
           (c.in_ok-push.ensures.items ∙ ap (λ (d : Disk). c.loop-disk.done.items ++ d ∷ [])
-              (c.in_ok-repaired_disk.ensures ∙ ap (λ (n : ℕ). repaired_disk stale strays text (n, c.in-Some.disk)) number))
+          (c.in_ok-repaired_disk.ensures ∙ ap (λ (n : ℕ). repaired_disk stale strays text (n, c.in-Some.disk)) number))
           c.loop-disk.invariant.done;
     }

@@ -10,7 +10,7 @@ use Rattle.vg_repair.proofs.repairing.repair.Goals as goal
 pub write_in_turn-requires-clause-can_run : goal.write_in_turn-requires-clause-can_run
 write_in_turn-requires-clause-can_run g c =
     subst (λ (sizes : List ℕ). All (CanRun sizes) c.in-Ok.prepared.0.items)
-        (sizes_kept _ _ _ _ (sizes_of c.args.whole.disks) c.in_default.ensures.room c.requires.disks) c.in-Ok.ensures.1.run
+    (sizes_kept _ _ _ _ (sizes_of c.args.whole.disks) c.in_default.ensures.room c.requires.disks) c.in-Ok.ensures.1.run
 
 pub returns-in-Ok-write_in_turn-clause-images : goal.returns-in-Ok-write_in_turn-clause-images
 returns-in-Ok-write_in_turn-clause-images g c begun others =

@@ -28,7 +28,7 @@ returns-clause-given g c =
     let copies = c.read_entry.new.collected.copies in
     let gives = c.in_ok-gives.gives in
     holds_weaker (g.S.Shelf.state c.args.shelf.now).told pv
-        (λ sector_at. IsGiven sector_at (area_on pv found.area) found.entry (option_map (gives_of copies) gives))
+    (λ sector_at. IsGiven sector_at (area_on pv found.area) found.entry (option_map (gives_of copies) gives))
     (λ sector_at. IsAreaReading pv sector_at found
-        (area_of copies (record { start = found.area.offset / 512; sectors = found.area.size / 512; gives = gives })))
+    (area_of copies (record { start = found.area.offset / 512; sectors = found.area.size / 512; gives = gives })))
     (λ sector_at is. record { start_is = refl; sectors_is = refl; given = is }) c.in_ok-gives.ensures.given

@@ -28,13 +28,13 @@ returns-in_err-area-clause-reads g c =
     let rest = text_spans_in pv (drop (i + 1) areas) in
     rw (p.1, p.2)
     (until_sooner pv before after _ rest (text_spans_in pv areas) c.in_err-area.field-0.0
-        (text_spans_all pv areas i _ c.loop-found-test.true)
+    (text_spans_all pv areas i _ c.loop-found-test.true)
     (until_after pv before there after so_far _ c.in_err-area.field-0.0 c.loop-found.invariant.0 c.in_err-area.ensures.reads))
 
 pub returns-in_err-area-clause-continues : goal.returns-in_err-area-clause-continues
 returns-in_err-area-clause-continues g c =
     continues_both c.args.collected.now.copies c.loop-found.collected.copies c.read_area.new.collected.copies c.loop-found.invariant.4
-        c.read_area.ensures.continues
+    c.read_area.ensures.continues
 
 pub returns-in_err-push-clause-reads : goal.returns-in_err-push-clause-reads
 returns-in_err-push-clause-reads g c =
@@ -48,13 +48,13 @@ returns-in_err-push-clause-reads g c =
     let so_far = text_spans_in pv (take i areas) in
     rw (p.1, p.2)
     (until_wanting pv before after _ (text_spans_in pv (drop (i + 1) areas)) (text_spans_in pv areas)
-        (text_spans_all pv areas i _ c.loop-found-test.true)
+    (text_spans_all pv areas i _ c.loop-found-test.true)
     (well_both before there after so_far _ c.loop-found.invariant.0 c.in_ok-area.ensures.reads))
 
 pub returns-in_err-push-clause-continues : goal.returns-in_err-push-clause-continues
 returns-in_err-push-clause-continues g c =
     continues_both c.args.collected.now.copies c.loop-found.collected.copies c.read_area.new.collected.copies c.loop-found.invariant.4
-        c.read_area.ensures.continues
+    c.read_area.ensures.continues
 
 pub loop-found-preserved : goal.loop-found-preserved
 loop-found-preserved g c =
@@ -91,17 +91,17 @@ returns-clause-reads g c =
     let before = g.S.Shelf.state c.args.shelf.now in
     let there = g.S.Shelf.state c.loop-found.shelf in
     subst (λ (l : List AreaFound). ReadsWell before (text_spans_in c.args.pv l) there)
-        (take_all c.loop-found.found-index c.args.areas.now c.loop-found-test.false) c.loop-found.invariant.0
+    (take_all c.loop-found.found-index c.args.areas.now c.loop-found-test.false) c.loop-found.invariant.0
 
 pub returns-clause-given : goal.returns-clause-given
 returns-clause-given g c =
     let before = g.S.Shelf.state c.args.shelf.now in
     let readings = map (area_of c.loop-found.collected.copies) c.loop-found.all.items in
     subst (λ (l : List AreaFound). HoldsOfDisk before.told c.args.pv (λ sector_at. AreAreaReadings c.args.pv sector_at l readings))
-        (take_all c.loop-found.found-index c.args.areas.now c.loop-found-test.false) c.loop-found.invariant.1
+    (take_all c.loop-found.found-index c.args.areas.now c.loop-found-test.false) c.loop-found.invariant.1
 
 pub returns-clause-places : goal.returns-clause-places
 returns-clause-places g c =
     let readings = map (area_of c.loop-found.collected.copies) c.loop-found.all.items in
     subst (λ (l : List AreaFound). HavePlaces l readings) (take_all c.loop-found.found-index c.args.areas.now c.loop-found-test.false)
-        c.loop-found.invariant.2
+    c.loop-found.invariant.2

@@ -20,7 +20,7 @@ pub returns-in-Ignored-clause-given : goal.returns-in-Ignored-clause-given
 returns-in-Ignored-clause-given g c =
     let area = c.args.area.now in
     rw c.in-Ignored.is (holds_always (g.S.Shelf.state c.args.shelf.now).told area.pv (λ sector_at. IsGiven sector_at area Ignored None)
-        (λ sector_at. refl))
+    (λ sector_at. refl))
 
 pub returns-in-Ignored-clause-continues : goal.returns-in-Ignored-clause-continues
 returns-in-Ignored-clause-continues g c = continues_same c.args.collected.now.copies c.args.collected.now.copies refl
@@ -33,7 +33,7 @@ pub returns-in-Nothing-clause-given : goal.returns-in-Nothing-clause-given
 returns-in-Nothing-clause-given g c =
     let area = c.args.area.now in
     rw c.in-Nothing.is (holds_always (g.S.Shelf.state c.args.shelf.now).told area.pv
-        (λ sector_at. IsGiven sector_at area Nothing (Some HoldsNone)) (λ sector_at. refl))
+    (λ sector_at. IsGiven sector_at area Nothing (Some HoldsNone)) (λ sector_at. refl))
 
 pub returns-in-Nothing-clause-continues : goal.returns-in-Nothing-clause-continues
 returns-in-Nothing-clause-continues g c = continues_same c.args.collected.now.copies c.args.collected.now.copies refl
@@ -50,7 +50,7 @@ returns-in_ok-read_text-in-Text-clause-given g c =
     let given = gives_of c.read_text.new.collected.copies c.in_ok-read_text-in-Text.field-0 in
     rw c.in-Text.is
     (holds_weaker (g.S.Shelf.state c.args.shelf.now).told area.pv (λ sector_at. IsStored locn (stored_bytes sector_at area locn) given)
-        (λ sector_at. IsGiven sector_at area (Text locn) (Some given))
+    (λ sector_at. IsGiven sector_at area (Text locn) (Some given))
     (λ sector_at is. (given, refl, is)) c.in_ok-read_text-in-Text.ensures.given)
 
 pub returns-in-Refused-clause-reads : goal.returns-in-Refused-clause-reads
@@ -62,7 +62,7 @@ returns-in-Refused-clause-given g c =
     let area = c.args.area.now in
     let why = c.in-Refused.refusal in
     rw c.in-Refused.is (holds_always (g.S.Shelf.state c.args.shelf.now).told area.pv
-        (λ sector_at. IsGiven sector_at area (RefusedFor why) (Some (Refused (HeaderRefused why)))) (λ sector_at. refl))
+    (λ sector_at. IsGiven sector_at area (RefusedFor why) (Some (Refused (HeaderRefused why)))) (λ sector_at. refl))
 
 pub returns-in-Refused-clause-continues : goal.returns-in-Refused-clause-continues
 returns-in-Refused-clause-continues g c = continues_same c.args.collected.now.copies c.args.collected.now.copies refl

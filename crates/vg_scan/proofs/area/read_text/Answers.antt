@@ -22,10 +22,10 @@ returns-clause-reads g c =
     let texts = text_spans area c.args.locn in
     let went = c.in_ok-bytes.ensures.bytes.0 in
     MatchResult-weaker c.take_text.result c.take_text.ensures.given (λ gives is. went)
-        (λ refusal wanting. wanting_after area.pv before after texts refusal wanting went)
+    (λ refusal wanting. wanting_after area.pv before after texts refusal wanting went)
 
 pub returns-clause-given : goal.returns-clause-given
 returns-clause-given g c =
     let before = g.S.Shelf.state c.args.shelf.now in
     given_by_bytes c.args.area.now c.args.locn before c.in_ok-bytes.bytes.items c.take_text.new.collected.copies
-        c.in_ok-bytes.ensures.bytes.1 c.take_text.result c.take_text.ensures.given
+    c.in_ok-bytes.ensures.bytes.1 c.take_text.result c.take_text.ensures.given

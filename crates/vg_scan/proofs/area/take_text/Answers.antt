@@ -10,7 +10,7 @@ use Rattle.vg_scan.proofs.area.take_text.Goals as goal
 pub returns-in-Some-clause-given : goal.returns-in-Some-clause-given
 returns-in-Some-clause-given c =
     subst (λ (l : List ℕ). IsStored c.args.locn l (gives_of c.args.collected.now.copies (Numbered c.in-Some.number))) c.deref.ensures.value
-        c.in-Some.ensures.1
+    c.in-Some.ensures.1
 
 pub returns-in-Some-clause-continues : goal.returns-in-Some-clause-continues
 returns-in-Some-clause-continues c = continues_same c.args.collected.now.copies c.args.collected.now.copies refl
@@ -30,7 +30,7 @@ pub returns-in_ok-push_copy-in-Ok-clause-given : goal.returns-in_ok-push_copy-in
 returns-in_ok-push_copy-in-Ok-clause-given c =
     let pushed = c.in_ok-push_copy-in-Ok.ensures.copies in
     taken_copy c.args.collected.now.copies c.push_copy.new.self.copies c.in-Ok.copy c.in_ok-push_copy-in-Ok.field-0 pushed.0 pushed.1
-        c.args.locn c.args.bytes.items (rw c.in-Ok.is at c.in_ok-copy.ensures)
+    c.args.locn c.args.bytes.items (rw c.in-Ok.is at c.in_ok-copy.ensures)
 
 pub returns-in_ok-push_copy-in-Ok-clause-numbers : goal.returns-in_ok-push_copy-in-Ok-clause-numbers
 returns-in_ok-push_copy-in-Ok-clause-numbers c =

@@ -12,5 +12,5 @@ returns-in-Ok c =
     let is_text : IsTextOf text tree = subst (λ (l : List ℕ). IsTextOf l tree) c.as_bytes.ensures c.in-Ok.ensures in
     MatchResult-weaker c.group_in_tree.result c.group_in_tree.ensures
     (λ judged is. MatchResult-weaker judged is (λ found it. copy_in_text text tree found.0 found.1 is_text it)
-        (λ refusal it. text_refused text tree refusal is_text it))
+    (λ refusal it. text_refused text tree refusal is_text it))
     (λ refusal is. is)

@@ -9,5 +9,5 @@ returns-in-Ok c =
     let text = c.in-Ok.text in
     MatchResult-weaker c.judge_text.result c.judge_text.ensures
     (λ judged is. MatchResult-weaker judged is (λ copy it. stored_copy c.args.locn bytes text copy c.in-Ok.ensures.text it)
-        (λ refusal it. bytes_refused c.args.locn bytes text refusal c.in-Ok.ensures.text it))
+    (λ refusal it. bytes_refused c.args.locn bytes text refusal c.in-Ok.ensures.text it))
     (λ refusal is. is)

@@ -24,8 +24,14 @@ returns c =
       unread = c.args.unread;
     })
     c.requires.some c.requires.few c.requires.shapes (λ disks each. areas_shaped disks each) c.in_ok-decided.ensures
-    (record { group = c.parts_of-group.ensures.group; text = c.parts_of-group.ensures.text; unknown = c.parts_of-group.ensures.unknown;
-        stale = refl; strays = refl; missing = refl })
+    (record {
+      group = c.parts_of-group.ensures.group;
+      text = c.parts_of-group.ensures.text;
+      unknown = c.parts_of-group.ensures.unknown;
+      stale = refl;
+      strays = refl;
+      missing = refl;
+    })
     c.from_vec.ensures refl (c.in_ok-areas.ensures ∙ ap (held_areas 0) c.deref.ensures.value)
     (subst (λ (l : List Disk). IfSome decided.copy (λ copy. c.in_ok-disk_of.disk_of ≡ disks_of copy.group l)) c.deref-2.ensures.value
-        c.in_ok-disk_of.ensures)
+    c.in_ok-disk_of.ensures)

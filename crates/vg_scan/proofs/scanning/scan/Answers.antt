@@ -40,19 +40,19 @@ name_unread-requires g c = omega (arith, c.loop-pv-test.true, c.count-pv-end.ens
 pub found_of-requires-clause-some : goal.found_of-requires-clause-some
 found_of-requires-clause-some g c =
     some_scanned (g.S.Shelf.state c.args.shelf.now) (g.S.Shelf.state c.loop-pv.shelf) c.loop-pv.pv c.loop-pv.disks.items c.loop-pv.unread
-        c.loop-pv.collected.disks c.loop-pv.invariant.0
+    c.loop-pv.collected.disks c.loop-pv.invariant.0
     (omega (arith, c.loop-pv-test.false, c.count-pv-end.ensures)) c.requires.some
 
 pub found_of-requires-clause-few : goal.found_of-requires-clause-few
 found_of-requires-clause-few g c =
     few_scanned (g.S.Shelf.state c.args.shelf.now) (g.S.Shelf.state c.loop-pv.shelf) c.loop-pv.pv c.loop-pv.disks.items c.loop-pv.unread
-        c.loop-pv.collected.disks c.loop-pv.invariant.0
+    c.loop-pv.collected.disks c.loop-pv.invariant.0
     (omega (arith, c.loop-pv.auto.pv-end, c.count-pv-end.ensures)) c.requires.few
 
 pub found_of-requires-clause-shapes : goal.found_of-requires-clause-shapes
 found_of-requires-clause-shapes g c =
     subst (λ (all : AllRead). HaveShapes c.loop-pv.disks.items c.loop-pv.unread all.disks) (sym c.into_readings.ensures)
-        c.loop-pv.invariant.0.shape
+    c.loop-pv.invariant.0.shape
 
 -- ---- none yet
 
@@ -76,7 +76,7 @@ loop-pv-preserved g c =
       next_scanned pv c.loop-pv.disks.items c.push.new.self.items c.loop-pv.unread c.name_unread.new.unread c.loop-pv.collected.disks
           c.scan_disk.new.collected.disks c.in_ok-disk.disk s0 s1 s2 c.loop-pv.invariant.0
           c.in_ok-disk.ensures.disk c.scan_disk.ensures.reads was.sizes within (c.requires.least pv within) (c.requires.most pv within)
-              c.in_ok-push.ensures.items c.name_unread.ensures,
+          c.in_ok-push.ensures.items c.name_unread.ensures,
       again_both s0 s1 s2 was c.scan_disk.ensures.again,
     )
 
@@ -89,28 +89,28 @@ returns-in_err-disk-clause-scan g c =
 pub returns-in_err-disk-clause-again : goal.returns-in_err-disk-clause-again
 returns-in_err-disk-clause-again g c =
     again_both (g.S.Shelf.state c.args.shelf.now) (g.S.Shelf.state c.loop-pv.shelf) (g.S.Shelf.state c.scan_disk.new.shelf)
-        c.loop-pv.invariant.1 c.scan_disk.ensures.again
+    c.loop-pv.invariant.1 c.scan_disk.ensures.again
 
 pub returns-in_err-disk-clause-reads : goal.returns-in_err-disk-clause-reads
 returns-in_err-disk-clause-reads g c =
     reads_stopped c.loop-pv.pv c.loop-pv.disks.items c.loop-pv.unread c.loop-pv.collected.disks (g.S.Shelf.state c.args.shelf.now)
-        (g.S.Shelf.state c.loop-pv.shelf) (g.S.Shelf.state c.scan_disk.new.shelf) c.loop-pv.invariant.0
+    (g.S.Shelf.state c.loop-pv.shelf) (g.S.Shelf.state c.scan_disk.new.shelf) c.loop-pv.invariant.0
     c.loop-pv.invariant.1.sizes c.scan_disk.ensures.reads
 
 pub returns-in_err-push-clause-scan : goal.returns-in_err-push-clause-scan
 returns-in_err-push-clause-scan g c =
     wanting (g.S.Shelf.state c.args.shelf.now) (g.S.Shelf.state c.scan_disk.new.shelf) c.from_residual-in_err-push.result
-        c.from_residual-in_err-push.ensures.1
+    c.from_residual-in_err-push.ensures.1
 
 pub returns-in_err-push-clause-again : goal.returns-in_err-push-clause-again
 returns-in_err-push-clause-again g c =
     again_both (g.S.Shelf.state c.args.shelf.now) (g.S.Shelf.state c.loop-pv.shelf) (g.S.Shelf.state c.scan_disk.new.shelf)
-        c.loop-pv.invariant.1 c.scan_disk.ensures.again
+    c.loop-pv.invariant.1 c.scan_disk.ensures.again
 
 pub returns-in_err-push-clause-reads : goal.returns-in_err-push-clause-reads
 returns-in_err-push-clause-reads g c =
     reads_stopped c.loop-pv.pv c.loop-pv.disks.items c.loop-pv.unread c.loop-pv.collected.disks (g.S.Shelf.state c.args.shelf.now)
-        (g.S.Shelf.state c.loop-pv.shelf) (g.S.Shelf.state c.scan_disk.new.shelf) c.loop-pv.invariant.0
+    (g.S.Shelf.state c.loop-pv.shelf) (g.S.Shelf.state c.scan_disk.new.shelf) c.loop-pv.invariant.0
     c.loop-pv.invariant.1.sizes c.scan_disk.ensures.reads
 
 -- ---- all disks were scanned
@@ -118,10 +118,10 @@ returns-in_err-push-clause-reads g c =
 pub returns-in-Ok-clause-scan : goal.returns-in-Ok-clause-scan
 returns-in-Ok-clause-scan g c =
     scan_found (g.S.Shelf.state c.args.shelf.now) (g.S.Shelf.state c.loop-pv.shelf) c.loop-pv.pv c.loop-pv.disks.items c.loop-pv.unread
-        c.loop-pv.collected.disks c.in-Ok.found c.loop-pv.invariant.0
+    c.loop-pv.collected.disks c.in-Ok.found c.loop-pv.invariant.0
     (omega (arith, c.loop-pv-test.false, c.count-pv-end.ensures))
     (subst (λ (all : AllRead). IsOutcome c.loop-pv.disks.items c.loop-pv.unread all.disks c.in-Ok.found) c.into_readings.ensures
-        c.in-Ok.ensures)
+    c.in-Ok.ensures)
 
 pub returns-in-Ok-clause-reads : goal.returns-in-Ok-clause-reads
 returns-in-Ok-clause-reads g c =
@@ -131,7 +131,7 @@ returns-in-Ok-clause-reads g c =
 pub returns-in-Err-clause-scan : goal.returns-in-Err-clause-scan
 returns-in-Err-clause-scan g c =
     scan_refused (g.S.Shelf.state c.args.shelf.now) (g.S.Shelf.state c.loop-pv.shelf) c.loop-pv.pv c.loop-pv.disks.items c.loop-pv.unread
-        c.loop-pv.collected.disks c.in-Err.why c.loop-pv.invariant.0
+    c.loop-pv.collected.disks c.in-Err.why c.loop-pv.invariant.0
     (omega (arith, c.loop-pv-test.false, c.count-pv-end.ensures))
     (subst (λ (all : AllRead). IsRefusedBy (decide_scan all.disks) c.in-Err.why) c.into_readings.ensures c.in-Err.ensures)
 

@@ -7,4 +7,4 @@ use Rattle.vg_scan.proofs.scanning.scan.Given as goal
 abbrev pub invariant-loop-pv : goal.invariant-loop-pv
 invariant-loop-pv g l =
     AreScanned (g.S.Shelf.state l.initial.shelf) l.pv l.disks.items l.unread l.collected.disks (g.S.Shelf.state l.shelf)
-        × IsIdleAgain (g.S.Shelf.state l.initial.shelf) (g.S.Shelf.state l.shelf)
+    × IsIdleAgain (g.S.Shelf.state l.initial.shelf) (g.S.Shelf.state l.shelf)

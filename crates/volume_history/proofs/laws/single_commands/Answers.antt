@@ -1,5 +1,5 @@
-use Rattle.volume_history.proofs.SingleLines.{done_commit, done_create, done_line, failed_create, fenced_commit, given_up_commit,
-    made_commit, no_line, undone_line}
+use Rattle.volume_history.proofs.SingleLines.{done_commit, done_create, done_line, failed_create, fenced_commit, given_up_commit}
+use Rattle.volume_history.proofs.SingleLines.{made_commit, no_line, undone_line}
 use Rattle.volume_history.proofs.laws.single_commands.Goals as goal
 
 pub returns-clause-no_line : goal.returns-clause-no_line

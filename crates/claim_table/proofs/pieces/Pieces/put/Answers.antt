@@ -12,12 +12,11 @@ invariant_of-self c =
     let some = subst (λ (k : Kept). 0 < k.room) (sym c.self.view_is) c.requires in
     let within = subst (λ (l : List Claim). c.first_from-at.result ≤ length l) c.deref.ensures.value c.first_from-at.ensures.within in
     let parts =
-        subst (λ (l : List Claim). AreParted l c.args.claim.number c.first_from-at.result) c.deref.ensures.value
-            c.first_from-at.ensures.parts in
+    subst (λ (l : List Claim). AreParted l c.args.claim.number c.first_from-at.result) c.deref.ensures.value
+    c.first_from-at.ensures.parts in
     let moved =
-        subst (λ (e : Placed). IsPermutation (e ∷ c.self.inside.places.items) c.put_in.new.kept.items) c.claim_place.ensures
-            c.put_in.ensures.items in
-    (
+    subst (λ (e : Placed). IsPermutation (e ∷ c.self.inside.places.items) c.put_in.new.kept.items) c.claim_place.ensures
+    c.put_in.ensures.items in (
       rw (c.in-Ok.ensures.items, c.max-self-inside.ensures)
           (indexed_put c.self.inside.claims.items c.self.inside.places.items c.put_in.new.kept.items c.self.inside.longest c.args.claim
           c.first_from-at.result c.self.invariant.0 within parts moved c.put_in.ensures.ascending),

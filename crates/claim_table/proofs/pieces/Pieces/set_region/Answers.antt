@@ -8,7 +8,10 @@ pub invariant_of-self : goal.invariant_of-self
 invariant_of-self c =
     let within = subst (λ (k : Kept). c.args.at < length k.claims) (sym c.self.view_is) c.requires in
     let indexed =
-        indexed_region c.self.inside.claims.items c.self.inside.places.items c.self.inside.longest c.args.at c.args.region _ within
-            c.self.invariant.0 in
-    (subst (λ (x : Claim). IsIndexed (set c.self.inside.claims.items c.args.at (record x { region = c.args.region }))
-        c.self.inside.places.items c.self.inside.longest) (sym c.index_mut.ensures.value) indexed, c.self.invariant.1, c.self.invariant.2)
+    indexed_region c.self.inside.claims.items c.self.inside.places.items c.self.inside.longest c.args.at c.args.region _ within
+    c.self.invariant.0 in (
+      subst (λ (x : Claim). IsIndexed (set c.self.inside.claims.items c.args.at (record x { region = c.args.region }))
+          c.self.inside.places.items c.self.inside.longest) (sym c.index_mut.ensures.value) indexed,
+      c.self.invariant.1,
+      c.self.invariant.2,
+    )

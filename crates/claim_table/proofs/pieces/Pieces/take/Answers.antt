@@ -11,15 +11,14 @@ take_out-requires-clause-there c =
     let within = subst (λ (k : Kept). c.args.at < length k.claims) (sym c.self.view_is) c.requires in
     subst (λ (e : Placed). Contains c.self.inside.places.items e) (sym c.claim_place.ensures)
     (has_place c.self.inside.claims.items c.self.inside.places.items c.self.inside.longest c.remove-claim.result c.args.at
-        c.self.invariant.0 within c.remove-claim.ensures.value)
+    c.self.invariant.0 within c.remove-claim.ensures.value)
 
 pub invariant_of-self : goal.invariant_of-self
 invariant_of-self c =
     let within = subst (λ (k : Kept). c.args.at < length k.claims) (sym c.self.view_is) c.requires in
     let moved =
-        subst (λ (e : Placed). IsPermutation c.self.inside.places.items (e ∷ c.take_out.new.kept.items)) c.claim_place.ensures
-            c.take_out.ensures.items in
-    (
+    subst (λ (e : Placed). IsPermutation c.self.inside.places.items (e ∷ c.take_out.new.kept.items)) c.claim_place.ensures
+    c.take_out.ensures.items in (
       rw (c.remove-claim.ensures.items) (indexed_take c.self.inside.claims.items c.self.inside.places.items c.take_out.new.kept.items
           c.self.inside.longest c.remove-claim.result c.args.at c.self.invariant.0 within c.remove-claim.ensures.value moved
           c.take_out.ensures.ascending),

@@ -13,8 +13,8 @@ returns-clause-answer g c =
 pub returns-clause-bound : goal.returns-clause-bound
 returns-clause-bound g c =
     let bound =
-        subst (λ (l : List ℕ). 2 ^ (c.has_region.new.steps - c.args.steps.now) ≤ 2 * length l + 1) (c.of.ensures ∙ c.deref.ensures.value)
-            c.has_region.ensures.bound in
+    subst (λ (l : List ℕ). 2 ^ (c.has_region.new.steps - c.args.steps.now) ≤ 2 * length l + 1) (c.of.ensures ∙ c.deref.ensures.value)
+    c.has_region.ensures.bound in
     let fewer = fewer_regions c.self.inside.started.claims c.self.inside.regions.items c.self.invariant.0 in
     let same = ap (λ (v : Claims). length v.started) c.self.view_is in
     omega (arith, bound, fewer, same)

@@ -13,7 +13,7 @@ pub returns-in-Some-clash-2-clause-some : goal.returns-in-Some-clash-2-clause-so
 returns-in-Some-clash-2-clause-some c =
     let number = c.in-Some-clash-2.number in
     let found =
-        any_filter (λ (d : Claim). nat_eq d.number number && clash d c.args.claim.now) (λ (d : Claim). is_below c.args.limit d.number)
-            c.self.inside.deferred.claims ∙ c.in-Some-clash-2.ensures.some in
+    any_filter (λ (d : Claim). nat_eq d.number number && clash d c.args.claim.now) (λ (d : Claim). is_below c.args.limit d.number)
+    c.self.inside.deferred.claims ∙ c.in-Some-clash-2.ensures.some in
     subst (λ (v : Claims). IsTrue (conflicts v (filter (λ d. is_below c.args.limit d.number) v.deferred) c.args.claim.now (Piece number)))
-        c.self.view_is (or_right _ _ found)
+    c.self.view_is (or_right _ _ found)

@@ -18,10 +18,9 @@ invariant_of-self c =
     let some = subst (λ (v : Claims). 0 < v.spare) (sym c.self.view_is) c.requires.spare in
     let room = ap (λ (k : Kept). k.room) c.put.ensures in
     let regions =
-        regions_start c.self.inside.started.claims c.self.inside.regions.items c.note_region.new.regions.items claim
-            (place_by_number c.self.inside.started.claims c.args.number) c.self.invariant.0 c.note_region.ensures.items
-            c.note_region.ensures.ascending in
-    (
+    regions_start c.self.inside.started.claims c.self.inside.regions.items c.note_region.new.regions.items claim
+    (place_by_number c.self.inside.started.claims c.args.number) c.self.invariant.0 c.note_region.ensures.items
+    c.note_region.ensures.ascending in (
       subst (λ (k : Kept). AreRegionsOf k.claims c.note_region.new.regions.items) (sym c.put.ensures) regions,
       c.self.invariant.1,
       omega (arith, some, room, c.self.invariant.2, c.self.invariant.3, c.note_region.ensures.length, c.note_region.ensures.capacity),
@@ -37,10 +36,9 @@ invariant_of-self-in-Some c =
     let all = subst (λ (v : Claims). All (λ (d : Claim). d.number < c.args.number) v.deferred) (sym c.self.view_is) c.requires.deferred in
     let room = ap (λ (k : Kept). k.room) c.put-in-Some.ensures in
     let long =
-        ap (λ (k : Kept). length k.claims) c.put-in-Some.ensures
-            ∙ length-insert c.self.inside.deferred.claims (place_by_number c.self.inside.deferred.claims c.args.number) claim
-            (place_within c.self.inside.deferred.claims c.args.number) in
-    (
+    ap (λ (k : Kept). length k.claims) c.put-in-Some.ensures
+    ∙ length-insert c.self.inside.deferred.claims (place_by_number c.self.inside.deferred.claims c.args.number) claim
+    (place_within c.self.inside.deferred.claims c.args.number) in (
       c.self.invariant.0,
       subst (λ (k : Kept). Rise k.claims) (sym c.put-in-Some.ensures) (rise_put c.self.inside.deferred.claims claim all c.self.invariant.1),
       c.self.invariant.2,
@@ -52,15 +50,15 @@ invariant_of-self-in-Some c =
 pub returns-in-None-clause-answer : goal.returns-in-None-clause-answer
 returns-in-None-clause-answer c =
     subst (λ (l : List Claim). IsTrue (is_free c.args.self.now l
-        (record { number = c.args.number; piece = c.args.piece; region = c.args.region }))) (filter_all c.args.self.now.deferred)
-        c.in-None.ensures.none
+    (record { number = c.args.number; piece = c.args.piece; region = c.args.region }))) (filter_all c.args.self.now.deferred)
+    c.in-None.ensures.none
 
 pub returns-in-None-clause-after : goal.returns-in-None-clause-after
 returns-in-None-clause-after c =
     let claim : Claim = record { number = c.args.number; piece = c.args.piece; region = c.args.region } in
     let all = subst (λ (v : Claims). All (λ (d : Claim). d.number < c.args.number) v.started) (sym c.self.view_is) c.requires.started in
     ap (λ (k : Kept). claims_of k.claims c.self.inside.deferred.claims c.self.inside.closed c.self.inside.suspended.items
-        (c.self.inside.spare - 1)) c.put.ensures
+    (c.self.inside.spare - 1)) c.put.ensures
     ∙ ap (λ (l : List Claim). claims_of l c.self.inside.deferred.claims c.self.inside.closed c.self.inside.suspended.items
     (c.self.inside.spare - 1)) (put_last c.self.inside.started.claims claim all)
     ∙ ap (λ (v : Claims). claims_of (v.started ++ claim ∷ []) v.deferred v.closed v.suspended (v.spare - 1)) c.self.view_is
@@ -68,15 +66,15 @@ returns-in-None-clause-after c =
 pub returns-in-Some-clause-answer : goal.returns-in-Some-clause-answer
 returns-in-Some-clause-answer c =
     subst (λ (l : List Claim). IsTrue (conflicts c.args.self.now l
-        (record { number = c.args.number; piece = c.args.piece; region = c.args.region }) c.in-Some.by))
-        (filter_all c.args.self.now.deferred) c.in-Some.ensures.some
+    (record { number = c.args.number; piece = c.args.piece; region = c.args.region }) c.in-Some.by))
+    (filter_all c.args.self.now.deferred) c.in-Some.ensures.some
 
 pub returns-in-Some-clause-after : goal.returns-in-Some-clause-after
 returns-in-Some-clause-after c =
     let claim : Claim = record { number = c.args.number; piece = c.args.piece; region = c.args.region } in
     let all = subst (λ (v : Claims). All (λ (d : Claim). d.number < c.args.number) v.deferred) (sym c.self.view_is) c.requires.deferred in
     ap (λ (k : Kept). claims_of c.self.inside.started.claims k.claims c.self.inside.closed c.self.inside.suspended.items
-        (c.self.inside.spare - 1)) c.put-in-Some.ensures
+    (c.self.inside.spare - 1)) c.put-in-Some.ensures
     ∙ ap (λ (l : List Claim). claims_of c.self.inside.started.claims l c.self.inside.closed c.self.inside.suspended.items
     (c.self.inside.spare - 1)) (put_last c.self.inside.deferred.claims claim all)
     ∙ ap (λ (v : Claims). claims_of v.started (v.deferred ++ claim ∷ []) v.closed v.suspended (v.spare - 1)) c.self.view_is

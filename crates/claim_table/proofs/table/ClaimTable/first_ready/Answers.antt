@@ -8,16 +8,16 @@ pub loop-at-preserved : goal.loop-at-preserved
 loop-at-preserved c =
     let lt : c.loop-at.at < length c.args.self.now.deferred = omega arith in
     let passed =
-        ready_step c.args.self.now c.args.self.now.deferred c.loop-at.at no_claim lt
-            (not-true _ (sym c.is_blocked.ensures ∙ c.if-is_blocked.true)) in
+    ready_step c.args.self.now c.args.self.now.deferred c.loop-at.at no_claim lt
+    (not-true _ (sym c.is_blocked.ensures ∙ c.if-is_blocked.true)) in
     (omega (arith, passed, c.loop-at.invariant), omega arith)
 
 pub returns-else-is_blocked : goal.returns-else-is_blocked
 returns-else-is_blocked c =
     let lt : c.loop-at.at < length c.args.self.now.deferred = omega arith in
     let here =
-        ready_here c.args.self.now c.args.self.now.deferred c.loop-at.at no_claim lt
-            (not-false _ (sym c.is_blocked.ensures ∙ c.if-is_blocked.false)) in
+    ready_here c.args.self.now c.args.self.now.deferred c.loop-at.at no_claim lt
+    (not-false _ (sym c.is_blocked.ensures ∙ c.if-is_blocked.false)) in
     record { place = omega (arith, here, c.loop-at.invariant); within = c.loop-at.invariant.1 }
 
 pub returns-after-loop-at : goal.returns-after-loop-at

@@ -15,10 +15,10 @@ returns c =
     let up = subst (λ (v : Claims). Rise v.deferred) c.self.view_is c.self.invariant.1 in
     let item = c.at-claim.ensures ∙ ap (λ (v : Claims). get_or v.deferred c.args.at no_claim) c.self.view_is in
     let earlier =
-        lower_numbers c.args.self.now.deferred c.args.at c.at-claim.result up c.requires
-            (item ∙ get_or_default c.args.self.now.deferred c.args.at no_claim c.at-claim.result c.requires) in
+    lower_numbers c.args.self.now.deferred c.args.at c.at-claim.result up c.requires
+    (item ∙ get_or_default c.args.self.now.deferred c.args.at no_claim c.at-claim.result c.requires) in
     let blocked =
-        blocked_is c.args.self.now (filter (λ (d : Claim). is_below (Some c.at-claim.result.number) d.number) c.args.self.now.deferred)
-            c.at-claim.result c.conflict.result c.is_some.result c.conflict.ensures.none c.conflict.ensures.some c.is_some.ensures in
+    blocked_is c.args.self.now (filter (λ (d : Claim). is_below (Some c.at-claim.result.number) d.number) c.args.self.now.deferred)
+    c.at-claim.result c.conflict.result c.is_some.result c.conflict.ensures.none c.conflict.ensures.some c.is_some.ensures in
     blocked ∙ ap (λ (l : List Claim). not (is_free c.args.self.now l c.at-claim.result)) earlier
-        ∙ ap (λ (y : Claim). not (is_free c.args.self.now (take c.args.at c.args.self.now.deferred) y)) item
+    ∙ ap (λ (y : Claim). not (is_free c.args.self.now (take c.args.at c.args.self.now.deferred) y)) item

@@ -17,15 +17,15 @@ pub forget_region-requires-clause-there : goal.forget_region-requires-clause-the
 forget_region-requires-clause-there c r is =
     let within = (found_any c.self.inside.started.claims c.args.number c.in-Some.at (sym c.in-Some.ensures)).2 in
     has_region_of c.self.inside.started.claims c.self.inside.regions.items c.take-claim.result c.in-Some.at r c.self.invariant.0 within
-        (c.take-claim.ensures.claim ∙ get_or_default c.self.inside.started.claims c.in-Some.at no_claim c.take-claim.result within) is
+    (c.take-claim.ensures.claim ∙ get_or_default c.self.inside.started.claims c.in-Some.at no_claim c.take-claim.result within) is
 
 pub invariant_of-self : goal.invariant_of-self
 invariant_of-self c =
     let within = (found_any c.self.inside.started.claims c.args.number c.in-Some.at (sym c.in-Some.ensures)).2 in
     let here = c.take-claim.ensures.claim ∙ get_or_default c.self.inside.started.claims c.in-Some.at no_claim c.take-claim.result within in
     let regions =
-        regions_leave c.self.inside.started.claims c.self.inside.regions.items c.forget_region.new.regions.items c.take-claim.result
-            c.in-Some.at c.self.invariant.0 within here c.forget_region.ensures.items c.forget_region.ensures.ascending in
+    regions_leave c.self.inside.started.claims c.self.inside.regions.items c.forget_region.new.regions.items c.take-claim.result
+    c.in-Some.at c.self.invariant.0 within here c.forget_region.ensures.items c.forget_region.ensures.ascending in
     let room = ap (λ (k : Kept). k.room) c.take-claim.ensures.after in (
       subst (λ (k : Kept). AreRegionsOf k.claims c.forget_region.new.regions.items) (sym c.take-claim.ensures.after) regions,
       c.self.invariant.1,
@@ -38,9 +38,9 @@ invariant_of-self c =
 pub place_of-at-requires : goal.place_of-at-requires
 place_of-at-requires c =
     is_deferred (claims_of c.self.inside.started.claims c.self.inside.deferred.claims c.self.inside.closed c.self.inside.suspended.items
-        c.self.inside.spare) c.args.number
+    c.self.inside.spare) c.args.number
     (subst (λ (v : Claims). (list_any (has_number c.args.number) v.started || list_any (has_number c.args.number) v.deferred) ≡ true)
-        (sym c.self.view_is) c.requires) (sym c.in-None.ensures)
+    (sym c.self.view_is) c.requires) (sym c.in-None.ensures)
 
 pub invariant_of-self-in-None : goal.invariant_of-self-in-None
 invariant_of-self-in-None c =
@@ -60,7 +60,7 @@ invariant_of-self-in-None c =
 pub returns-in-Some : goal.returns-in-Some
 returns-in-Some c =
     ap (λ (k : Kept). claims_of k.claims c.self.inside.deferred.claims c.self.inside.closed c.self.inside.suspended.items
-        c.self.inside.spare) c.take-claim.ensures.after
+    c.self.inside.spare) c.take-claim.ensures.after
     ∙ leave_started (claims_of c.self.inside.started.claims c.self.inside.deferred.claims c.self.inside.closed c.self.inside.suspended.items
     c.self.inside.spare) c.args.number c.in-Some.at (sym c.in-Some.ensures)
     ∙ ap (λ (v : Claims). after_leave v c.args.number) c.self.view_is
@@ -68,7 +68,7 @@ returns-in-Some c =
 pub returns-in-None : goal.returns-in-None
 returns-in-None c =
     ap (λ (k : Kept). claims_of c.self.inside.started.claims k.claims c.self.inside.closed c.self.inside.suspended.items
-        c.self.inside.spare) c.take.ensures.after
+    c.self.inside.spare) c.take.ensures.after
     ∙ leave_deferred (claims_of c.self.inside.started.claims c.self.inside.deferred.claims c.self.inside.closed
     c.self.inside.suspended.items c.self.inside.spare) c.args.number c.place_of-at.result (sym c.in-None.ensures)
     c.place_of-at.ensures.place

@@ -17,16 +17,15 @@ pub invariant_of-self : goal.invariant_of-self
 invariant_of-self c =
     let same = ap (λ (v : Claims). length v.deferred) c.self.view_is in
     let within : c.first_ready-at.result < length c.self.inside.deferred.claims =
-        omega (arith, same, c.len.ensures, c.if-at-len.false, c.first_ready-at.ensures.within) in
+    omega (arith, same, c.len.ensures, c.if-at-len.false, c.first_ready-at.ensures.within) in
     let room = ap (λ (k : Kept). k.room) c.put.ensures in
     let left = ap (λ (k : Kept). k.room) c.take-claim.ensures.after in
     let long = ap (λ (k : Kept). length k.claims) c.take-claim.ensures.after in
     let less = length-remove c.self.inside.deferred.claims c.first_ready-at.result within in
     let regions =
-        regions_start c.self.inside.started.claims c.self.inside.regions.items c.note_region.new.regions.items c.take-claim.result
-            (place_by_number c.self.inside.started.claims c.take-claim.result.number) c.self.invariant.0 c.note_region.ensures.items
-            c.note_region.ensures.ascending in
-    (
+    regions_start c.self.inside.started.claims c.self.inside.regions.items c.note_region.new.regions.items c.take-claim.result
+    (place_by_number c.self.inside.started.claims c.take-claim.result.number) c.self.invariant.0 c.note_region.ensures.items
+    c.note_region.ensures.ascending in (
       subst (λ (k : Kept). AreRegionsOf k.claims c.note_region.new.regions.items) (sym c.put.ensures) regions,
       subst (λ (k : Kept). Rise k.claims) (sym c.take-claim.ensures.after)
           (all_pairs_remove (λ (a b : Claim). a.number < b.number) c.self.inside.deferred.claims c.first_ready-at.result within
@@ -41,8 +40,8 @@ pub returns-clause-number : goal.returns-clause-number
 returns-clause-number c =
     let same = ap (λ (v : Claims). length v.deferred) c.self.view_is in
     let within : c.first_ready-at.result < length c.args.self.now.deferred =
-        omega (arith, same, c.len.ensures, c.if-at-len.false, c.first_ready-at.ensures.within) in
+    omega (arith, same, c.len.ensures, c.if-at-len.false, c.first_ready-at.ensures.within) in
     let item = c.take-claim.ensures.claim ∙ ap (λ (v : Claims). get_or v.deferred c.first_ready-at.result no_claim) c.self.view_is in
     subst (λ (n : ℕ). Some c.take-claim.result.number ≡ option_map (λ (d : Claim). d.number) (slice_get c.args.self.now.deferred n))
-        c.first_ready-at.ensures.place
+    c.first_ready-at.ensures.place
     (sym (ready_some c.args.self.now.deferred c.first_ready-at.result c.take-claim.result within item))

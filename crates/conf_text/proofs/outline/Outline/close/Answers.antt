@@ -13,7 +13,7 @@ invariant_of-self-in-Some c =
     (c.in_ok-push-in-Some.ensures.items ∙ ap (λ x. x ++ code.Close ∷ []) c.in_ok-make_room.ensures.items) in
     subst (HasSections (λ k. k.now) c.in-Some.outer.names.keys (reverse c.pop.new.self.items)) (sym pushed)
     (section_left (λ k. k.now) c.self.inside.names.keys c.self.inside.outer.items c.pop.new.self.items c.in-Some.outer
-        (sections (map entry_view c.self.inside.entries.items)) c.in-Some.ensures.items c.self.invariant)
+    (sections (map entry_view c.self.inside.entries.items)) c.in-Some.ensures.items c.self.invariant)
 
 pub returns-in_ok-push-in-Some : goal.returns-in_ok-push-in-Some
 returns-in_ok-push-in-Some c =

@@ -16,14 +16,14 @@ invariant_of-self-2 c =
     let pushed = sections_pushed entry_view c.self.inside.entries.items c.push-2.new.self.items (code.Open c.args.name)
     (c.in_ok-push-2.ensures.items ∙ ap (λ x. x ++ code.Open c.args.name ∷ []) c.in_ok-make_room.ensures.items) in
     let named =
-        key_put (λ k. k.now) c.self.inside.names.keys c.insert.new.self.keys k (reverse c.self.inside.outer.items) given
-            (Assign k (Many []))
+    key_put (λ k. k.now) c.self.inside.names.keys c.insert.new.self.keys k (reverse c.self.inside.outer.items) given
+    (Assign k (Many []))
     (λ q. c.in_ok-insert.ensures.updates.0 (record c.args.name { now = q })) refl c.self.invariant in
     let more : c.push.new.self.items ≡ c.self.inside.outer.items ++ o ∷ [] =
-        c.in_ok-push.ensures.items ∙ ap (λ x. x ++ o ∷ []) c.in_ok-reserve.ensures.items in
+    c.in_ok-push.ensures.items ∙ ap (λ x. x ++ o ∷ []) c.in_ok-reserve.ensures.items in
     let moved =
-        subst (λ s. HasSections (λ k. k.now) s.keys (reverse c.self.inside.outer.items) (after_entry given (Assign k (Many []))))
-            (sym c.replace-names.ensures.value) named in
+    subst (λ s. HasSections (λ k. k.now) s.keys (reverse c.self.inside.outer.items) (after_entry given (Assign k (Many []))))
+    (sym c.replace-names.ensures.value) named in
     subst (HasSections (λ k. k.now) c.replace-names.new.dest.keys (reverse c.push.new.self.items)) (sym pushed)
     (section_entered (λ k. k.now) c.replace-names.new.dest.keys k c.self.inside.outer.items c.push.new.self.items o given moved more
-        (ap (λ s. s.keys) c.replace-names.ensures.after ∙ c.new.ensures.empty))
+    (ap (λ s. s.keys) c.replace-names.ensures.after ∙ c.new.ensures.empty))

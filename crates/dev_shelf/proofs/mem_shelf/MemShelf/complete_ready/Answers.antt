@@ -1,5 +1,5 @@
-use Rattle.std.proofs.Common.{◌≡◌, ◌<◌, ◌%◌, ℕ, Bool, List, length, map, drop, filter, not, slice_index, AllPairs, refl, sym, ap, subst,
-    ◌∙◌}
+use Rattle.std.proofs.Common.{◌≡◌, ◌<◌, ◌%◌, ℕ, Bool, List, length, map, drop, filter, not, slice_index, AllPairs, refl, sym, ap, subst}
+use Rattle.std.proofs.Common.{◌∙◌}
 use Rattle.std.proofs.lemmas.Grind.{get_or_default_zero}
 use Rattle.std.proofs.lemmas.Nat.{mod_below}
 use Rattle.std.proofs.lemmas.List.Kept.{AllPairs-filter}
@@ -21,7 +21,7 @@ nonzero_rem-pick c =
     let shelf = c.args.self.now in
     let n = c.ready_count-ready.result in
     positive n (state_of_shelf shelf).ready (ready_many (plan_left shelf) shelf.holding shelf.row n refl refl shelf.good
-        c.ready_count-ready.ensures) c.requires
+    c.ready_count-ready.ensures) c.requires
 
 pub place_of_ready-at-requires : goal.place_of_ready-at-requires
 place_of_ready-at-requires c =
@@ -29,7 +29,7 @@ place_of_ready-at-requires c =
     let n = c.ready_count-ready.result in
     let some : 0 < n =
     positive n (state_of_shelf shelf).ready (ready_many (plan_left shelf) shelf.holding shelf.row n refl refl shelf.good
-        c.ready_count-ready.ensures) c.requires in
+    c.ready_count-ready.ensures) c.requires in
     subst (λ (m : ℕ). c.next_of-pick.result % n < m) c.ready_count-ready.ensures (mod_below c.next_of-pick.result n some)
 
 pub returns-clause-completes : goal.returns-clause-completes
@@ -66,7 +66,7 @@ returns-clause-plan c =
       oldest_first =
           oldest_first (filter p (state_of shelf.row).in_flight)
           (AllPairs-filter (λ (o q : Operation). o.tag < q.tag) p (state_of shelf.row).in_flight
-              (queue_lawful shelf.row.queue shelf.good.queue).order);
+          (queue_lawful shelf.row.queue shelf.good.queue).order);
       tag =
           c.complete.ensures.which
           ∙ ap (λ (l : List ℕ). slice_index l c.place_of_ready-at.result) (tags_same shelf.row shelf.good)

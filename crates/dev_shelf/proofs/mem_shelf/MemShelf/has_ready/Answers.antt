@@ -7,4 +7,4 @@ pub returns : goal.returns
 returns c =
     let shelf = c.args.self.now in
     has_some c.ready_count.result (state_of_shelf shelf).ready
-        (ready_many (plan_left shelf) shelf.holding shelf.row c.ready_count.result refl refl shelf.good c.ready_count.ensures)
+    (ready_many (plan_left shelf) shelf.holding shelf.row c.ready_count.result refl refl shelf.good c.ready_count.ensures)

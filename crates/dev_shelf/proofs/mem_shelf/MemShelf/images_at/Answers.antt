@@ -16,12 +16,12 @@ returns-clause-chosen_values c =
     let le : c.args.moment ≤ length row.steps.items = omega (arith, row.steps.ok.0) in
     let many : vec_len row.opened ≡ length (sizes_of row) = simp length-map (omega (arith, row.opened.ok.0)) in
     let takes =
-        subst (λ (n : ℕ). TakesDisks (told_after row c.args.moment) (sizes_of row) n c.args.choices.now.items c.in_ok-disks.disks.items
-            c.in_ok-disks.ensures.0) many c.in_ok-disks.ensures.1 in
+    subst (λ (n : ℕ). TakesDisks (told_after row c.args.moment) (sizes_of row) n c.args.choices.now.items c.in_ok-disks.disks.items
+    c.in_ok-disks.ensures.0) many c.in_ok-disks.ensures.1 in
     rw c.from_vec.ensures (subst (λ (l : List ℕ). IsChosen (at_moment c.args.moment (told_by row)) l c.args.choices.now.items
-        c.in_ok-disks.disks.items) (sym c.args.self.now.good.sizes)
-        (row_chosen row c.args.self.now.good c.args.moment le c.args.choices.now.items c.in_ok-disks.disks.items c.in_ok-disks.ensures.0
-        takes))
+    c.in_ok-disks.disks.items) (sym c.args.self.now.good.sizes)
+    (row_chosen row c.args.self.now.good c.args.moment le c.args.choices.now.items c.in_ok-disks.disks.items c.in_ok-disks.ensures.0
+    takes))
 
 pub returns-clause-image : goal.returns-clause-image
 returns-clause-image c =
@@ -29,17 +29,17 @@ returns-clause-image c =
     let le : c.args.moment ≤ length row.steps.items = omega (arith, row.steps.ok.0) in
     let many : vec_len row.opened ≡ length (sizes_of row) = simp length-map (omega (arith, row.opened.ok.0)) in
     let takes =
-        subst (λ (n : ℕ). TakesDisks (told_after row c.args.moment) (sizes_of row) n c.args.choices.now.items c.in_ok-disks.disks.items
-            c.in_ok-disks.ensures.0) many c.in_ok-disks.ensures.1 in
+    subst (λ (n : ℕ). TakesDisks (told_after row c.args.moment) (sizes_of row) n c.args.choices.now.items c.in_ok-disks.disks.items
+    c.in_ok-disks.ensures.0) many c.in_ok-disks.ensures.1 in
     rw c.from_vec.ensures (row_image row c.args.self.now.good c.args.moment le c.args.choices.now.items c.in_ok-disks.disks.items
-        c.in_ok-disks.ensures.0 takes)
+    c.in_ok-disks.ensures.0 takes)
 
 -- at each moment each image can be chosen, of disks of the state's sizes
 each_of : (row : DiskRow) (good : IsGood row) (moment : ℕ)
     → EachImage (CanBeChosen (at_moment moment (told_by row)) (state_of row).sizes) (at_moment moment (told_by row))
 each_of row good moment =
     subst (λ (l : List ℕ). EachImage (CanBeChosen (at_moment moment (told_by row)) l) (at_moment moment (told_by row))) (sym good.sizes)
-        (each_chosen row good moment)
+    (each_chosen row good moment)
 
 pub returns-clause-every : goal.returns-clause-every
 returns-clause-every c = each_of c.args.self.now.row c.args.self.now.good c.args.moment

@@ -13,9 +13,9 @@ loop-pv-preserved c =
     let before = drop c.loop-pv.taken c.args.choices.now.items in
     let after = drop c.sectors_at.new.taken c.args.choices.now.items in
     let size : slice_index_or (sizes_of row) c.loop-pv.pv 0 ≡ length (slice_index_or row.opened.items c.loop-pv.pv []) =
-        get_or-map (λ (d : List (List ℕ)). length d) row.opened.items c.loop-pv.pv [] in
+    get_or-map (λ (d : List (List ℕ)). length d) row.opened.items c.loop-pv.pv [] in
     let lt : c.loop-pv.pv < length (sizes_of row) = simp length-map (omega (arith, row.opened.ok.0)) in
     rw c.in_ok-push.ensures.items
     (takes_disk_more told (sizes_of row) c.loop-pv.pv c.args.choices.now.items c.loop-pv.disks.items before c.in_ok-sectors_at.field-0 after
-        c.loop-pv.invariant lt
+    c.loop-pv.invariant lt
     (subst (λ (n : ℕ). TakesSectors told c.loop-pv.pv n before c.in_ok-sectors_at.field-0 after) (sym size) c.in_ok-sectors_at.ensures))

@@ -1,6 +1,6 @@
 -- One step more is marked.
-use Rattle.std.proofs.Common.{◌≡◌, ◌<◌, ℕ, ◌+◌, ◌||◌, ◌∷◌, vec_len, Bool, List, [], length, slice_index_or, take, sym, ap, subst, ◌∙◌,
-    arith}
+use Rattle.std.proofs.Common.{◌≡◌, ◌<◌, ℕ, ◌+◌, ◌||◌, ◌∷◌, vec_len, Bool, List, [], length, slice_index_or, take, sym, ap, subst, ◌∙◌}
+use Rattle.std.proofs.Common.{arith}
 use Rattle.std.proofs.Math.ListN.{get_or-map}
 use Rattle.disk_model.specs.Steps.{Step}
 use Rattle.dev_shelf.specs.declared.mem_shelf.recorded.RecordedWork.{RecordedWork}
@@ -21,12 +21,12 @@ mark_work-requires c =
     let more = steps_more row.written.items row.steps.items c.loop-i.i r (omega (arith, row.steps.ok.0)) c.index-in-loop-i.ensures in
     let within : AllWithin (sizes_of row) (step_at row.written.items r ∷ so_far) =
     subst (AllWithin (sizes_of row)) more (within_at (sizes_of row) row.written.items row.steps.items (c.loop-i.i + 1)
-        c.requires.good.within) in
+    c.requires.good.within) in
     let size : slice_index_or (sizes_of row) pv 0 ≡ length (slice_index_or row.opened.items pv []) =
-        get_or-map (λ (d : List (List ℕ)). length d) row.opened.items pv [] in
+    get_or-map (λ (d : List (List ℕ)). length d) row.opened.items pv [] in
     subst (λ (w : RecordedWork). IsWrittenWithin w pv (vec_len c.loop-i.marks)) (sym c.recorded_work.ensures)
     (subst (λ (n : ℕ). IsWrittenWithin (recorded_work r) pv n) (size ∙ sym c.loop-i.invariant.len)
-        (step_within (sizes_of row) row.written.items r so_far pv within))
+    (step_within (sizes_of row) row.written.items r so_far pv within))
 
 pub loop-i-preserved : goal.loop-i-preserved
 loop-i-preserved c =

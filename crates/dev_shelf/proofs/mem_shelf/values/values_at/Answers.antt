@@ -11,9 +11,9 @@ loop-i-preserved c =
     c.in_ok-all.ensures
     ∙ ap (λ (l : List Step). values (image_of c.args.row.now.opened.items) l c.args.pv c.args.sector)
     (sym (steps_more c.args.row.now.written.items c.args.row.now.steps.items c.loop-i.i c.index-in-loop-i.result.now
-        (omega (arith, c.args.row.now.steps.ok.0)) c.index-in-loop-i.ensures))
+    (omega (arith, c.args.row.now.steps.ok.0)) c.index-in-loop-i.ensures))
 
 pub values_on-requires-clause-follows : goal.values_on-requires-clause-follows
 values_on-requires-clause-follows c =
     record_more c.args.row.now.written.items c.args.row.now.steps.items c.loop-i.i c.index-in-loop-i.result.now
-        (omega (arith, c.args.row.now.steps.ok.0)) c.index-in-loop-i.ensures c.requires.good.follows
+    (omega (arith, c.args.row.now.steps.ok.0)) c.index-in-loop-i.ensures c.requires.good.follows

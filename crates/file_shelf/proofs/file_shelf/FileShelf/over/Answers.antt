@@ -12,7 +12,7 @@ pub invariant_of-result : goal.invariant_of-result
 invariant_of-result g c =
     let size : Image g.row.F.Denot → ℕ = λ image. image.sectors in
     let same : (state_of c.in_ok-queue.queue).sizes ≡ map size c.args.images.items =
-        ap (λ (s : State). s.sizes) c.in_ok-queue.ensures.state ∙ c.in_ok-sizes.ensures in
+    ap (λ (s : State). s.sizes) c.in_ok-queue.ensures.state ∙ c.in_ok-sizes.ensures in
     record {
       good = c.in_ok-queue.ensures.good;
       sizes = subst (All IsSize) (sym same) (All-map IsSize size c.args.images.items c.requires.sizes);

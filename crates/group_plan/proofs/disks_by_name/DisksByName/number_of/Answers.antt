@@ -8,5 +8,5 @@ pub returns-clause-within : goal.returns-clause-within
 returns-clause-within c =
     subst (λ (o : Option ℕ). IfSome o (λ number. number < length c.args.self.now))
     (sym (c.copied.ensures ∙ c.get.ensures.value ∙ c.self.invariant c.args.name.now
-        ∙ ap (λ names. number_named names c.args.name.now) c.self.view_is))
+    ∙ ap (λ names. number_named names c.args.name.now) c.self.view_is))
     (number_named-below c.args.self.now c.args.name.now)

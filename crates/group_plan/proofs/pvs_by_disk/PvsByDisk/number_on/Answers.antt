@@ -8,5 +8,5 @@ pub returns-clause-within : goal.returns-clause-within
 returns-clause-within c =
     subst (λ (o : Option ℕ). IfSome o (λ number. number < length c.args.self.now))
     (sym (c.copied.ensures ∙ c.get.ensures.value ∙ c.self.invariant c.args.disk
-        ∙ ap (λ disk_of. number_on disk_of c.args.disk) c.self.view_is))
+    ∙ ap (λ disk_of. number_on disk_of c.args.disk) c.self.view_is))
     (number_on-below c.args.self.now c.args.disk)

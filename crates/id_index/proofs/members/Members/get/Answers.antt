@@ -17,15 +17,15 @@ get-requires-in-Some c =
     let id = c.args.id.now in
     let pvs = c.self.inside.group.now.pvs in
     (found_at (has_id id) pvs c.in-Some.number
-        (placed c.self.inside.numbers pvs id c.get.result c.self.invariant.1 c.get.ensures ∙ c.in-Some.is)).0
+    (placed c.self.inside.numbers pvs id c.get.result c.self.invariant.1 c.get.ensures ∙ c.in-Some.is)).0
 
 pub returns-in-Some : goal.returns-in-Some
 returns-in-Some c =
     let id = c.args.id.now in
     let pvs = c.self.inside.group.now.pvs in
     let found =
-        (found_at (has_id id) pvs c.in-Some.number
-            (placed c.self.inside.numbers pvs id c.get.result c.self.invariant.1 c.get.ensures ∙ c.in-Some.is)).1 in
+    (found_at (has_id id) pvs c.in-Some.number
+    (placed c.self.inside.numbers pvs id c.get.result c.self.invariant.1 c.get.ensures ∙ c.in-Some.is)).1 in
     ap (λ o. option_map (λ pv. pv.1) o) (sym (found ∙ c.get-in-Some.ensures)) ∙ ap (λ g. pv_with g.pvs id) c.self.view_is
 
 pub returns-in-None : goal.returns-in-None
@@ -33,5 +33,5 @@ returns-in-None c =
     let id = c.args.id.now in
     let pvs = c.self.inside.group.now.pvs in
     let none =
-        found_none (has_id id) pvs (placed c.self.inside.numbers pvs id c.get.result c.self.invariant.1 c.get.ensures ∙ c.in-None.is) in
+    found_none (has_id id) pvs (placed c.self.inside.numbers pvs id c.get.result c.self.invariant.1 c.get.ensures ∙ c.in-None.is) in
     ap (λ o. option_map (λ pv. pv.1) o) (sym none) ∙ ap (λ g. pv_with g.pvs id) c.self.view_is

@@ -11,4 +11,4 @@ IsOk-read (Err e) P U Q holds cases = absurd (cases.0 holds)
 pub unwrap-requires : goal.unwrap-requires
 unwrap-requires g c =
     IsOk-read c.from_utf8.result _ _ _ (subst IsUtf8 (sym c.hyphen.ensures.value)
-        (IsUtf8-hyphen_form c.args.self.now c.hyphen.ensures.valid)) c.from_utf8.ensures.cases
+    (IsUtf8-hyphen_form c.args.self.now c.hyphen.ensures.valid)) c.from_utf8.ensures.cases

@@ -8,4 +8,4 @@ use Rattle.meta_model.proofs.table.Table.contains.Goals as goal
 pub returns : goal.returns
 returns g c =
     c.contains_key.ensures ∙ is_some-lookup (pointwise nat_eq c.args.name.now) c.self.inside.rows.entries
-        ∙ ap (λ rows. is_among (names_of rows) c.args.name.now) c.self.view_is
+    ∙ ap (λ rows. is_among (names_of rows) c.args.name.now) c.self.view_is

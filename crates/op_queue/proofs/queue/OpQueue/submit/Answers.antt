@@ -14,7 +14,7 @@ returns-clause-submits c =
     let o : Operation = record { tag = old.next_tag; work = work_of c.args.op } in
     let before : List Operation = map operation_of old.waiting.items in
     let queued : map operation_of c.push_back_reserved.new.self.items ≡ before ++ o ∷ [] =
-        rw c.push_back_reserved.ensures.items (map-append operation_of old.waiting.items (_ ∷ [])) in
+    rw c.push_back_reserved.ensures.items (map-append operation_of old.waiting.items (_ ∷ [])) in
     let tag_of : Operation → ℕ = λ p. p.tag in
     record {
       fresh = omega arith;

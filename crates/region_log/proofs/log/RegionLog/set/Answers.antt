@@ -8,6 +8,9 @@ first_unsynced-self-inside-requires c =
     let is_kept = c.self.invariant in
     rw c.deref.ensures.value (elim c.if-is_unsynced.branch [
       | then-is_unsynced w ↦ omega (arith, first_set c.self.inside.states.items c.args.region c.args.state)
-      | else-is_unsynced w ↦ omega (arith, first_set_synced c.self.inside.states.items c.args.region c.args.state
-          (sym c.is_unsynced.ensures ∙ w.if-is_unsynced.false))
+      | else-is_unsynced w ↦ omega (
+        arith,
+        first_set_synced c.self.inside.states.items c.args.region c.args.state
+            (sym c.is_unsynced.ensures ∙ w.if-is_unsynced.false),
+      )
     ])

@@ -19,8 +19,8 @@ pub invariant_of-self : goal.invariant_of-self
 invariant_of-self c =
     let old = c.self.inside.bytes in
     let are : All (λ b. b < 256) c.args.bytes.now =
-        All-from_get_or (λ b. b < 256) c.args.bytes.now 0 (λ i h. omega (arith, c.type_inv.bytes i)) in
+    All-from_get_or (λ b. b < 256) c.args.bytes.now 0 (λ i h. omega (arith, c.type_inv.bytes i)) in
     subst (λ (s : List ℕ). IsSector (put_mid c.args.at (c.args.at + length c.args.bytes.now - c.args.at) old s))
-        (sym c.copy_from_slice.ensures.after)
+    (sym c.copy_from_slice.ensures.after)
     (subst IsSector (put_mid-with_bytes old c.args.at (c.args.at + length c.args.bytes.now - c.args.at) c.args.bytes.now (omega arith))
-        (IsSector-with_bytes old c.args.at c.args.bytes.now c.self.invariant c.requires are))
+    (IsSector-with_bytes old c.args.at c.args.bytes.now c.self.invariant c.requires are))

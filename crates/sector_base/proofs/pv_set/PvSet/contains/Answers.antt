@@ -14,4 +14,4 @@ returns-else-pv-lt64 c =
     let past : length c.self.inside.has ≤ c.args.pv = omega arith in
     let no : ltb c.args.pv 64 ≡ false = grind (arith, nat_tests) in
     no ∙ sym (get_or_past c.self.inside.has c.args.pv false past) ∙ sym (contains-marks c.self.inside.has c.args.pv)
-        ∙ ap (λ s. contains s c.args.pv) c.self.view_is
+    ∙ ap (λ s. contains s c.args.pv) c.self.view_is

@@ -25,7 +25,7 @@ store-requires g c =
           (subst (λ (v : SeatView g.row.T.Denot). IsOpenedWith (opened c.args.self.now) v.history) view c.requires.of.opening)
           c.requires.origin
           (subst (λ (v : SeatView g.row.T.Denot). IsPrefix (story_at g.T.Grows.story v.history) (g.T.Grows.story c.args.value)) view
-              c.requires.story),
+          c.requires.story),
     )
 
 pub invariant_of-seat : goal.invariant_of-seat
@@ -34,8 +34,8 @@ invariant_of-seat g c =
     let e = c.exchange-vacant.ensures.3 in
     let is = filled seat.seat.me c.exchange-vacant.new.seat.me c.args.value seat.carries c.requires.taken e in
     let r =
-        gave_seat g.T.Grows.origin g.T.Grows.story (opened c.args.self.now) seat.seat.me c.exchange-vacant.new.seat.me c.store.new.seat.me
-            c.args.value c.requires.of.opening seat.has_parts seat.settled (ap (λ m. m.0) e) (c.store.ensures.2 c.args.value is) in
+    gave_seat g.T.Grows.origin g.T.Grows.story (opened c.args.self.now) seat.seat.me c.exchange-vacant.new.seat.me c.store.new.seat.me
+    c.args.value c.requires.of.opening seat.has_parts seat.settled (ap (λ m. m.0) e) (c.store.ensures.2 c.args.value is) in
     record { has_parts = r.some_parts; carries = r.slots ∙ ap slots_of (sym r.idle); settled = r.untold }
 
 pub returns-clause-of : goal.returns-clause-of
@@ -44,8 +44,8 @@ returns-clause-of g c =
     let e = c.exchange-vacant.ensures.3 in
     let is = filled seat.seat.me c.exchange-vacant.new.seat.me c.args.value seat.carries c.requires.taken e in
     let r =
-        gave_seat g.T.Grows.origin g.T.Grows.story (opened c.args.self.now) seat.seat.me c.exchange-vacant.new.seat.me c.store.new.seat.me
-            c.args.value c.requires.of.opening seat.has_parts seat.settled (ap (λ m. m.0) e) (c.store.ensures.2 c.args.value is) in
+    gave_seat g.T.Grows.origin g.T.Grows.story (opened c.args.self.now) seat.seat.me c.exchange-vacant.new.seat.me c.store.new.seat.me
+    c.args.value c.requires.of.opening seat.has_parts seat.settled (ap (λ m. m.0) e) (c.store.ensures.2 c.args.value is) in
     (record { table = c.store.ensures.0 ∙ (c.exchange-vacant.ensures.0 ∙ c.requires.of.table); opening = r.opening }, r.parts, r.moves)
 
 pub returns-clause-given : goal.returns-clause-given
@@ -54,8 +54,8 @@ returns-clause-given g c =
     let e = c.exchange-vacant.ensures.3 in
     let is = filled seat.seat.me c.exchange-vacant.new.seat.me c.args.value seat.carries c.requires.taken e in
     let r =
-        gave_seat g.T.Grows.origin g.T.Grows.story (opened c.args.self.now) seat.seat.me c.exchange-vacant.new.seat.me c.store.new.seat.me
-            c.args.value c.requires.of.opening seat.has_parts seat.settled (ap (λ m. m.0) e) (c.store.ensures.2 c.args.value is) in
+    gave_seat g.T.Grows.origin g.T.Grows.story (opened c.args.self.now) seat.seat.me c.exchange-vacant.new.seat.me c.store.new.seat.me
+    c.args.value c.requires.of.opening seat.has_parts seat.settled (ap (λ m. m.0) e) (c.store.ensures.2 c.args.value is) in
     (r.idle, r.gives)
 
 pub returns-clause-value : goal.returns-clause-value
@@ -64,8 +64,8 @@ returns-clause-value g c =
     let e = c.exchange-vacant.ensures.3 in
     let is = filled seat.seat.me c.exchange-vacant.new.seat.me c.args.value seat.carries c.requires.taken e in
     let r =
-        gave_seat g.T.Grows.origin g.T.Grows.story (opened c.args.self.now) seat.seat.me c.exchange-vacant.new.seat.me c.store.new.seat.me
-            c.args.value c.requires.of.opening seat.has_parts seat.settled (ap (λ m. m.0) e) (c.store.ensures.2 c.args.value is) in
+    gave_seat g.T.Grows.origin g.T.Grows.story (opened c.args.self.now) seat.seat.me c.exchange-vacant.new.seat.me c.store.new.seat.me
+    c.args.value c.requires.of.opening seat.has_parts seat.settled (ap (λ m. m.0) e) (c.store.ensures.2 c.args.value is) in
     (r.last, ap (λ o. option_map_or g.T.Grows.story o []) r.last)
 
 pub returns-clause-alone : goal.returns-clause-alone
@@ -74,6 +74,6 @@ returns-clause-alone g c =
     let e = c.exchange-vacant.ensures.3 in
     let is = filled seat.seat.me c.exchange-vacant.new.seat.me c.args.value seat.carries c.requires.taken e in
     let r =
-        gave_seat g.T.Grows.origin g.T.Grows.story (opened c.args.self.now) seat.seat.me c.exchange-vacant.new.seat.me c.store.new.seat.me
-            c.args.value c.requires.of.opening seat.has_parts seat.settled (ap (λ m. m.0) e) (c.store.ensures.2 c.args.value is) in
+    gave_seat g.T.Grows.origin g.T.Grows.story (opened c.args.self.now) seat.seat.me c.exchange-vacant.new.seat.me c.store.new.seat.me
+    c.args.value c.requires.of.opening seat.has_parts seat.settled (ap (λ m. m.0) e) (c.store.ensures.2 c.args.value is) in
     r.alone

@@ -25,5 +25,5 @@ load-requires g c = let seat = c.join_seat.new.seat in (
 pub returns-clause-seen : goal.returns-clause-seen
 returns-clause-seen g c =
     joined_seat g.T.Grows.origin g.T.Grows.story c.join_seat.new.seat.me c.load.new.seat.me (history c.args.seat.now) (history c.args.other)
-        c.load.ensures.2
+    c.load.ensures.2
     (ap (λ m. m.0.history) c.join_seat.ensures.2) (ap (λ m. m.0.told) c.join_seat.ensures.2)

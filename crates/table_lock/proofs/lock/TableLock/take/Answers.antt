@@ -33,9 +33,11 @@ loop-preserved g c =
 
 pub returns-in-Some-try_take-clause-taken : goal.returns-in-Some-try_take-clause-taken
 returns-in-Some-try_take-clause-taken g c =
-    let t = c.in-Some-try_take.ensures.taken in
-    (t.0, adds_after g.T.Grows.origin g.T.Grows.story (history c.args.seat.now) (history c.loop.seat) (history c.try_take.new.seat) Taken
-        c.loop.invariant.longer t.1)
+    let t = c.in-Some-try_take.ensures.taken in (
+      t.0,
+      adds_after g.T.Grows.origin g.T.Grows.story (history c.args.seat.now) (history c.loop.seat) (history c.try_take.new.seat) Taken
+          c.loop.invariant.longer t.1,
+    )
 
 pub returns-in-Some-try_take-clause-alone : goal.returns-in-Some-try_take-clause-alone
 returns-in-Some-try_take-clause-alone g c =

@@ -21,31 +21,31 @@ exchange-requires g c =
 pub returns-then-compare_exchange-ne-FREE-clause-of : goal.returns-then-compare_exchange-ne-FREE-clause-of
 returns-then-compare_exchange-ne-FREE-clause-of g c =
     let r =
-        missed_seat g.T.Grows.origin g.T.Grows.story (opened c.args.self.now) c.args.seat.now.seat.me c.compare_exchange.new.seat.me
-            c.requires.of.opening (c.compare_exchange.ensures.2.1 c.if-compare_exchange-ne-FREE.true) in
+    missed_seat g.T.Grows.origin g.T.Grows.story (opened c.args.self.now) c.args.seat.now.seat.me c.compare_exchange.new.seat.me
+    c.requires.of.opening (c.compare_exchange.ensures.2.1 c.if-compare_exchange-ne-FREE.true) in
     (record { table = c.compare_exchange.ensures.0 ∙ c.requires.of.table; opening = r.0 }, r.1, r.2)
 
 pub returns-then-compare_exchange-ne-FREE-clause-seen : goal.returns-then-compare_exchange-ne-FREE-clause-seen
 returns-then-compare_exchange-ne-FREE-clause-seen g c =
     (missed_seat g.T.Grows.origin g.T.Grows.story (opened c.args.self.now) c.args.seat.now.seat.me c.compare_exchange.new.seat.me
-        c.requires.of.opening (c.compare_exchange.ensures.2.1 c.if-compare_exchange-ne-FREE.true)).3
+    c.requires.of.opening (c.compare_exchange.ensures.2.1 c.if-compare_exchange-ne-FREE.true)).3
 
 pub returns-clause-of : goal.returns-clause-of
 returns-clause-of g c =
     let r =
-        taken_seat g.T.Grows.origin g.T.Grows.story (opened c.args.self.now) c.args.seat.now.seat.me c.compare_exchange.new.seat.me
-            c.exchange.new.seat.me c.exchange.result c.requires.of.opening
+    taken_seat g.T.Grows.origin g.T.Grows.story (opened c.args.self.now) c.args.seat.now.seat.me c.compare_exchange.new.seat.me
+    c.exchange.new.seat.me c.exchange.result c.requires.of.opening
     (c.compare_exchange.ensures.2.0 c.if-compare_exchange-ne-FREE.false) c.exchange.ensures.2 (ap (λ m. m.0) c.exchange.ensures.3) in
     (record { table = c.exchange.ensures.0 ∙ (c.compare_exchange.ensures.0 ∙ c.requires.of.table); opening = r.0 }, r.1, r.2)
 
 pub returns-clause-seen : goal.returns-clause-seen
 returns-clause-seen g c =
     (taken_seat g.T.Grows.origin g.T.Grows.story (opened c.args.self.now) c.args.seat.now.seat.me c.compare_exchange.new.seat.me
-        c.exchange.new.seat.me c.exchange.result c.requires.of.opening
+    c.exchange.new.seat.me c.exchange.result c.requires.of.opening
     (c.compare_exchange.ensures.2.0 c.if-compare_exchange-ne-FREE.false) c.exchange.ensures.2 (ap (λ m. m.0) c.exchange.ensures.3)).3
 
 pub returns-clause-value : goal.returns-clause-value
 returns-clause-value g c =
     (taken_seat g.T.Grows.origin g.T.Grows.story (opened c.args.self.now) c.args.seat.now.seat.me c.compare_exchange.new.seat.me
-        c.exchange.new.seat.me c.exchange.result c.requires.of.opening
+    c.exchange.new.seat.me c.exchange.result c.requires.of.opening
     (c.compare_exchange.ensures.2.0 c.if-compare_exchange-ne-FREE.false) c.exchange.ensures.2 (ap (λ m. m.0) c.exchange.ensures.3)).4

@@ -1,6 +1,6 @@
 -- One area more.
-use Rattle.std.proofs.Common.{◌≡◌, ◌<◌, ℕ, ◌+◌, Bool, true, false, ◌&&◌, ◌||◌, ◌==◌, cond, List, length, drop, get_or, refl, sym, ap, ◌∙◌,
-    add-one, drop-cons}
+use Rattle.std.proofs.Common.{◌≡◌, ◌<◌, ℕ, ◌+◌, Bool, true, false, ◌&&◌, ◌||◌, ◌==◌, cond, List, length, drop, get_or, refl, sym, ap, ◌∙◌}
+use Rattle.std.proofs.Common.{add-one, drop-cons}
 use Rattle.std.specs.BTreeSet.{BTreeSet, Updates, contains}
 use Rattle.std.specs.Cmp.{both_tied, unsigned_ties}
 use Rattle.std.specs.Ordering.{nat_cmp}
@@ -28,7 +28,7 @@ one_more areas i d old new within put so_far disk number =
     ap (λ (b : Bool). b || rest) (put.0 (disk, number))
     ∙ ap (λ (b : Bool). cond b true before || rest)
     (sym (both_tied (area.0 == disk) (area.1 == number) (nat_cmp area.0 disk) (nat_cmp area.1 number) (unsigned_ties area.0 disk)
-        (unsigned_ties area.1 number)))
+    (unsigned_ties area.1 number)))
     ∙ turned ((area.0 == disk) && (area.1 == number)) before rest
     ∙ ap (λ (b : Bool). before || b) (sym (among_at areas i d disk number within))
     ∙ so_far disk number
@@ -36,4 +36,4 @@ one_more areas i d old new within put so_far disk number =
 pub loop-pv-preserved : goal.loop-pv-preserved
 loop-pv-preserved c =
     one_more c.args.list.now c.loop-pv.pv-index _ c.loop-pv.set c.insert.new.self c.loop-pv-test.true c.in_ok-insert.ensures.updates
-        c.loop-pv.invariant
+    c.loop-pv.invariant

@@ -7,4 +7,4 @@ use Rattle.vg_repair.proofs.stale_set.StaleSet.of.Given as goal
 abbrev pub invariant-loop-pv : goal.invariant-loop-pv
 invariant-loop-pv l =
     (disk number : ℕ) → (contains area_cmp l.set (disk, number) || is_among (drop l.pv-index l.list) disk number)
-        ≡ is_among l.list disk number
+    ≡ is_among l.list disk number

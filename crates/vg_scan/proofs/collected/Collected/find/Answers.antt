@@ -19,16 +19,15 @@ returns-then-is_stored_as c =
     let all : List GroupCopy = c.args.self.now.copies in
     let i : ℕ = c.in_ok-number.number in
     let got : get key_cmp c.self.inside.numbers (locn.size, locn.sum) ≡ Some i =
-        sym c.get.ensures.value ∙ sym c.copied.ensures ∙ c.in_ok-number.was in
+    sym c.get.ensures.value ∙ sym c.copied.ensures ∙ c.in_ok-number.was in
     let was : WasReadAt copies (locn.size, locn.sum) i = c.self.invariant (locn.size, locn.sum) i got in
     let at : slice_get all i ≡ Some was.1 = ap (λ (r : AllRead). slice_get r.copies i) (sym c.self.view_is) ∙ was.3 in
     let same : c.in_ok-copy.copy.now ≡ was.1 =
     c.in_ok-copy.ensures.lookup.1 ∙ ap (λ (l : List GroupCopy). get_or l i c.in_ok-copy.copy.now) c.copies.ensures
-        ∙ get_or_from_slice_get copies i was.1 c.in_ok-copy.copy.now was.3
+    ∙ get_or_from_slice_get copies i was.1 c.in_ok-copy.copy.now was.3
     in
     let text : was.1.text ≡ without_zero bytes =
-        ap (λ (copy : GroupCopy). copy.text) (sym same) ∙ sym c.as_bytes.ensures ∙ c.is_stored_as.ensures.0 c.if-is_stored_as.true in
-    (
+    ap (λ (copy : GroupCopy). copy.text) (sym same) ∙ sym c.as_bytes.ensures ∙ c.is_stored_as.ensures.0 c.if-is_stored_as.true in (
       slice_get_within all i was.1 at,
       subst (IsStored locn bytes) (sym (gives_number all i was.1 at))
           (known_again was.0 locn was.1 bytes was.4 (ap (λ (k : ℕ × ℕ). k.0) was.2) (ap (λ (k : ℕ × ℕ). k.1) was.2) c.requires text),

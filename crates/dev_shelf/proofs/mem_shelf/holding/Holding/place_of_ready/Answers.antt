@@ -11,4 +11,4 @@ returns-then-left-eq0-clause-which c =
     let passes : p c.index.result.now ≡ true = ap (λ (b : Bool). not b) (sym c.is_held.ensures) ∙ search (c.if-not-is_held) in
     let many : length (filter p (take c.loop-at.at ops.items)) ≡ c.args.number = omega (arith, c.loop-at.invariant, c.if-left-eq0.true) in
     tag_of_ready (λ (op : RecordedOp). op.tag) p ops.items c.loop-at.at c.args.number c.index.result.now (omega (arith, ops.ok.0))
-        c.index.ensures passes many c.requires
+    c.index.ensures passes many c.requires
