@@ -14,7 +14,7 @@ ghost use Rattle.change_batches.specs.Sound.{CanLabel, CanMake, FitsFields, IsRe
 
 use crate::label_sector::{area_write, label_write};
 use disk_batch::{Batch, Writes};
-use group_plan::{Change, NewLabel};
+use group_plan::{Change, NewLabel, set_of};
 use mda_header::Locn;
 use mda_ring::{Area, Areas};
 use meta_model::Group;
@@ -155,7 +155,7 @@ fn push_commit(
     requires room { first_too_large (printed (tree_of group.now now)) (areas_on (set_of disk_of.now) areas.now) ≡ None }
     ensures { OnOk result (IsCommitAdded (areas_on (set_of disk_of.now) areas.now) (set_of disk_of.now) group.now now batches.old.items batches.new.items) }
 {
-    let flush = set_of_list(disk_of.as_slice());
+    let flush = set_of(disk_of.as_slice());
     let areas = areas_on(alloc, areas.as_slice(), flush)?;
     let text = text_of(alloc, group, now)?;
     let (texts, headers, publish) = prepared(alloc, &areas, flush, &text)?.into_batches();
@@ -182,18 +182,6 @@ pub fn prepared(
         Err(CommitRefusal::NoMemory) => Err(AllocError),
         Err(CommitRefusal::TooLarge { .. }) => unreachable!(),
     }
-}
-
-// The set of these numbers.
-fn set_of_list(list: &[u32]) -> PvSet
-    requires { All (λ pv. pv < 64) list.now }
-    ensures { result ≡ set_of list.now }
-{
-    let mut set = PvSet::new();
-    for pv in list {
-        set.insert(*pv);
-    }
-    set
 }
 
 // The areas on disks of the set.

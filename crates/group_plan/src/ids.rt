@@ -1,17 +1,10 @@
 //! The ids that a group has.
 ghost use Rattle.std.specs.Prelude.{◌≡◌};
-ghost use Rattle.scan_rules.specs.Decision.{same_bytes};
 ghost use Rattle.group_plan.specs.Ids.{has_any_id, has_lv_id, has_other_id, has_pv_id};
 
 use lvm_id::LvmId;
 use meta_model::Group;
-
-/// Whether two ids are the same.
-pub fn same_id(a: &LvmId, b: &LvmId) -> bool
-    ensures { result ≡ same_bytes a.now b.now }
-{
-    a.plain() == b.plain()
-}
+use scan_rules::same_id;
 
 /// Whether the group, or a volume of it, has the id.
 pub fn has_id(group: &Group, id: &LvmId) -> bool

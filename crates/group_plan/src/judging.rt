@@ -6,13 +6,13 @@ ghost use Rattle.group_plan.specs.Added.{IsAdded};
 ghost use Rattle.group_plan.specs.Judging.{Judges, area_row, large_row, many_row, set_of, small_row, stands_on_disk, used_row};
 
 use crate::copied::copied_text;
-use crate::ids::same_id;
 use crate::{AddedPv, PlanRefusal};
 use disk_contents::PvFound;
 use line_answers::OpRefusal;
 use lvm_id::LvmId;
 use mda_header::Locn;
 use mda_ring::{Area, RingRefusal, plan_next};
+use scan_rules::same_id;
 use sector_base::PvSet;
 use std::alloc::Global;
 use vg_found::Disk;

@@ -27,7 +27,7 @@ pub use committing::{
     judge_named, judge_resizeable, judge_seqno, judge_write, unknown_group,
 };
 pub use copied::{copied_bytes, copied_disks, copied_text, group_name, volume_name};
-pub use ids::{has_id, same_id};
+pub use ids::has_id;
 pub use joined_group::{commit, disks_with};
 pub use judging::{
     MOST_PVS, judge_areas, judge_count, judge_sizes, judge_used, set_of, stands_on_disk,

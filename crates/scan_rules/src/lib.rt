@@ -26,3 +26,4 @@ pub use laws::{
     silent_disks_change_nothing,
 };
 pub use readings::{AreaGives, AreaRead, DiskRead, GroupCopy, PvRead, Readings};
+pub use same::same_id;

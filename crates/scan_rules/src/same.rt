@@ -5,8 +5,8 @@ ghost use Rattle.scan_rules.specs.Decision.{same_bytes};
 use lvm_id::LvmId;
 use sector_base::Text;
 
-// Whether two ids are the same.
-pub(crate) fn same_id(a: &LvmId, b: &LvmId) -> bool
+/// Whether two ids are the same.
+pub fn same_id(a: &LvmId, b: &LvmId) -> bool
     ensures { result ≡ same_bytes a.now b.now }
 {
     a.plain() == b.plain()

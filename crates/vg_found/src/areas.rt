@@ -42,8 +42,8 @@ fn push_held(
     Ok(())
 }
 
-// The area on this disk with the entry of its committed text, where it isn't ignored.
-fn held_area(pv: u32, found: &AreaFound) -> Option<(Area, Option<Locn>)>
+/// The area on this disk with the entry of its committed text, where it isn't ignored.
+pub fn held_area(pv: u32, found: &AreaFound) -> Option<(Area, Option<Locn>)>
     ensures { result ≡ held_area pv found.now }
 {
     let area = Area {

@@ -13,7 +13,7 @@ mod pv_disks;
 mod stale;
 mod whole;
 
-pub use areas::held_areas;
+pub use areas::{held_area, held_areas};
 pub use disk::{Disk, DiskTable};
 pub use found::{AreaSet, Found, Ids};
 pub use laws::{areas_are_shaped, whole_has_its_disks};

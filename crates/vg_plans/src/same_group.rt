@@ -9,11 +9,12 @@ ghost use Rattle.group_plan.specs.Ids.{has_pv_id};
 ghost use Rattle.group_plan.specs.Judging.{Judges, first_refusal, refused_if};
 ghost use Rattle.vg_plans.specs.Vgcfgrestore.{id_lacked, lesser, other_group_rows, other_pvs_row, shown_id};
 
-use group_plan::{PlanRefusal, copied_bytes, same_id};
+use group_plan::{PlanRefusal, copied_bytes};
 use id_index::Members;
 use line_answers::OpRefusal;
 use lvm_id::LvmId;
 use meta_model::Group;
+use scan_rules::same_id;
 use sector_base::Text;
 use std::alloc::{AllocError, Global};
 

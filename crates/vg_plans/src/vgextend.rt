@@ -12,12 +12,13 @@ use group_edits::next_version;
 use group_plan::{
     AddedPv, Change, GroupState, MOST_PVS, PlanRefusal, commit, disks_with, find_all_added,
     judge_areas, judge_count, judge_name, judge_resizeable, judge_seqno, judge_sizes, judge_used,
-    judge_write, same_id, unknown_group,
+    judge_write, unknown_group,
 };
 use id_index::{IdMap, lvs_by_id};
 use line_answers::OpRefusal;
 use lvm_id::LvmId;
 use meta_model::Group;
+use scan_rules::same_id;
 use sector_base::Text;
 use std::alloc::Global;
 use vg_check::Checked;

@@ -2,17 +2,16 @@
 ghost use Rattle.std.specs.Prelude.{◌≡◌, ◌≤◌, ◌++◌, length, All, IfOk, MatchResult, None};
 ghost use Rattle.std.specs.List.{enumerate_from, filter_map};
 ghost use Rattle.mda_ring.specs.Areas.{CanTake};
-ghost use Rattle.vg_found.specs.Disks.{held_area};
 ghost use Rattle.vg_repair.specs.Stale.{IsCause, stale_by, stale_in, too_large_among};
 
 use crate::RepairFault;
 use crate::stale_set::StaleSet;
 use disk_contents::{AreaFound, PvFound};
-use mda_header::{HeaderEntry, Locn};
+use mda_header::Locn;
 use mda_ring::{Area, Areas, RingRefusal, plan_next};
 use sector_base::Text;
 use std::alloc::{AllocError, Global};
-use vg_found::Disk;
+use vg_found::{Disk, held_area};
 
 // The stale areas of the disks, each with the entry of its committed text. Only memory can be wanting.
 pub(crate) fn stale_areas(
@@ -63,22 +62,6 @@ fn stale_area(
         held_area(pv, found)
     } else {
         None
-    }
-}
-
-// The area on this disk with the entry of its committed text, where it isn't ignored.
-pub(crate) fn held_area(pv: u32, found: &AreaFound) -> Option<(Area, Option<Locn>)>
-    ensures { result ≡ held_area pv found.now }
-{
-    let area = Area {
-        pv,
-        start: found.area.offset,
-        size: found.area.size,
-    };
-    match found.entry {
-        HeaderEntry::Ignored => None,
-        HeaderEntry::Text(locn) => Some((area, Some(locn))),
-        HeaderEntry::Nothing | HeaderEntry::Refused(_) => Some((area, None)),
     }
 }
 

@@ -15,7 +15,6 @@ ghost use Rattle.vg_repair.specs.Putting.{AreaHasRoom, HasRoom, IsSummed, text_p
 ghost use Rattle.vg_repair.specs.Repaired.{repaired_area, repaired_areas, repaired_contents, repaired_disk, repaired_disks, repaired_of, with_entry};
 ghost use Rattle.vg_repair.specs.Stale.{too_large};
 
-use crate::areas::held_area;
 use crate::stale_set::StaleSet;
 use change_batches::unused;
 use disk_contents::{AreaFound, AreasFound, PvFound};
@@ -23,7 +22,7 @@ use mda_header::{HeaderEntry, Locn, MdaHeader};
 use mda_ring::{Area, plan_next};
 use sector_base::{ItemList, LVM_CRC_START, PvSet, Text, crc};
 use std::alloc::{AllocError, Global};
-use vg_found::{Disk, DiskTable, Found, Whole, held_areas};
+use vg_found::{Disk, DiskTable, Found, Whole, held_area, held_areas};
 
 // What is put right: the stale areas, which get the text that was found, and the strays. The checksum is that of the text
 // as it is stored.

@@ -12,8 +12,8 @@ use Rattle.vg_repair.proofs.repaired.repaired.Goals as goal
 
 pub repaired_disks-requires-clause-each : goal.repaired_disks-requires-clause-each
 repaired_disks-requires-clause-each c pv disk at =
-    let there : slice_get c.args.found.disks pv ≡ Some disk = subst (λ (l : List Disk). slice_get l pv ≡ Some disk) c.into_vec.ensures at in
-    (
+    let there : slice_get c.args.found.disks pv ≡ Some disk =
+    subst (λ (l : List Disk). slice_get l pv ≡ Some disk) c.into_vec.ensures at in (
       (c.requires.shape.disks pv disk there).0,
       λ number found is area old. (has_room c.args.found c.requires.shape c.requires.room c.requires.fields pv disk there number found is
           area

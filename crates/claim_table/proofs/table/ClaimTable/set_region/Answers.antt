@@ -8,8 +8,8 @@ use Rattle.claim_table.proofs.table.ClaimTable.set_region.Goals as goal
 pub invariant_of-self : goal.invariant_of-self
 invariant_of-self c =
     let room = ap (λ (k : Kept). k.room) c.set_region.ensures in
-    let long = ap (λ (k : Kept). length k.claims) c.set_region.ensures ∙ length-set c.self.inside.deferred.claims c.place_of-at.result _ in
-    (
+    let long =
+    ap (λ (k : Kept). length k.claims) c.set_region.ensures ∙ length-set c.self.inside.deferred.claims c.place_of-at.result _ in (
       c.self.invariant.0,
       subst (λ (k : Kept). Rise k.claims) (sym c.set_region.ensures)
           (rise_region c.self.inside.deferred.claims c.place_of-at.result c.args.region no_claim c.place_of-at.ensures.within
