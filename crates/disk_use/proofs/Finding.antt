@@ -12,7 +12,7 @@ use Rattle.vg_scan.specs.Scans.{HoldsNow}
 use Rattle.disk_use.specs.declared.in_use.InUse.{InUse}
 use Rattle.disk_use.specs.declared.in_use.Use.{Use}
 use Rattle.disk_use.specs.declared.in_use.Use.TheVariants.{Group}
-use Rattle.disk_use.specs.Looks.{AreFreeBut, IsFirstUse, IsMarked, Looks}
+use Rattle.disk_use.specs.LookedAt.{AreFreeBut, IsFirstUse, IsMarked, LooksOnly}
 use Rattle.disk_use.specs.Uses.{IsFree, IsOfGroup, IsOfNone, IsUsedBy}
 use Rattle.disk_use.proofs.Freed.{free_more, marked_more, used}
 use Rattle.disk_use.proofs.Looking.{held_before, looks_both, looks_nothing, now_always, now_both, now_weaker}
@@ -21,7 +21,7 @@ use Rattle.disk_use.proofs.Looking.{held_before, looks_both, looks_nothing, now_
 pub record AreLookedAt (new : Bool) (s0 : State) (all : List ℕ) (count : ℕ) (marked : List ℕ) (s : State) : Type 0 where
   pub now : HoldsNow s0.told (λ image. AreFreeBut new image s0.sizes marked (take count all))
   pub faults : HasSameFaults s0 s
-  pub looks : Looks s0 s
+  pub looks : LooksOnly s0 s
   pub among : All (Contains all) marked
 
 -- before the first disk
@@ -38,7 +38,7 @@ none_looked_at new s0 all marked none idle =
 
 module _ (new : Bool) (s0 s1 s2 : State) (all : List ℕ) (i : ℕ) (marked : List ℕ) (pv : ℕ) (so_far : AreLookedAt new s0 all i marked s1)
     (within : i < length all) (here : pv ≡ get_or all i 0)
-    (same : HasSameFaults s1 s2) (looks : Looks s1 s2) where
+    (same : HasSameFaults s1 s2) (looks : LooksOnly s1 s2) where
   faults_both : HasSameFaults s0 s2
   faults_both p = same p ∙ so_far.faults p
 

@@ -5,7 +5,7 @@ use Rattle.disk_contents.specs.declared.contents.PvFound.{PvFound}
 use Rattle.disk_contents.specs.declared.contents.PvFound.TheVariants.{NoLabel, NoHeader, Whole}
 use Rattle.std.proofs.lemmas.List.Elements.{All-pop, All-push}
 use Rattle.disk_use.specs.declared.in_use.Use.TheVariants.{Group}
-use Rattle.disk_use.specs.Looks.{AreFreeBut, IsMarked, IsMarkedWith}
+use Rattle.disk_use.specs.LookedAt.{AreFreeBut, IsMarked, IsMarkedWith}
 use Rattle.disk_use.specs.Uses.{IsFree, IsFreeWith, IsOfGroup, IsOfNone, IsUseOf, IsUsedBy}
 
 -- a marked disk of a group is free

@@ -18,7 +18,7 @@ use Rattle.vg_scan.specs.Scans.{HoldsNow}
 use Rattle.disk_use.specs.declared.use_refusal.UseRefusal.{UseRefusal}
 use Rattle.disk_use.specs.declared.use_refusal.UseRefusal.TheVariants.{NoMemory, ReadFailed}
 use Rattle.disk_use.specs.Faults.{IsUseFault, refusal_of}
-use Rattle.disk_use.specs.Looks.{Looks, ReadsSome}
+use Rattle.disk_use.specs.LookedAt.{LooksOnly, ReadsSome}
 
 -- ---- what is told
 
@@ -55,26 +55,26 @@ now_always (Some t) P all = all (now_after t.opened t.steps)
 
 -- ---- looks
 
-pub looks_both : (s0 s1 s2 : State) → Looks s0 s1 → Looks s1 s2 → Looks s0 s2
+pub looks_both : (s0 s1 s2 : State) → LooksOnly s0 s1 → LooksOnly s1 s2 → LooksOnly s0 s2
 looks_both s0 s1 s2 a b = record {
   told = between_both ReadsSome ReadsSome ReadsSome s0.told s1.told s2.told some_both a.told b.told;
   again = again_both s0 s1 s2 a.again b.again;
 }
 
-pub looks_nothing : (s0 s1 : State) → s1 ≡ s0 → s0.in_flight ≡ [] → Looks s0 s1
+pub looks_nothing : (s0 s1 : State) → s1 ≡ s0 → s0.in_flight ≡ [] → LooksOnly s0 s1
 looks_nothing s0 s1 same idle = record {
   told = between_same ReadsSome s0.told s1.told (ap (λ (s : State). s.told) same)
       (λ old. ([], record { since = []; steps = refl; reads = tt; spans_are = refl }));
   again = again_same s0 s1 same idle;
 }
 
-pub looks_well : (s0 s1 : State) (spans : List Span) → ReadsWell s0 spans s1 → Looks s0 s1
+pub looks_well : (s0 s1 : State) (spans : List Span) → ReadsWell s0 spans s1 → LooksOnly s0 s1
 looks_well s0 s1 spans w = record {
   told = between_weaker (λ old new. OnlyReads old spans new) ReadsSome s0.told s1.told (λ old new r. (spans, r)) w.reads;
   again = w.again;
 }
 
-pub looks_until : (pv : ℕ) (s0 s1 : State) (spans : List Span) (refusal : ReadRefusal) → ReadsUntil pv s0 spans s1 refusal → Looks s0 s1
+pub looks_until : (pv : ℕ) (s0 s1 : State) (spans : List Span) (refusal : ReadRefusal) → ReadsUntil pv s0 spans s1 refusal → LooksOnly s0 s1
 looks_until pv s0 s1 spans refusal u = record {
   told = between_weaker (λ old new. OnlyReads old u.read new) ReadsSome s0.told s1.told (λ old new r. (u.read, r)) u.reads;
   again = u.again;
@@ -98,7 +98,7 @@ fault_after s0 s1 s2 NoMemory same f = tt
 fault_after s0 s1 s2 (ReadFailed pv) same f = omega (arith, f, same pv)
 
 -- what holds of the disks after looks held before them
-pub held_before : (s0 s1 : State) (P : List ℕ → Image → Type 0) → Looks s0 s1 → HoldsNow s1.told (λ image. P s1.sizes image)
+pub held_before : (s0 s1 : State) (P : List ℕ → Image → Type 0) → LooksOnly s0 s1 → HoldsNow s1.told (λ image. P s1.sizes image)
     → HoldsNow s0.told (λ image. P s0.sizes image)
 held_before s0 s1 P looks is =
     now_before s0.told s1.told (λ image. P s0.sizes image) looks.told
@@ -106,7 +106,7 @@ held_before s0 s1 P looks is =
 
 -- an answer of a call after one without a fault, by what held before both
 pub looked_again : {A : Type 0} (s0 s1 s2 : State) (P : List ℕ → Image → A → Type 0) (r : Result A UseRefusal) → HasSameFaults s0 s1
-    → Looks s0 s1
+    → LooksOnly s0 s1
     → MatchResult r (λ x. HasSameFaults s1 s2 × HoldsNow s1.told (λ image. P s1.sizes image x)) (IsUseFault s1 s2)
     → MatchResult r (λ x. HasSameFaults s0 s2 × HoldsNow s0.told (λ image. P s0.sizes image x)) (IsUseFault s0 s2)
 looked_again s0 s1 s2 P (Ok x) same looks is = (λ pv. is.0 pv ∙ same pv, held_before s0 s1 (λ sizes image. P sizes image x) looks is.1)

@@ -19,11 +19,11 @@ use Rattle.vg_scan.specs.Scans.{FailedOn, HoldsNow, IsRefusalOfScan, IsScan, IsS
 use Rattle.disk_use.specs.declared.use_refusal.UseRefusal.{UseRefusal}
 use Rattle.disk_use.specs.declared.use_refusal.UseRefusal.TheVariants.{NoMemory, ReadFailed}
 use Rattle.disk_use.specs.Faults.{IsUnreadFault, IsUseFault}
-use Rattle.disk_use.specs.Looks.{Looks, ReadsSome}
+use Rattle.disk_use.specs.LookedAt.{LooksOnly, ReadsSome}
 use Rattle.disk_use.specs.Uses.{IsAmong, IsOfGroup, IsOfNone, refused, unlisted}
 use Rattle.disk_use.proofs.Looking.{now_weaker}
 
-pub looks_scan : (s0 s1 : State) → BetweenRecords (ReadsFew s0.sizes) s0.told s1.told → IsIdleAgain s0 s1 → Looks s0 s1
+pub looks_scan : (s0 s1 : State) → BetweenRecords (ReadsFew s0.sizes) s0.told s1.told → IsIdleAgain s0 s1 → LooksOnly s0 s1
 looks_scan s0 s1 told again = record {
   told = between_weaker (ReadsFew s0.sizes) ReadsSome s0.told s1.told
       (λ old new r. (spans_read r.since, record { since = r.since; steps = r.steps; reads = r.reads; spans_are = refl })) told;

@@ -19,7 +19,7 @@ use Rattle.disk_use.specs.declared.in_use.Shown.{Shown}
 use Rattle.disk_use.specs.declared.in_use.Shown.TheVariants.{Free, Marked}
 use Rattle.disk_use.specs.declared.use_refusal.UseRefusal.{UseRefusal}
 use Rattle.disk_use.specs.Faults.{IsUseFault}
-use Rattle.disk_use.specs.Looks.{IsShown, IsShownWith, is_wanted, shown_of}
+use Rattle.disk_use.specs.LookedAt.{IsShown, IsShownWith, is_wanted, shown_of}
 use Rattle.disk_use.specs.Uses.{is_marked}
 use Rattle.disk_use.proofs.Looking.{now_both}
 

@@ -1,4 +1,4 @@
 pub mod Faults
-pub mod Looks
+pub mod LookedAt
 pub mod Taken
 pub mod Uses

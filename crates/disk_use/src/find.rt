@@ -7,7 +7,7 @@ ghost use Rattle.disk_model.specs.Since.{BetweenRecords};
 ghost use Rattle.vg_scan.specs.Scans.{HoldsNow};
 ghost use Rattle.disk_use.specs.declared.in_use.Use.TheVariants.{Group};
 ghost use Rattle.disk_use.specs.Faults.{IsUseFault};
-ghost use Rattle.disk_use.specs.Looks.{AreFreeBut, IsFirstUse, Looks, ReadsSome};
+ghost use Rattle.disk_use.specs.LookedAt.{AreFreeBut, IsFirstUse, LooksOnly, ReadsSome};
 ghost use Rattle.disk_use.specs.Taken.{is_new, taken_by};
 ghost use Rattle.disk_use.specs.Uses.{IsFree, IsUsedBy};
 
@@ -87,7 +87,7 @@ fn find_among<S: Shelf>(
         (IsUseFault (S.state shelf.old) (S.state shelf.new)) }
     // Whatever the shelf tells.
     ensures of { IfOk result (λ found. IfSome found (λ found. Contains taken.now found.pv)) }
-    ensures looks { Looks (S.state shelf.old) (S.state shelf.new) }
+    ensures looks { LooksOnly (S.state shelf.old) (S.state shelf.new) }
 {
     let mut marked = Vec::new(alloc);
     for pv in taken {

@@ -6,7 +6,7 @@ ghost use Rattle.disk_contents.specs.Contents.{IsFound};
 ghost use Rattle.disk_signature.specs.Signatures.{first_kind};
 ghost use Rattle.vg_scan.specs.Scans.{HoldsNow};
 ghost use Rattle.disk_use.specs.Faults.{IsUseFault};
-ghost use Rattle.disk_use.specs.Looks.{IsShown, IsShownWith, Looks, is_wanted, shown_by, shown_of};
+ghost use Rattle.disk_use.specs.LookedAt.{IsShown, IsShownWith, LooksOnly, is_wanted, shown_by, shown_of};
 ghost use Rattle.disk_use.specs.Uses.{is_marked};
 
 use crate::UseRefusal;
@@ -32,7 +32,7 @@ pub(crate) fn look<S: Shelf>(
         (λ shown. HasSameFaults (S.state shelf.old) (S.state shelf.new)
         × HoldsNow (S.state shelf.old).told (λ image. IsShown new image (S.state shelf.old).sizes pv shown))
         (IsUseFault (S.state shelf.old) (S.state shelf.new)) }
-    ensures looks { Looks (S.state shelf.old) (S.state shelf.new) }
+    ensures looks { LooksOnly (S.state shelf.old) (S.state shelf.new) }
 {
     let contents = contents_of(alloc, shelf, pv)?;
     look_behind(alloc, shelf, pv, new, &contents)
@@ -54,7 +54,7 @@ fn look_behind<S: Shelf>(
         (λ shown. HasSameFaults (S.state shelf.old) (S.state shelf.new)
         × HoldsNow (S.state shelf.old).told (λ image. IsShownWith new image (S.state shelf.old).sizes pv contents.now shown))
         (IsUseFault (S.state shelf.old) (S.state shelf.new)) }
-    ensures looks { Looks (S.state shelf.old) (S.state shelf.new) }
+    ensures looks { LooksOnly (S.state shelf.old) (S.state shelf.new) }
 {
     let kind = kind_of(alloc, shelf, pv, is_wanted(new, contents))?;
     Ok(shown_of(new, contents, kind))
@@ -71,7 +71,7 @@ fn contents_of<S: Shelf>(alloc: Global, shelf: &mut S, pv: u32) -> Result<PvFoun
         × HoldsOfDisk (S.state shelf.old).told pv
         (λ sector_at. IsFound sector_at (slice_index_or (S.state shelf.old).sizes pv 0) contents))
         (IsUseFault (S.state shelf.old) (S.state shelf.new)) }
-    ensures looks { Looks (S.state shelf.old) (S.state shelf.new) }
+    ensures looks { LooksOnly (S.state shelf.old) (S.state shelf.new) }
 {
     Ok(find_pv(alloc, shelf, pv)?)
 }
@@ -91,7 +91,7 @@ fn kind_of<S: Shelf>(
         × (wanted ≡ true → HoldsOfDisk (S.state shelf.old).told pv
         (λ sector_at. kind ≡ first_kind sector_at (slice_index_or (S.state shelf.old).sizes pv 0))))
         (IsUseFault (S.state shelf.old) (S.state shelf.new)) }
-    ensures looks { Looks (S.state shelf.old) (S.state shelf.new) }
+    ensures looks { LooksOnly (S.state shelf.old) (S.state shelf.new) }
 {
     if !wanted {
         return Ok(None);

@@ -6,7 +6,7 @@ ghost use Rattle.disk_model.specs.Faults.{HasSameFaults};
 ghost use Rattle.scan_rules.specs.declared.decision.ScanRefusal.TheVariants.{NoMemory};
 ghost use Rattle.vg_scan.specs.Scans.{HoldsNow};
 ghost use Rattle.disk_use.specs.Faults.{IsUnreadFault, IsUseFault, wanting};
-ghost use Rattle.disk_use.specs.Looks.{Looks};
+ghost use Rattle.disk_use.specs.LookedAt.{LooksOnly};
 ghost use Rattle.disk_use.specs.Uses.{IsAmong, IsOfGroup, IsOfNone};
 
 use crate::UseRefusal;
@@ -37,7 +37,7 @@ pub(crate) fn first_left<S: Shelf>(
         (IsUseFault (S.state shelf.old) (S.state shelf.new)) }
     // Whatever the shelf tells.
     ensures of { IfOk result (λ left. IfSome left (Contains marked.now)) }
-    ensures looks { Looks (S.state shelf.old) (S.state shelf.new) }
+    ensures looks { LooksOnly (S.state shelf.old) (S.state shelf.new) }
 {
     let Some(first) = marked.first() else {
         return Ok(None);

@@ -19,7 +19,7 @@ use Rattle.vg_scan.specs.Scans.{HoldsNow}
 use Rattle.disk_use.specs.declared.in_use.InUse.{InUse as UsedDisk}
 use Rattle.disk_use.specs.declared.use_refusal.UseRefusal.{UseRefusal}
 use Rattle.disk_use.specs.Faults.{IsUseFault}
-use Rattle.disk_use.specs.Looks.{Looks}
+use Rattle.disk_use.specs.LookedAt.{LooksOnly}
 use Rattle.disk_use.specs.Taken.{is_new, taken_by}
 use Rattle.disk_use.specs.Uses.{IsFree, IsUsedBy}
 use Rattle.disk_use.proofs.Looking.{now_weaker}
@@ -82,7 +82,7 @@ module _ (words : List Word) (line : CommandLine) (is : command_line_of words �
 pub disks_again : (words : List Word) (old new : State) → HasDisks words old → LooksAtMost old new → HasDisks words new
 disks_again words old new has looks = ⊎_elim
     (λ (same : new ≡ old). subst (HasDisks words) (sym same) has)
-    (λ (looked : Looks old new). λ names named.
+    (λ (looked : LooksOnly old new). λ names named.
     let are = has names named in
     let sizes = looked.again.sizes in
     record {
@@ -120,7 +120,7 @@ left_looked_at words old new looks = λ pv before told takes. ⊎_elim
       ap (λ (s : State). s.told) same ∙ told,
       record { since = []; steps = refl; none = All-nil (λ (w : Write). w.0.pv ≢ pv) },
     ))
-    (λ (looked : Looks old new).
+    (λ (looked : LooksOnly old new).
     let after = looked.told before told in
     let reads = after.2.1 in (
       after.0,

@@ -32,11 +32,11 @@ pub data Scanned : Type 0 where
   Lacks : ℕ → Scanned
 
 -- what is looked at before a command is judged
-pub data Looks : Type 0 where
+pub data LooksAt : Type 0 where
   -- nothing: it reads for itself, once it was judged
-  AtNothing : Looks
+  AtNothing : LooksAt
   -- all disks are scanned, and the scan goes on where a read fails
-  AtDisks : Looks
+  AtDisks : LooksAt
 
 -- what a line takes beside that: the extents for what it makes, and what its text gives, where it restores a group
 pub record Inputs : Type 0 where
@@ -51,7 +51,7 @@ no_inputs = record { given = []; backup = None }
 pub record CommandSpec : Type 1 where
   -- it changes something: the disks are opened for that, and flushed before anything else is done
   pub flushes : Bool
-  pub looks : Looks
+  pub looks : LooksAt
   -- what the look comes to, by what stands on the disks and by which of them are unread
   pub scan : Context → Image → set.FinSet nat_cmp → Scanned → Type 0
   -- the extents that it may take, by what the scan finds once that is repaired, none, where it doesn't ask for any; and what its

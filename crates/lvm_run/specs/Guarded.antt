@@ -13,7 +13,7 @@ use Rattle.disk_model.specs.Steps.{Image, Step, Record, now_after, steps_on}
 use Rattle.vg_scan.specs.Scans.{HoldsNow}
 use Rattle.disk_use.specs.declared.in_use.InUse.{InUse as UsedDisk}
 use Rattle.disk_use.specs.Faults.{IsUseFault}
-use Rattle.disk_use.specs.Looks.{Looks}
+use Rattle.disk_use.specs.LookedAt.{LooksOnly}
 use Rattle.disk_use.specs.Taken.{is_new, taken_by}
 use Rattle.disk_use.specs.Uses.{IsFree, IsUsedBy}
 use Rattle.lvm_run.specs.declared.not_run.NotRun.{NotRun}
@@ -56,7 +56,7 @@ AreFree words state =
 
 -- nothing was done, or nothing but reads
 abbrev pub LooksAtMost : State → State → Type 0
-LooksAtMost old new = (new ≡ old) ⊎ Looks old new
+LooksAtMost old new = (new ≡ old) ⊎ LooksOnly old new
 
 -- ---- why nothing ran
 

@@ -21,7 +21,7 @@ use Rattle.lvm_run.specs.declared.ending.Ending.TheVariants.{WordsRefused, NoMem
 use Rattle.lvm_run.specs.declared.ending.Ending.TheVariants.{ScanReadFailed, ScanRefused, RepairFailed, RepairRefused}
 use Rattle.lvm_run.specs.declared.outcome.Outcome.{Outcome}
 use Rattle.lvm_run.specs.declared.outcome.Outcome.TheVariants.{Ended, Answered, Reported}
-use Rattle.lvm_run.specs.CommandSpec.{CommandSpec, Context, Inputs, Looks, AtNothing, AtDisks, Scanned, Finds, Refuses, Lacks, no_inputs}
+use Rattle.lvm_run.specs.CommandSpec.{CommandSpec, Context, Inputs, LooksAt, AtNothing, AtDisks, Scanned, Finds, Refuses, Lacks, no_inputs}
 use Rattle.lvm_run.specs.Scan.{IsUnreadBy, OpensDisks}
 
 -- ---- causes
@@ -46,13 +46,13 @@ abbrev pub IsJudgedFirst : CommandSpec → Context → Type 0
 IsJudgedFirst spec context = spec.looks ≡ AtNothing → spec.refusal context None no_inputs ≡ None
 
 -- a read of the disk failed: in a scan that isn't taken without it, and any other read that fails is the last step
-abbrev pub IsReadFault : CommandSpec → Context → Looks → State → State → ℕ → Type 0
+abbrev pub IsReadFault : CommandSpec → Context → LooksAt → State → State → ℕ → Type 0
 IsReadFault spec context AtDisks old new pv =
     (unread : set.FinSet nat_cmp) × FailedOn unread old new × IsScanned spec context unread old (Lacks pv)
 IsReadFault spec context _ old new pv = (span : Span) × IsLastFault old new pv (Reading span)
 
 -- where memory was wanting no operation had failed; of a command that scans it isn't said which had
-abbrev pub FailedForWant : Looks → State → State → Type 0
+abbrev pub FailedForWant : LooksAt → State → State → Type 0
 FailedForWant AtDisks old new = Unit {0}
 FailedForWant _ old new = HasSameFaults old new
 

@@ -21,7 +21,7 @@ use Rattle.volume_view.proofs.MetSegments.{ByLeg, Meets, by_leg, meets_is}
 use Rattle.volume_view.proofs.OnTheWay.{OnWay, way_all}
 use Rattle.volume_view.proofs.OthersApart.{find_if}
 use Rattle.volume_view.proofs.PrimariesStand.{LeadsOn, ToLv, ToPv, leads_on}
-use Rattle.seg_place.specs.Seen.{IsMet}
+use Rattle.seg_place.specs.CodeValues.{IsMet}
 use Rattle.seg_place.specs.Sought.{is_sought}
 use Rattle.seg_place.specs.declared.deciding.Sought.TheVariants.{Move, Mirror}
 use Rattle.seg_place.proofs.Descending.{GoesOn, goes_on, the_some, way_by}

@@ -15,7 +15,7 @@ use Rattle.volume_view.proofs.GoingDown.{GoesDown, goes_down, step_down, way_is}
 use Rattle.volume_view.proofs.PrimariesStand.{primary_stands}
 use Rattle.seg_place.specs.Cost.{TakesSteps}
 use Rattle.seg_place.specs.Search.{Halves}
-use Rattle.seg_place.specs.Seen.{IsMet}
+use Rattle.seg_place.specs.CodeValues.{IsMet}
 use Rattle.seg_place.specs.Sectors.{sectors_of, segments_in}
 use Rattle.seg_place.proofs.Volumes.{in_volume, lv_is_well}
 

@@ -17,7 +17,7 @@ use Rattle.volume_view.specs.InSegments.{Met, Spot, is_finished, leg_spot, offse
 use Rattle.volume_view.specs.Places.{down, mirror_of, others_of}
 use Rattle.volume_view.proofs.MetSegments.{ByLeg, by_leg, meets_is}
 use Rattle.volume_view.proofs.PrimariesStand.{Whole, leg_stands, whole_is}
-use Rattle.seg_place.specs.Seen.{IsMet}
+use Rattle.seg_place.specs.CodeValues.{IsMet}
 use Rattle.seg_place.proofs.Descending.{some_is}
 
 -- where a leg that isn't read leads

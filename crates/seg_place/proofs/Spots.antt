@@ -16,7 +16,7 @@ use Rattle.volume_view.proofs.MetSegments.{meets_is}
 use Rattle.volume_view.proofs.PrimariesStand.{LeadsOn, ToLv, ToPv, Whole, leads_on, whole_is}
 use Rattle.volume_view.proofs.Stripes.{more_leg}
 use Rattle.seg_place.specs.Legs.{HasLegs}
-use Rattle.seg_place.specs.Seen.{IsMet}
+use Rattle.seg_place.specs.CodeValues.{IsMet}
 use Rattle.seg_place.proofs.Volumes.{lv_is_well, pv_fits}
 
 whole_has : (extent count : ℕ) (kind : SegKind) → IsWholeStriped extent count kind → IsWholeMirror kind → HasLegs kind

@@ -3,6 +3,6 @@ pub mod Legs
 pub mod Marks
 pub mod Search
 pub mod Sectors
-pub mod Seen
-pub mod SeenPlaces
+pub mod CodeValues
+pub mod CodePlaces
 pub mod Sought

@@ -4,7 +4,7 @@ ghost use Rattle.volume_rules.specs.Moving.{has_pvmove, leads_to_pvmove};
 ghost use Rattle.volume_rules.specs.Rules.{IsAccepted};
 ghost use Rattle.volume_view.specs.InSegments.{is_mirror};
 ghost use Rattle.volume_view.specs.Places.{deciding, down, way};
-ghost use Rattle.seg_place.specs.Seen.{seen};
+ghost use Rattle.seg_place.specs.CodeValues.{seen};
 ghost use Rattle.seg_place.specs.Sought.{is_sought};
 
 use crate::met_segment::{MetSegment, segment_at};

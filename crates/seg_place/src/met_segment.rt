@@ -4,7 +4,7 @@ ghost use Rattle.volume_rules.specs.Rules.{IsAccepted};
 ghost use Rattle.volume_view.specs.InSegments.{met};
 ghost use Rattle.seg_place.specs.Search.{Halves};
 ghost use Rattle.seg_place.specs.Sectors.{segments_in};
-ghost use Rattle.seg_place.specs.Seen.{seen};
+ghost use Rattle.seg_place.specs.CodeValues.{seen};
 
 use crate::segment_search::number_with;
 use crate::starts::Starts;

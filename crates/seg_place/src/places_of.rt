@@ -2,9 +2,9 @@
 ghost use Rattle.std.specs.Prelude.{◌≡◌, ◌<◌, IsSome, Some};
 ghost use Rattle.volume_rules.specs.Rules.{IsAccepted};
 ghost use Rattle.volume_view.specs.Places.{mirror_of, others_at, others_of, places};
-ghost use Rattle.seg_place.specs.Seen.{IsMet, seen};
+ghost use Rattle.seg_place.specs.CodeValues.{IsMet, seen};
 ghost use Rattle.seg_place.specs.Sectors.{sectors_of};
-ghost use Rattle.seg_place.specs.SeenPlaces.{as_places};
+ghost use Rattle.seg_place.specs.CodePlaces.{as_places};
 
 use crate::deciding::deciding;
 use crate::descent::follow;

@@ -3,7 +3,7 @@ ghost use Rattle.std.specs.Prelude.{◌≡◌, ◌≤◌, ◌/◌, None, Some, i
 ghost use Rattle.volume_view.specs.InSegments.{region_of};
 ghost use Rattle.volume_view.specs.Places.{mirror_of};
 ghost use Rattle.seg_place.specs.Legs.{HasLegs};
-ghost use Rattle.seg_place.specs.Seen.{as_mirror, seen};
+ghost use Rattle.seg_place.specs.CodeValues.{as_mirror, seen};
 
 use crate::legs::is_finished;
 use crate::met_segment::MetSegment;

@@ -3,7 +3,7 @@ ghost use Rattle.std.specs.Prelude.{◌≡◌, ◌<◌, ◌^◌, Some, length};
 ghost use Rattle.meta_model.specs.Runs.{legs_of};
 ghost use Rattle.volume_rules.specs.Rules.{IsAccepted};
 ghost use Rattle.volume_view.specs.InSegments.{leg_spot, primary_spot};
-ghost use Rattle.seg_place.specs.Seen.{IsMet, as_spot, seen};
+ghost use Rattle.seg_place.specs.CodeValues.{IsMet, as_spot, seen};
 
 use crate::legs::{offset_in, primary_leg};
 use crate::met_segment::MetSegment;

@@ -3,7 +3,7 @@ use Rattle.std.proofs.Common.{◌≡◌, ℕ, ◌+◌, List, Contains, get_or, r
 use Rattle.std.specs.Prelude.{IfSome}
 use Rattle.vg_scan.specs.Scans.{HoldsNow}
 use Rattle.disk_use.specs.declared.in_use.Shown.{Shown}
-use Rattle.disk_use.specs.Looks.{IsShown}
+use Rattle.disk_use.specs.LookedAt.{IsShown}
 use Rattle.disk_use.proofs.Finding.{AreLookedAt, LeftOf, all_looked_at, found_among, free_next, marked_next, used_there}
 use Rattle.disk_use.proofs.Looking.{looks_both}
 use Rattle.disk_use.proofs.find.find_among.Goals as goal

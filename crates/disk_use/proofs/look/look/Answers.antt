@@ -2,7 +2,7 @@
 use Rattle.std.proofs.Common.{ℕ, List}
 use Rattle.disk_model.specs.Steps.{Image}
 use Rattle.disk_use.specs.declared.in_use.Shown.{Shown}
-use Rattle.disk_use.specs.Looks.{IsShownWith}
+use Rattle.disk_use.specs.LookedAt.{IsShownWith}
 use Rattle.disk_use.proofs.Looking.{looked_again, looks_both}
 use Rattle.disk_use.proofs.Showing.{shown_there}
 use Rattle.disk_use.proofs.look.look.Goals as goal

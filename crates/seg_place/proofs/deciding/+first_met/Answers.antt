@@ -1,6 +1,6 @@
 use Rattle.std.proofs.Common.{arith}
 use Rattle.volume_view.proofs.MetSegments.{Meets, meets_is}
-use Rattle.seg_place.specs.Seen.{seen}
+use Rattle.seg_place.specs.CodeValues.{seen}
 use Rattle.seg_place.proofs.Descending.{is_met, some_is}
 use Rattle.seg_place.proofs.FoundSegments.{volume_there}
 use Rattle.seg_place.proofs.deciding.+first_met.Goals as goal

@@ -1,5 +1,5 @@
 use Rattle.std.proofs.Common.{sym, ◌∙◌}
-use Rattle.seg_place.specs.Seen.{seen}
+use Rattle.seg_place.specs.CodeValues.{seen}
 use Rattle.seg_place.proofs.DecidingSegments.{mirror_decides, moving_decides}
 use Rattle.seg_place.proofs.deciding.deciding.Goals as goal
 

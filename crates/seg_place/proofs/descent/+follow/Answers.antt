@@ -5,7 +5,7 @@ use Rattle.meta_model.specs.declared.segment.On.TheVariants as on
 use Rattle.volume_view.specs.InSegments.{Met}
 use Rattle.volume_view.specs.Places.{down, way}
 use Rattle.seg_place.specs.Cost.{TakesSteps}
-use Rattle.seg_place.specs.Seen.{as_spot, seen}
+use Rattle.seg_place.specs.CodeValues.{as_spot, seen}
 use Rattle.seg_place.proofs.Descending.{is_met, takes_first, way_by}
 use Rattle.seg_place.proofs.descent.+follow.Goals as goal
 

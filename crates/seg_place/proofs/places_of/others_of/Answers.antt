@@ -2,7 +2,7 @@ use Rattle.std.proofs.Common.{◌+◌, ◌++◌, ◌∷◌, [], List, length, le
 use Rattle.sector_base.specs.declared.places.At.{At}
 use Rattle.meta_model.specs.declared.segment.Leg.{Leg}
 use Rattle.volume_view.specs.Places.{others_of}
-use Rattle.seg_place.specs.Seen.{as_spot, seen}
+use Rattle.seg_place.specs.CodeValues.{as_spot, seen}
 use Rattle.seg_place.proofs.OtherLegs.{legs_are_few, other_leads, others_all, others_first, others_from, others_more}
 use Rattle.seg_place.proofs.places_of.others_of.Goals as goal
 

@@ -1,6 +1,6 @@
 use Rattle.std.proofs.Common.{◌≡◌, ◌≤◌, ◌+◌, ◌++◌, length}
 use Rattle.volume_view.specs.Places.{others_of}
-use Rattle.seg_place.specs.Seen.{seen}
+use Rattle.seg_place.specs.CodeValues.{seen}
 use Rattle.seg_place.proofs.OtherLegs.{others_from}
 use Rattle.seg_place.proofs.places_of.others_of.Given as goal
 

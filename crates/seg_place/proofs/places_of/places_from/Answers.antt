@@ -3,8 +3,8 @@ use Rattle.sector_base.specs.declared.places.At.{At}
 use Rattle.meta_model.specs.declared.group.Group.{Group}
 use Rattle.volume_view.specs.InSegments.{Met}
 use Rattle.volume_view.specs.Places.{Places, places, primary}
-use Rattle.seg_place.specs.Seen.{seen}
-use Rattle.seg_place.specs.SeenPlaces.{as_places}
+use Rattle.seg_place.specs.CodeValues.{seen}
+use Rattle.seg_place.specs.CodePlaces.{as_places}
 use Rattle.seg_place.specs.Sectors.{sectors_of}
 use Rattle.seg_place.proofs.DecidingSegments.{deciding_is_met, places_by}
 use Rattle.seg_place.proofs.Descending.{leads_down}

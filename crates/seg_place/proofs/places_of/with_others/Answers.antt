@@ -1,4 +1,4 @@
-use Rattle.seg_place.specs.Seen.{seen}
+use Rattle.seg_place.specs.CodeValues.{seen}
 use Rattle.seg_place.proofs.Spots.{has_legs}
 use Rattle.seg_place.proofs.places_of.with_others.Goals as goal
 

@@ -3,7 +3,7 @@ use Rattle.meta_model.specs.declared.segment.Leg.{Leg}
 use Rattle.meta_model.specs.declared.segment.On.TheVariants as on
 use Rattle.meta_model.specs.Runs.{legs_of}
 use Rattle.volume_view.specs.InSegments.{spot_in}
-use Rattle.seg_place.specs.Seen.{seen}
+use Rattle.seg_place.specs.CodeValues.{seen}
 use Rattle.seg_place.proofs.Spots.{has_legs, leg_read, leg_small, leg_there}
 use Rattle.seg_place.proofs.spot.leg_spot.Goals as goal
 

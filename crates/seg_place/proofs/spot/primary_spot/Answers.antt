@@ -1,6 +1,6 @@
 use Rattle.std.proofs.Common.{◌<◌, ℕ, length, subst, sym}
 use Rattle.meta_model.specs.Runs.{legs_of}
-use Rattle.seg_place.specs.Seen.{seen}
+use Rattle.seg_place.specs.CodeValues.{seen}
 use Rattle.seg_place.proofs.Spots.{has_legs, primary_within}
 use Rattle.seg_place.proofs.spot.primary_spot.Goals as goal
 

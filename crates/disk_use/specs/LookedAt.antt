@@ -20,7 +20,7 @@ abbrev pub ReadsSome : Record → Record → Type 0
 ReadsSome old new = (spans : List Span) × OnlyReads old spans new
 
 -- the disks were read, and nothing is in flight
-pub record Looks (old new : State) : Type 0 where
+pub record LooksOnly (old new : State) : Type 0 where
   pub told : BetweenRecords ReadsSome old.told new.told
   pub again : IsIdleAgain old new
 
