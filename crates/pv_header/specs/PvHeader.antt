@@ -25,15 +25,15 @@ pub record IsPvHeader (sector : List ℕ) (header : PvHeader) (bootloader : List
   -- pv_uuid
   pub id_valid : IsId header.id
   pub id_at : slice_range sector 32 64 ≡ header.id
-  -- device_size_is
+  -- device_size_xl
   pub device_at : field 8 sector 64 ≡ header.device_bytes
-  -- disk_areas_is: the data areas, and then the metadata areas
+  -- disk_areas_xl: the data areas, and then the metadata areas
   pub data_at : IsListAt sector 72 header.data_areas
   pub areas_at : IsListAt sector (areas_place header) header.areas
   -- version and flags
   pub version_at : field 4 sector (extension_place header) ≡ header.version
   pub flags_at : field 4 sector (extension_place header + 4) ≡ header.flags
-  -- bootloader_areas_is
+  -- bootloader_areas_xl
   pub bootloader_at : IsListAt sector (extension_place header + 8) bootloader
 
 -- the fields as they are written, with version 2 and no bootloader area; 16 zeros end a list
