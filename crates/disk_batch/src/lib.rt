@@ -17,7 +17,7 @@
 mod alone;
 mod batch;
 mod batching;
-mod flushing;
+mod flush_disks;
 mod in_turn;
 mod laws;
 mod submitting;
@@ -26,7 +26,7 @@ mod writes;
 pub use alone::write_all;
 pub use batch::{Batch, BatchRefused};
 pub use batching::{BatchStep, Batching};
-pub use flushing::flush_all;
+pub use flush_disks::flush_all;
 pub use in_turn::{reserve_all, reserve_lists, write_in_turn};
 pub use laws::batch_laws;
 pub use writes::Writes;

@@ -5,7 +5,7 @@ use Rattle.disk_model.proofs.IdleAgain.{again_both, again_spent}
 use Rattle.disk_model.proofs.LastFault.{same_faults_both}
 use Rattle.disk_batch.specs.Flushing.{FlushesAll}
 use Rattle.disk_batch.proofs.EachFlushed.{flushes_stopped, one_more_flushed}
-use Rattle.disk_batch.proofs.flushing.flush_all.Goals as goal
+use Rattle.disk_batch.proofs.flush_disks.flush_all.Goals as goal
 
 pub loop-pv-preserved : goal.loop-pv-preserved
 loop-pv-preserved g c =

@@ -3,7 +3,7 @@ use Rattle.disk_model.specs.Faults.{HasSameFaults}
 use Rattle.disk_model.specs.Idle.{IsIdleAgain}
 use Rattle.disk_model.specs.Since.{BetweenRecords}
 use Rattle.disk_batch.specs.Flushing.{FlushesAll}
-use Rattle.disk_batch.proofs.flushing.flush_all.Given as goal
+use Rattle.disk_batch.proofs.flush_disks.flush_all.Given as goal
 
 abbrev pub invariant-loop-pv : goal.invariant-loop-pv
 invariant-loop-pv g l = record {
