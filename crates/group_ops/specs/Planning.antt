@@ -17,7 +17,7 @@ use Rattle.group_plan.specs.declared.state.GroupState.{GroupState}
 use Rattle.pv_plans.specs.Pvcreate.{pvcreate_change, pvcreate_rows}
 use Rattle.vg_plans.specs.Vgcfgrestore.{vgcfgrestore_change, vgcfgrestore_rows}
 use Rattle.vg_plans.specs.Vgcreate.{empty_group, vgcreate_change, vgcreate_rows}
-use Rattle.vg_plans.specs.Vgextend.{vgextend_rows}
+use Rattle.vg_plans.specs.Vgextend.{vgextend_rows, extend_by}
 use Rattle.vg_plans.specs.Vgreduce.{vgreduce_change, vgreduce_rows}
 use Rattle.vg_plans.specs.Vgremove.{vgremove_change, vgremove_rows}
 use Rattle.vg_plans.specs.Vgrename.{vgrename_change, vgrename_rows}
