@@ -15,4 +15,4 @@ guarded_run-ended-requires-clause-disks g c κs = λ names named.
     let bytes = ap (λ (l : List Word). length l) are in
     let long : length names ≡ length list.items = rw length-map at bytes in
     let count : vec_len list ≡ length names = omega (arith, long, list.ok.0) in
-    opened_disks_as (vec_len list) (length names) _ count c.in-Ok-open_disks.ensures.ok
+    opened_disks_as (vec_len list) (length names) _ count c.in-Ok-open_images.ensures.ok
