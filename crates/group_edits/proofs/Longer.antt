@@ -5,6 +5,7 @@ use Rattle.std.specs.Prelude.{All, IsSomeAnd}
 use Rattle.std.specs.List.{AllByRecursion as Each}
 use Rattle.std.proofs.lemmas.List.Elements.{All-from_recursion}
 use Rattle.std.proofs.lemmas.List.Sums.{sum_by-append, sum_by-cons}
+use Rattle.std.specs.Str.{bytes_eq}
 use Rattle.meta_model.specs.Standing.{HasTree}
 use Rattle.meta_model.specs.declared.group.Group.{Group}
 use Rattle.meta_model.specs.declared.lv.Lv.{Lv}
@@ -13,7 +14,6 @@ use Rattle.meta_print.proofs.GroupFrom.{printable}
 use Rattle.meta_print.proofs.Printable.{AreNames, IsLv, IsPrintable, IsSegment}
 use Rattle.meta_print.proofs.ReadAgain.{has_tree}
 use Rattle.extent_alloc.specs.declared.part.Part.{Part}
-use Rattle.scan_rules.specs.Decision.{same_bytes}
 use Rattle.volume_rules.proofs.LegRuns.{join_all}
 use Rattle.volume_rules.specs.Extents.{extents_of}
 use Rattle.volume_rules.specs.Rules.{IsAccepted, LvIsSmall}
@@ -126,7 +126,7 @@ module _ (group : Group) (name : List ℕ) (given : List Part) where
       subst IsWhole (sym (changed_is f)) (whole_around group f.place.before f.place.after f.place.row given f.place.rows_is f.place.seen
       f.may accepted (seqno_below group accepted other) tree)
 
-  others_can : (rows : List Row) → Each (λ (row : Row). same_bytes row.0 name ≡ false) rows → Each (CanBeLongerIf name given) rows
+  others_can : (rows : List Row) → Each (λ (row : Row). bytes_eq row.0 name ≡ false) rows → Each (CanBeLongerIf name given) rows
   others_can [] others = tt
   others_can (row ∷ rows) others = (λ named. absurd (true≢false (sym named ∙ others.0)), others_can rows others.1)
 

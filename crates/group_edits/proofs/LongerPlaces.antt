@@ -3,12 +3,12 @@ use Rattle.std.proofs.Common.{◌≡◌, ℕ, ◌+◌, Bool, true, false, cond, 
 use Rattle.std.specs.Prelude.{option_map, slice_get}
 use Rattle.std.specs.Option.{option_and_then}
 use Rattle.std.proofs.lemmas.Option.{slice_get-map}
+use Rattle.std.specs.Str.{bytes_eq}
 use Rattle.sector_base.specs.declared.places.At.{At}
 use Rattle.meta_model.specs.declared.group.Group.{Group}
 use Rattle.meta_model.specs.declared.lv.Lv.{Lv}
 use Rattle.meta_model.specs.declared.segment.Segment.{Segment}
 use Rattle.extent_alloc.specs.declared.part.Part.{Part}
-use Rattle.scan_rules.specs.Decision.{same_bytes}
 use Rattle.volume_rules.specs.Extents.{extents_of}
 use Rattle.volume_view.specs.InSegments.{Met, has_sector, met, segment_from}
 use Rattle.volume_view.specs.Places.{primary}
@@ -53,7 +53,7 @@ module _ (name : List ℕ) (given : List Part) (group : Group) where
       (segments_of (last_kind row.1.segments) (extents_of row.1) given) f found) ∙ is
 
   met_grown : (lv sector : ℕ) (m : Met) (row : Row) → met_in lv sector row ≡ Some m → met_in lv sector (grown row) ≡ Some m
-  met_grown lv sector m row is = by (same_bytes row.0 name) where
+  met_grown lv sector m row is = by (bytes_eq row.0 name) where
     by : (b : Bool) → met_in lv sector (cond b (longer_row given row) row) ≡ Some m
     by true = met_front lv sector m row (segment_from group.extent_size sector 0 row.1.segments) refl is
     by false = is

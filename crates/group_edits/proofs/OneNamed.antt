@@ -7,13 +7,13 @@ use Rattle.std.specs.Cmp.Lexicographic.{pointwise}
 use Rattle.std.proofs.lemmas.Bool.{false≢true, or_right, true≢false}
 use Rattle.std.proofs.lemmas.List.Elements.{All-contains, All-from_recursion}
 use Rattle.std.proofs.lemmas.Option.{same_Some}
+use Rattle.std.specs.Str.{bytes_eq}
 use Rattle.lvm_name.specs.Names.{is_among}
 use Rattle.meta_model.specs.declared.group.Group.{Group}
 use Rattle.meta_model.specs.declared.lv.Lv.{Lv}
 use Rattle.meta_print.proofs.NamesOfText.{pointwise_same}
 use Rattle.meta_print.proofs.Printable.{AreNames, IsPrintable}
 use Rattle.scan_rules.proofs.Scanning.{same_bytes_tells}
-use Rattle.scan_rules.specs.Decision.{same_bytes}
 use Rattle.group_edits.specs.Visible.{visible_from, visible_named}
 
 abbrev Row : Type 0
@@ -36,8 +36,8 @@ module _ (name : List ℕ) where
   visible_at_from : (number : ℕ) (rows : List Row) (v : ℕ × Lv) → visible_from number name rows ≡ Some v → IsVisibleAt number name rows v
   visible_at_from number [] v found = absurd cc
   visible_at_from number (row ∷ rows) v found =
-      by (row.1.status.visible && same_bytes row.0 name) refl found (λ made. visible_at_from (number + 1) rows v made) where
-        by : (b : Bool) → (row.1.status.visible && same_bytes row.0 name) ≡ b
+      by (row.1.status.visible && bytes_eq row.0 name) refl found (λ made. visible_at_from (number + 1) rows v made) where
+        by : (b : Bool) → (row.1.status.visible && bytes_eq row.0 name) ≡ b
             → cond b (Some (number, row.1)) (visible_from (number + 1) name rows) ≡ Some v
             → (visible_from (number + 1) name rows ≡ Some v → IsVisibleAt (number + 1) name rows v) → IsVisibleAt number name (row ∷ rows) v
         by true is made later =
@@ -48,7 +48,7 @@ module _ (name : List ℕ) where
               place = sym (ap (λ (x : ℕ × Lv). x.0) same) ∙ (let e : number ≡ number + 0 = omega arith in e);
               there = refl;
               volume = ap (λ (x : ℕ × Lv). x.1) same;
-              visible = (both_true row.1.status.visible (same_bytes row.0 name) is).0;
+              visible = (both_true row.1.status.visible (bytes_eq row.0 name) is).0;
             }
         by false is made later =
             let rest : IsVisibleAt (number + 1) name rows v = later made in
@@ -64,11 +64,11 @@ module _ (name : List ℕ) where
   -- ---- no other has the name
 
   abbrev HasOther : Row → Type 0
-  HasOther row = same_bytes row.0 name ≡ false
+  HasOther row = bytes_eq row.0 name ≡ false
 
   -- it is this one, where it has the name
   abbrev pub IsThis : Lv → Row → Type 0
-  IsThis lv row = same_bytes row.0 name ≡ true → row.1 ≡ lv
+  IsThis lv row = bytes_eq row.0 name ≡ true → row.1 ≡ lv
 
   pub among_first : (own : List ℕ) (names : List (List ℕ)) → own ≡ name → is_among (own ∷ names) name ≡ true
   among_first own names same = ap (λ (b : Bool). b || is_among names name) (ap (pointwise nat_eq name) same ∙ pointwise_same name)
@@ -78,18 +78,18 @@ module _ (name : List ℕ) where
       → Each HasOther rows
   others [] taken are among = tt
   others (row ∷ rows) taken are among = (
-    by (same_bytes row.0 name) refl,
+    by (bytes_eq row.0 name) refl,
     others rows (row.0 ∷ taken) are.2
         (or_right (pointwise nat_eq name row.0) (is_among taken name) among),
   ) where
-    by : (b : Bool) → same_bytes row.0 name ≡ b → b ≡ false
+    by : (b : Bool) → bytes_eq row.0 name ≡ b → b ≡ false
     by true is = absurd (true≢false (sym among ∙ ap (is_among taken) (sym (same_bytes_tells row.0 name is)) ∙ are.1))
     by false is = refl
 
   none_of_others : (number : ℕ) (rows : List Row) → Each HasOther rows → visible_from number name rows ≡ None
   none_of_others number [] all = refl
   none_of_others number (row ∷ rows) all = by row.1.status.visible ∙ none_of_others (number + 1) rows all.1 where
-    by : (seen : Bool) → cond (seen && same_bytes row.0 name) (Some (number, row.1)) (visible_from (number + 1) name rows)
+    by : (seen : Bool) → cond (seen && bytes_eq row.0 name) (Some (number, row.1)) (visible_from (number + 1) name rows)
         ≡ visible_from (number + 1) name rows
     by true = ap (λ (b : Bool). cond b (Some (number, row.1)) (visible_from (number + 1) name rows)) all.0
     by false = refl
@@ -107,12 +107,12 @@ module _ (name : List ℕ) where
       → AreNames taken (map (λ (row : Row). row.0) rows) → Each (IsThis v.1) rows
   each_this number [] taken v found are = tt
   each_this number (row ∷ rows) taken v found are =
-      by (row.1.status.visible && same_bytes row.0 name) refl found (λ made. each_this (number + 1) rows (row.0 ∷ taken) v made are.2) where
-        by : (b : Bool) → (row.1.status.visible && same_bytes row.0 name) ≡ b
+      by (row.1.status.visible && bytes_eq row.0 name) refl found (λ made. each_this (number + 1) rows (row.0 ∷ taken) v made are.2) where
+        by : (b : Bool) → (row.1.status.visible && bytes_eq row.0 name) ≡ b
             → cond b (Some (number, row.1)) (visible_from (number + 1) name rows) ≡ Some v
             → (visible_from (number + 1) name rows ≡ Some v → Each (IsThis v.1) rows) → Each (IsThis v.1) (row ∷ rows)
         by true is made later =
-            let both = both_true row.1.status.visible (same_bytes row.0 name) is in (
+            let both = both_true row.1.status.visible (bytes_eq row.0 name) is in (
               λ same. ap (λ (x : ℕ × Lv). x.1) (same_Some (number, row.1) v made),
               these_of_others v.1 rows (others rows (row.0 ∷ taken) are.2 (among_first row.0 taken (same_bytes_tells row.0 name both.1))),
             )
@@ -129,7 +129,7 @@ unfolding visible_named
 visible_at group name v found = visible_at_from name 0 group.lvs v found
 
 pub is_this : (group : Group) (name : List ℕ) (v : ℕ × Lv) → IsPrintable group → visible_named group name ≡ Some v → (row : Row)
-    → Contains group.lvs row → same_bytes row.0 name ≡ true → row.1 ≡ v.1
+    → Contains group.lvs row → bytes_eq row.0 name ≡ true → row.1 ≡ v.1
 unfolding visible_named
 is_this group name v can found row within =
     All-contains (IsThis name v.1) group.lvs row

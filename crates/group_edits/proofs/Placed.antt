@@ -6,10 +6,11 @@ use Rattle.std.specs.List.{AllByRecursion as Each, enumerate_from, list_any}
 use Rattle.std.proofs.lemmas.Bool.{false≢true, or_cases}
 use Rattle.std.proofs.lemmas.Bool.Decides.{nat_tests}
 use Rattle.std.proofs.lemmas.List.Elements.{All-from_recursion}
+use Rattle.std.specs.Str.{bytes_eq}
 use Rattle.meta_model.specs.declared.group.Group.{Group}
 use Rattle.meta_model.specs.declared.pv.Pv.{Pv}
 use Rattle.scan_rules.proofs.Scanning.{same_bytes_tells}
-use Rattle.scan_rules.specs.Decision.{Found, Reading, first_misplaced, has_id, has_misplaced, is_misplaced, meets_area, same_bytes}
+use Rattle.scan_rules.specs.Decision.{Found, Reading, first_misplaced, has_id, has_misplaced, is_misplaced, meets_area}
 use Rattle.scan_rules.specs.Found.{is_this_misplaced, misplaced_from}
 use Rattle.group_edits.proofs.FewSectors.{LieOnDisks}
 use Rattle.group_edits.proofs.Inserted.{none_passes}
@@ -46,14 +47,14 @@ module _ (group : Group) where
     abbrev sectors : ℕ
     sectors = pv.1.pe_count * group.extent_size
 
-    on_it : (disk : Reading) (found : Found) → disk.sectors ≤ 2 ^ 40 → same_bytes found.id pv.1.id ≡ true
+    on_it : (disk : Reading) (found : Found) → disk.sectors ≤ 2 ^ 40 → bytes_eq found.id pv.1.id ≡ true
         → list_any (is_this_misplaced group.extent_size disk found) group.pvs ≡ false → sectors ≤ 2 ^ 40
     on_it disk found most same none =
         let e = same_bytes_tells found.id pv.1.id same in
-        let turned : same_bytes pv.1.id found.id ≡ true =
-        ap (same_bytes pv.1.id) e ∙ sym (ap (λ (id : List ℕ). same_bytes id pv.1.id) e) ∙ same in
+        let turned : bytes_eq pv.1.id found.id ≡ true =
+        ap (bytes_eq pv.1.id) e ∙ sym (ap (λ (id : List ℕ). bytes_eq id pv.1.id) e) ∙ same in
         let well : is_misplaced pv.1.pe_start (pv.1.pe_start + sectors) disk found ≡ false =
-        second_false (same_bytes pv.1.id found.id) (is_misplaced pv.1.pe_start (pv.1.pe_start + sectors) disk found) turned
+        second_false (bytes_eq pv.1.id found.id) (is_misplaced pv.1.pe_start (pv.1.pe_start + sectors) disk found) turned
         (passes disk found none) in
         ⊎_elim
         (λ empty. let less = no_less pv.1.pe_start (pv.1.pe_start + sectors) empty in omega (arith, less))
@@ -63,7 +64,7 @@ module _ (group : Group) where
 
     on_disk : (disk : Reading) → disk.sectors ≤ 2 ^ 40 → has_id pv.1.id disk ≡ true → has_misplaced group disk ≡ false → sectors ≤ 2 ^ 40
     on_disk disk most has none = by disk.pv refl has where
-      by : (o : Option Found) → disk.pv ≡ o → unwrap_or (option_map (λ (x : Found). same_bytes x.id pv.1.id) o) false ≡ true
+      by : (o : Option Found) → disk.pv ≡ o → unwrap_or (option_map (λ (x : Found). bytes_eq x.id pv.1.id) o) false ≡ true
           → sectors ≤ 2 ^ 40
       by None is has = absurd (false≢true has)
       by (Some found) is has =

@@ -5,6 +5,7 @@ use Rattle.std.specs.Prelude.{◌≢◌, is_none, is_some, option_map, slice_get
 use Rattle.std.proofs.lemmas.Bool.{false≢true, true≢false}
 use Rattle.std.proofs.lemmas.List.Elements.{All-contains}
 use Rattle.std.proofs.lemmas.Option.{get_or_from_slice_get, slice_get-map}
+use Rattle.std.specs.Str.{bytes_eq}
 use Rattle.lvm_name.specs.Names.{any_name_refusal, is_among, volume_name_refusal, is_reserved}
 use Rattle.meta_model.specs.Runs.{legs_of}
 use Rattle.meta_model.specs.Standing.{HasTree}
@@ -19,7 +20,6 @@ use Rattle.meta_print.proofs.GroupFrom.{printable}
 use Rattle.meta_print.proofs.NamesOfText.{Passes, passes_by}
 use Rattle.meta_print.proofs.Printable.{IsPrintable}
 use Rattle.meta_print.proofs.ReadAgain.{has_tree}
-use Rattle.scan_rules.specs.Decision.{same_bytes}
 use Rattle.volume_rules.proofs.LegRuns.{run_of}
 use Rattle.volume_rules.specs.Legs.{LegRun, runs_of}
 use Rattle.volume_rules.specs.Rules.{IsAccepted, LiesWithin}
@@ -46,35 +46,35 @@ module _ (group : Group) (old new : List ℕ) (v : ℕ × Lv) (accepted : IsAcce
   can = printable group tree
 
   -- a volume is visible, where it has the old name
-  seen : (row : List ℕ × Lv) → Contains group.lvs row → same_bytes row.0 old ≡ true → row.1.status.visible ≡ true
+  seen : (row : List ℕ × Lv) → Contains group.lvs row → bytes_eq row.0 old ≡ true → row.1.status.visible ≡ true
   seen row within same =
       let at : IsVisibleAt 0 old group.lvs v = visible_at group old v found in
       ap (λ (lv : Lv). lv.status.visible) (is_this group old v can found row within same ∙ sym at.volume) ∙ at.visible
 
   name_kept : (row : List ℕ × Lv) → Contains group.lvs row → row.1.status.visible ≡ false
       → (changed_if old (λ (r : List ℕ × Lv). (new, r.1)) row).0 ≡ row.0
-  name_kept row within hidden = by (same_bytes row.0 old) refl where
-    by : (b : Bool) → same_bytes row.0 old ≡ b → (cond b (new, row.1) row).0 ≡ row.0
+  name_kept row within hidden = by (bytes_eq row.0 old) refl where
+    by : (b : Bool) → bytes_eq row.0 old ≡ b → (cond b (new, row.1) row).0 ≡ row.0
     by true is = absurd (true≢false (sym (seen row within is) ∙ hidden))
     by false is = refl
 
   volume_same : (row : List ℕ × Lv) → (changed_if old (λ (r : List ℕ × Lv). (new, r.1)) row).1 ≡ row.1
-  volume_same row = by (same_bytes row.0 old) where
+  volume_same row = by (bytes_eq row.0 old) where
     by : (b : Bool) → (cond b (new, row.1) row).1 ≡ row.1
     by true = refl
     by false = refl
 
   not_named : (m : ℕ) (row : List ℕ × Lv) → slice_get group.lvs m ≡ Some row → row.1.status.visible ≡ false
-      → same_bytes (get_or (lv_names group) m []) old ≡ false
-  not_named m row there hidden = by (same_bytes (get_or (lv_names group) m []) old) refl where
+      → bytes_eq (get_or (lv_names group) m []) old ≡ false
+  not_named m row there hidden = by (bytes_eq (get_or (lv_names group) m []) old) refl where
     named : get_or (lv_names group) m [] ≡ row.0
     named =
         get_or_from_slice_get (lv_names group) m row.0 []
         (slice_get-map (λ (x : List ℕ × Lv). x.0) group.lvs m ∙ ap (option_map (λ (x : List ℕ × Lv). x.0)) there)
 
-    by : (b : Bool) → same_bytes (get_or (lv_names group) m []) old ≡ b → b ≡ false
+    by : (b : Bool) → bytes_eq (get_or (lv_names group) m []) old ≡ b → b ≡ false
     by true same =
-        sym (seen row (contains_at group.lvs m row there) (ap (λ (name : List ℕ). same_bytes name old) (sym named) ∙ same)) ∙ hidden
+        sym (seen row (contains_at group.lvs m row there) (ap (λ (name : List ℕ). bytes_eq name old) (sym named) ∙ same)) ∙ hidden
     by false same = refl
 
   legs_lie : (n : ℕ) (lv : List ℕ × Lv) (k : ℕ) (segment : Segment) (j : ℕ) (leg : Leg) → slice_get group.lvs n ≡ Some lv

@@ -3,10 +3,10 @@ use Rattle.std.proofs.Common.{◌≡◌, ℕ, Bool, true, false, cond, List, Opt
 use Rattle.std.specs.Prelude.{option_map, slice_get}
 use Rattle.std.specs.Option.{option_and_then}
 use Rattle.std.proofs.lemmas.Option.{slice_get-map}
+use Rattle.std.specs.Str.{bytes_eq}
 use Rattle.sector_base.specs.declared.places.At.{At}
 use Rattle.meta_model.specs.declared.group.Group.{Group}
 use Rattle.meta_model.specs.declared.lv.Lv.{Lv}
-use Rattle.scan_rules.specs.Decision.{same_bytes}
 use Rattle.volume_view.specs.InSegments.{Met, met, segment_from}
 use Rattle.volume_view.specs.Places.{primary}
 use Rattle.volume_view.proofs.MetSegments.{make}
@@ -30,7 +30,7 @@ module _ (group : Group) (name : List ℕ) where
 
 -- a row that has another name has the same volume
 pub named_same : (old new : List ℕ) (row : List ℕ × Lv) → (changed_if old (λ (r : List ℕ × Lv). (new, r.1)) row).1 ≡ row.1
-named_same old new row = by (same_bytes row.0 old) where
+named_same old new row = by (bytes_eq row.0 old) where
   by : (b : Bool) → (cond b (new, row.1) row).1 ≡ row.1
   by true = refl
   by false = refl

@@ -8,6 +8,7 @@ use Rattle.std.specs.Cmp.Lexicographic.{pointwise}
 use Rattle.std.proofs.lemmas.Bool.{or_from, true≢false}
 use Rattle.std.proofs.lemmas.Iterator.Adapters.{position_from-zero}
 use Rattle.std.proofs.lemmas.List.Quantifiers.{position-Some}
+use Rattle.std.specs.Str.{bytes_eq}
 use Rattle.conf_text.specs.Grammar.{IsContent}
 use Rattle.lvm_name.specs.Names.{any_name_refusal, is_among}
 use Rattle.meta_model.specs.Runs.{legs_of}
@@ -23,9 +24,7 @@ use Rattle.meta_model.specs.declared.segment.Segment.{Segment}
 use Rattle.meta_print.specs.Layout.{name_of}
 use Rattle.meta_print.proofs.NamesOfText.{differ_back, pointwise_same}
 use Rattle.meta_print.proofs.Printable.{AreNames, IsKind, IsLeg, IsLegs, IsLv, IsPrintable, IsSegment, names_of}
-use Rattle.scan_rules.proofs.SameLists.{pointwise-same_bytes}
 use Rattle.scan_rules.proofs.Scanning.{same_bytes_tells}
-use Rattle.scan_rules.specs.Decision.{same_bytes}
 use Rattle.group_edits.proofs.Inserted.{none_at}
 use Rattle.group_edits.proofs.PushedPrintable.{IsFoundAgain, first_of, lv_names, on_lv, on_pv, pv_names, second_of}
 use Rattle.group_edits.specs.NextVersion.{changed_if}
@@ -97,22 +96,22 @@ both_false false b none = (refl, none)
 -- it isn't a volume of this name
 abbrev pub IsOther : List ℕ → Group → On → Type 0
 IsOther name group (on.Pv n) = Unit {0}
-IsOther name group (on.Lv n) = same_bytes (get_or (lv_names group) n []) name ≡ false
+IsOther name group (on.Lv n) = bytes_eq (get_or (lv_names group) n []) name ≡ false
 
 module _ (old new : List ℕ) where
   -- the new name of a volume
   abbrev pub name_for : List ℕ → List ℕ
-  name_for name = if same_bytes name old then new else name
+  name_for name = if bytes_eq name old then new else name
 
-  not_same : (a b c : List ℕ) → same_bytes a c ≡ true → same_bytes b c ≡ true → pointwise nat_eq a b ≡ false → true ≡ false
+  not_same : (a b c : List ℕ) → bytes_eq a c ≡ true → bytes_eq b c ≡ true → pointwise nat_eq a b ≡ false → true ≡ false
   not_same a b c first second other =
       let same : a ≡ b = same_bytes_tells a c first ∙ sym (same_bytes_tells b c second) in
       sym (pointwise_same a) ∙ ap (pointwise nat_eq a) same ∙ other
 
   apart : (name taken : List ℕ) → pointwise nat_eq new taken ≡ false → pointwise nat_eq new name ≡ false
       → pointwise nat_eq name taken ≡ false → pointwise nat_eq (name_for name) (name_for taken) ≡ false
-  apart name taken free_taken free other = by (same_bytes name old) (same_bytes taken old) refl refl where
-    by : (a b : Bool) → same_bytes name old ≡ a → same_bytes taken old ≡ b → pointwise nat_eq (cond a new name) (cond b new taken) ≡ false
+  apart name taken free_taken free other = by (bytes_eq name old) (bytes_eq taken old) refl refl where
+    by : (a b : Bool) → bytes_eq name old ≡ a → bytes_eq taken old ≡ b → pointwise nat_eq (cond a new name) (cond b new taken) ≡ false
     by true true first second = absurd (true≢false (not_same name taken old first second other))
     by true false first second = free_taken
     by false true first second = differ_back new name free
@@ -129,7 +128,7 @@ module _ (old new : List ℕ) where
 
   valid_for : (name : List ℕ) → is_none (any_name_refusal new) ≡ true → is_none (any_name_refusal name) ≡ true
       → is_none (any_name_refusal (name_for name)) ≡ true
-  valid_for name valid is = by (same_bytes name old) where
+  valid_for name valid is = by (bytes_eq name old) where
     by : (b : Bool) → is_none (any_name_refusal (cond b new name)) ≡ true
     by true = valid
     by false = is
@@ -153,14 +152,14 @@ module _ (old new : List ℕ) where
   get_or-map (name ∷ names) (suc n) within = get_or-map names n (omega (arith, within))
 
   -- a name that is neither
-  module _ (name : List ℕ) (not_old : same_bytes name old ≡ false) (not_new : pointwise nat_eq name new ≡ false) where
+  module _ (name : List ℕ) (not_old : bytes_eq name old ≡ false) (not_new : pointwise nat_eq name new ≡ false) where
     name_stays : name_for name ≡ name
     name_stays = ap (λ (b : Bool). cond b new name) not_old
 
     test_stays : (t : List ℕ) → pointwise nat_eq name (name_for t) ≡ pointwise nat_eq name t
-    test_stays t = by (same_bytes t old) refl where
-      by : (b : Bool) → same_bytes t old ≡ b → pointwise nat_eq name (cond b new t) ≡ pointwise nat_eq name t
-      by true is = not_new ∙ sym (ap (pointwise nat_eq name) (same_bytes_tells t old is) ∙ pointwise-same_bytes name old ∙ not_old)
+    test_stays t = by (bytes_eq t old) refl where
+      by : (b : Bool) → bytes_eq t old ≡ b → pointwise nat_eq name (cond b new t) ≡ pointwise nat_eq name t
+      by true is = not_new ∙ sym (ap (pointwise nat_eq name) (same_bytes_tells t old is) ∙ not_old)
       by false is = refl
 
     place_stays : (i : ℕ) (names : List (List ℕ))
@@ -180,7 +179,7 @@ module _ (old new : List ℕ) where
 
   module _ (group : Group) (free : is_among (lv_names group) new ≡ false) where
     name_by : (row : List ℕ × Lv) → (changed_if old (λ (r : List ℕ × Lv). (new, r.1)) row).0 ≡ name_for row.0
-    name_by row = by (same_bytes row.0 old) where
+    name_by row = by (bytes_eq row.0 old) where
       by : (b : Bool) → (cond b (new, row.1) row).0 ≡ cond b new row.0
       by true = refl
       by false = refl
@@ -231,7 +230,7 @@ module _ (old new : List ℕ) where
         → Each (λ (lv : List ℕ × Lv). IsLv (renamed_volume old new group) lv.1)
         (map (changed_if old (λ (r : List ℕ × Lv). (new, r.1))) rows)
     each_row [] are = tt
-    each_row (row ∷ rows) are = (by (same_bytes row.0 old), each_row rows are.1) where
+    each_row (row ∷ rows) are = (by (bytes_eq row.0 old), each_row rows are.1) where
       by : (b : Bool) → IsLv (renamed_volume old new group) (cond b (new, row.1) row).1
       by true = are.0
       by false = are.0

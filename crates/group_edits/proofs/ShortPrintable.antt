@@ -1,6 +1,7 @@
 -- A group in which a volume has its first extents alone can be printed.
 use Rattle.std.proofs.Common.{◌≡◌, ◌≤◌, ◌<◌, ℕ, Bool, true, false, cond, List, [], ◌∷◌, get_or, map, Some, refl, sym, ap, subst, ◌∙◌, arith}
 use Rattle.std.specs.List.{AllByRecursion as Each}
+use Rattle.std.specs.Str.{bytes_eq}
 use Rattle.meta_model.specs.Standing.{on_named}
 use Rattle.meta_model.specs.declared.group.Group.{Group}
 use Rattle.meta_model.specs.declared.lv.Lv.{Lv}
@@ -9,7 +10,6 @@ use Rattle.meta_model.specs.declared.segment.On.TheVariants as on
 use Rattle.meta_model.specs.declared.segment.Segment.{Segment}
 use Rattle.meta_print.specs.Layout.{name_of}
 use Rattle.meta_print.proofs.Printable.{AreNames, IsLv, IsPrintable, IsSegment, names_of}
-use Rattle.scan_rules.specs.Decision.{same_bytes}
 use Rattle.group_edits.proofs.PushedPrintable.{IsFoundAgain, each_lv, lv_names, pv_names}
 use Rattle.group_edits.proofs.ShortFront.{cut, each_front, fewer_segments}
 use Rattle.group_edits.proofs.ShortRules.{names_same}
@@ -54,7 +54,7 @@ module _ (group : Group) (name : List ℕ) (left : ℕ) where
   each_row : (rows : List (List ℕ × Lv)) → Each (λ (lv : List ℕ × Lv). IsLv other lv.1) rows
       → Each (λ (lv : List ℕ × Lv). IsLv other lv.1) (map (changed_if name (λ (r : List ℕ × Lv). (r.0, shortened left r.1))) rows)
   each_row [] are = tt
-  each_row (row ∷ rows) are = (by (same_bytes row.0 name), each_row rows are.1) where
+  each_row (row ∷ rows) are = (by (bytes_eq row.0 name), each_row rows are.1) where
     by : (b : Bool) → IsLv other (cond b (row.0, shortened left row.1) row).1
     by true = short_lv row.1 are.0
     by false = are.0

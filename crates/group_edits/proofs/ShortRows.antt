@@ -3,11 +3,11 @@ use Rattle.std.proofs.Common.{◌≡◌, ◌≢◌, ◌≤◌, ◌<◌, ℕ, zer
 use Rattle.std.proofs.Common.{length, map, take, Some, refl, sym, ap, ◌∙◌, arith}
 use Rattle.std.specs.Prelude.{if◌then◌else◌, min, nat_le, slice_get}
 use Rattle.std.proofs.lemmas.List.{append_assoc, map-append}
+use Rattle.std.specs.Str.{bytes_eq}
 use Rattle.meta_model.proofs.TableLemmas.{take-next}
 use Rattle.meta_model.specs.declared.lv.Lv.{Lv}
 use Rattle.meta_model.specs.declared.segment.Segment.{Segment}
 use Rattle.sector_base.proofs.Walks.{next_read}
-use Rattle.scan_rules.specs.Decision.{same_bytes}
 use Rattle.group_edits.proofs.ShortFront.{cut, le_by, lt_by}
 use Rattle.group_edits.specs.NextVersion.{changed_if}
 use Rattle.group_edits.specs.ShortenedVolume.{front_of, shortened}
@@ -59,9 +59,9 @@ module _ (name : List ℕ) (left : ℕ) where
   abbrev short : List ℕ × Lv → List ℕ × Lv
   short row = changed_if name (λ (r : List ℕ × Lv). (r.0, shortened left r.1)) row
 
-  row_is : (own copied : List ℕ) (lv copy : Lv) → copied ≡ own → copy ≡ (if same_bytes own name then shortened left lv else lv)
+  row_is : (own copied : List ℕ) (lv copy : Lv) → copied ≡ own → copy ≡ (if bytes_eq own name then shortened left lv else lv)
       → (copied, copy) ≡ short (own, lv)
-  row_is own copied lv copy same is = ap (λ (n : List ℕ). (n, copy)) same ∙ ap (λ (v : Lv). (own, v)) is ∙ by (same_bytes own name) where
+  row_is own copied lv copy same is = ap (λ (n : List ℕ). (n, copy)) same ∙ ap (λ (v : Lv). (own, v)) is ∙ by (bytes_eq own name) where
     by : (b : Bool) → ◌≡◌ {A = List ℕ × Lv} (own, cond b (shortened left lv) lv) (cond b (own, shortened left lv) (own, lv))
     by true = refl
     by false = refl
@@ -69,7 +69,7 @@ module _ (name : List ℕ) (left : ℕ) where
   -- one row more
   pub next_short : (lvs all later : List (List ℕ × Lv)) (n : ℕ) (own copied : List ℕ) (lv copy : Lv) → all ≡ map short (take n lvs)
       → slice_get lvs n ≡ Some (own, lv)
-      → copied ≡ own → copy ≡ (if same_bytes own name then shortened left lv else lv) → later ≡ all ++ (copied, copy) ∷ []
+      → copied ≡ own → copy ≡ (if bytes_eq own name then shortened left lv else lv) → later ≡ all ++ (copied, copy) ∷ []
       → later ≡ map short (take (n + 1) lvs)
   next_short lvs all later n own copied lv copy so_far there same is pushed =
       pushed

@@ -7,6 +7,7 @@ use Rattle.std.proofs.lemmas.Bool.{true≢false}
 use Rattle.std.proofs.lemmas.List.Elements.{All-contains, All-contains_itself, All-from_recursion, All-map, recursion_from_All}
 use Rattle.std.proofs.lemmas.List.Sums.{sum_by-cons}
 use Rattle.std.proofs.lemmas.Option.{same_Some, slice_get-map}
+use Rattle.std.specs.Str.{bytes_eq}
 use Rattle.meta_model.specs.Runs.{legs_of}
 use Rattle.meta_model.specs.declared.group.Group.{Group}
 use Rattle.meta_model.specs.declared.lv.Lv.{Lv}
@@ -18,7 +19,6 @@ use Rattle.meta_model.specs.declared.segment.SegKind.{SegKind}
 use Rattle.meta_model.specs.declared.segment.SegKind.TheVariants.{Striped, Mirror}
 use Rattle.meta_model.specs.declared.segment.Segment.{Segment}
 use Rattle.meta_print.proofs.Printable.{IsPrintable}
-use Rattle.scan_rules.specs.Decision.{same_bytes}
 use Rattle.volume_rules.proofs.LegRuns.{IsRunOf, run_is, run_of}
 use Rattle.volume_rules.specs.Depths.{load}
 use Rattle.volume_rules.specs.Extents.{extents_of}
@@ -83,7 +83,7 @@ module _ (name : List ℕ) (left : ℕ) where
 
   -- what a change leaves
   part_same : {X : Type 0} (g : Lv → X) → ((lv : Lv) → g (shortened left lv) ≡ g lv) → (row : Row) → g (short row).1 ≡ g row.1
-  part_same g same row = by (same_bytes row.0 name) where
+  part_same g same row = by (bytes_eq row.0 name) where
     by : (b : Bool) → g (cond b (row.0, shortened left row.1) row).1 ≡ g row.1
     by true = same row.1
     by false = refl
@@ -99,7 +99,7 @@ module _ (name : List ℕ) (left : ℕ) where
   length_same (row ∷ rows) = ap suc (length_same rows)
 
   name_same : (row : Row) → (short row).0 ≡ row.0
-  name_same row = by (same_bytes row.0 name) where
+  name_same row = by (bytes_eq row.0 name) where
     by : (b : Bool) → (cond b (row.0, shortened left row.1) row).0 ≡ row.0
     by true = refl
     by false = refl
@@ -111,7 +111,7 @@ module _ (name : List ℕ) (left : ℕ) where
       ∙ ap (λ (xs : List (List ℕ)). row.0 ∷ xs) (names_same rows)
 
   segments_less : (row : Row) → length (short row).1.segments ≤ length row.1.segments
-  segments_less row = by (same_bytes row.0 name) where
+  segments_less row = by (bytes_eq row.0 name) where
     by : (b : Bool) → length (cond b (row.0, shortened left row.1) row).1.segments ≤ length row.1.segments
     by true = fewer_segments row.1.segments left
     by false = omega arith
@@ -136,7 +136,7 @@ module _ (name : List ℕ) (left : ℕ) where
   volumes_shorter number (row ∷ rows) few =
       both (runs_of_segments number 0 (short row).1.segments) (runs_of_segments number 0 row.1.segments)
       (runs_of_volumes (number + 1) (map short rows)) (runs_of_volumes (number + 1) rows)
-      (by (same_bytes row.0 name)) (volumes_shorter (number + 1) rows few.1)
+      (by (bytes_eq row.0 name)) (volumes_shorter (number + 1) rows few.1)
     where
       by : (b : Bool) → AreNoLonger (runs_of_segments number 0 (cond b (row.0, shortened left row.1) row).1.segments)
           (runs_of_segments number 0 row.1.segments)
@@ -156,7 +156,7 @@ module _ (group : Group) (name : List ℕ) (left : ℕ) (v : ℕ × Lv) (accepte
   at : IsVisibleAt 0 name group.lvs v
   at = visible_at group name v found
 
-  this : (row : Row) → Contains group.lvs row → same_bytes row.0 name ≡ true → row.1 ≡ v.1
+  this : (row : Row) → Contains group.lvs row → bytes_eq row.0 name ≡ true → row.1 ≡ v.1
   this row within same = is_this group name v can found row within same
 
   seen : v.1.status.visible ≡ true
@@ -168,8 +168,8 @@ module _ (group : Group) (name : List ℕ) (left : ℕ) (v : ℕ × Lv) (accepte
 
   -- a hidden volume stays as it is
   hidden_same : (row : Row) → Contains group.lvs row → row.1.status.visible ≡ false → new row ≡ row
-  hidden_same row within hidden = by (same_bytes row.0 name) refl where
-    by : (b : Bool) → same_bytes row.0 name ≡ b → cond b (row.0, shortened left row.1) row ≡ row
+  hidden_same row within hidden = by (bytes_eq row.0 name) refl where
+    by : (b : Bool) → bytes_eq row.0 name ≡ b → cond b (row.0, shortened left row.1) row ≡ row
     by true same = absurd (true≢false (sym (ap (λ (lv : Lv). lv.status.visible) (this row within same) ∙ seen) ∙ hidden))
     by false same = refl
 
@@ -181,8 +181,8 @@ module _ (group : Group) (name : List ℕ) (left : ℕ) (v : ℕ × Lv) (accepte
       (λ k d within. one (get_or group.lvs k d) (All-contains_itself group.lvs k d within) (all k d within))
     where
       one : (row : Row) → Contains group.lvs row → P row.1 → P (new row).1
-      one row within is = by (same_bytes row.0 name) refl where
-        by : (b : Bool) → same_bytes row.0 name ≡ b → P (cond b (row.0, shortened left row.1) row).1
+      one row within is = by (bytes_eq row.0 name) refl where
+        by : (b : Bool) → bytes_eq row.0 name ≡ b → P (cond b (row.0, shortened left row.1) row).1
         by true same = subst (λ (lv : Lv). P (shortened left lv)) (sym (this row within same)) (step (subst P (this row within same) is))
         by false same = is
 
@@ -349,11 +349,11 @@ module _ (group : Group) (name : List ℕ) (left : ℕ) (v : ℕ × Lv) (accepte
     count : now.count ≡ run.count
 
   run_there : (run : LegRun) (m : ℕ) → Contains (runs_of group) run → run.on ≡ on.Lv m → IsThere run
-  run_there run m within on_is = by (same_bytes is.volume.0 name) refl where
+  run_there run m within on_is = by (bytes_eq is.volume.0 name) refl where
     is : IsRunOf group.lvs 0 run
     is = run_is group run within
 
-    by : (b : Bool) → same_bytes is.volume.0 name ≡ b → IsThere run
+    by : (b : Bool) → bytes_eq is.volume.0 name ≡ b → IsThere run
     by true same =
         let apart : is_layered is.volume.1 ≡ false =
         ap is_layered (this is.volume (contains_at group.lvs is.nth is.volume is.is_volume) same) ∙ may.apart in

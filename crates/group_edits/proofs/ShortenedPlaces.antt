@@ -8,6 +8,7 @@ use Rattle.std.proofs.lemmas.Bool.{and_from, cases_lt, false≢true, le-leb, lt-
 use Rattle.std.proofs.lemmas.List.Sums.{sum_by-cons}
 use Rattle.std.proofs.lemmas.Nat.{mul-le}
 use Rattle.std.proofs.lemmas.Option.{same_Some, slice_get-map}
+use Rattle.std.specs.Str.{bytes_eq}
 use Rattle.sector_base.specs.declared.places.At.{At}
 use Rattle.meta_model.specs.Runs.{legs_of}
 use Rattle.meta_model.specs.declared.group.Group.{Group}
@@ -18,7 +19,6 @@ use Rattle.meta_model.specs.declared.segment.SegKind.{SegKind}
 use Rattle.meta_model.specs.declared.segment.SegKind.TheVariants.{Mirror, Striped}
 use Rattle.meta_model.specs.declared.segment.Segment.{Segment}
 use Rattle.meta_print.proofs.Printable.{IsPrintable}
-use Rattle.scan_rules.specs.Decision.{same_bytes}
 use Rattle.volume_rules.specs.Extents.{extents_of}
 use Rattle.volume_rules.specs.Rules.{Follow, IsAccepted, MovedIsAllowed}
 use Rattle.volume_rules.specs.declared.rule.Rule.TheVariants.{Depth, Follows, Moved, Pvmove}
@@ -143,7 +143,7 @@ module _ (group : Group) (name : List ℕ) (left : ℕ) (v : ℕ × Lv) (accepte
   abbrev new : Row → Row
   new row = changed_if name (λ (r : Row). (r.0, shortened left r.1)) row
 
-  row_there : (n : ℕ) (row : Row) (b : Bool) → slice_get group.lvs n ≡ Some row → same_bytes row.0 name ≡ b
+  row_there : (n : ℕ) (row : Row) (b : Bool) → slice_get group.lvs n ≡ Some row → bytes_eq row.0 name ≡ b
       → slice_get other.lvs n ≡ Some (cond b (row.0, shortened left row.1) row)
   row_there n row b there is =
       slice_get-map new group.lvs n ∙ ap (option_map new) there
@@ -151,13 +151,13 @@ module _ (group : Group) (name : List ℕ) (left : ℕ) (v : ℕ × Lv) (accepte
 
   -- the volume has another name
   abbrev pub HasOther : ℕ → Type 0
-  HasOther n = (row : Row) → slice_get group.lvs n ≡ Some row → same_bytes row.0 name ≡ false
+  HasOther n = (row : Row) → slice_get group.lvs n ≡ Some row → bytes_eq row.0 name ≡ false
 
   module _ (seen : v.1.status.visible ≡ true) where
     -- so has each hidden one
-    hidden_other : (row : Row) → Contains group.lvs row → row.1.status.visible ≡ false → same_bytes row.0 name ≡ false
-    hidden_other row within hidden = by (same_bytes row.0 name) refl where
-      by : (b : Bool) → same_bytes row.0 name ≡ b → b ≡ false
+    hidden_other : (row : Row) → Contains group.lvs row → row.1.status.visible ≡ false → bytes_eq row.0 name ≡ false
+    hidden_other row within hidden = by (bytes_eq row.0 name) refl where
+      by : (b : Bool) → bytes_eq row.0 name ≡ b → b ≡ false
       by true same =
           absurd (true≢false (sym (ap (λ (lv : Lv). lv.status.visible) (is_this group name v can found row within same) ∙ seen) ∙ hidden))
       by false same = refl
@@ -169,7 +169,7 @@ module _ (group : Group) (name : List ℕ) (left : ℕ) (v : ℕ × Lv) (accepte
         subst (OnStays Any HasOther) (sym is_on)
         (λ row there.
         let same : volume ≡ row = same_Some volume row (sym is ∙ there) in
-        subst (λ (r : Row). same_bytes r.0 name ≡ false) same
+        subst (λ (r : Row). bytes_eq r.0 name ≡ false) same
         (hidden_other volume (contains_at group.lvs number volume is) ((accepted Depth).hidden n number volume.1 lies (volume.0, is))))
 
     step_other : (n sector : ℕ) (m : Met) (spot : Spot) → Meets group n sector m → primary_spot group.extent_size m ≡ Some spot
@@ -215,7 +215,7 @@ module _ (group : Group) (name : List ℕ) (left : ℕ) (v : ℕ × Lv) (accepte
       by true has = absurd (true≢false (sym visible ∙ ((accepted Pvmove).whole n row.0 row.1 there has).hidden))
       by false has = refl
 
-    module _ (n : ℕ) (row : Row) (there : slice_get group.lvs n ≡ Some row) (same : same_bytes row.0 name ≡ true) where
+    module _ (n : ℕ) (row : Row) (there : slice_get group.lvs n ≡ Some row) (same : bytes_eq row.0 name ≡ true) where
       abbrev met_cut : Met → ℕ → Met
       met_cut m count = record { lv = n; number = m.number; segment = cut m.segment count; at = m.at }
 

@@ -7,11 +7,11 @@ use Rattle.std.specs.Cmp.Lexicographic.{pointwise}
 use Rattle.std.proofs.lemmas.Bool.{or_right, true≢false}
 use Rattle.std.proofs.lemmas.List.Sums.{sum_by-append, sum_by-cons}
 use Rattle.std.proofs.lemmas.Option.{same_Some}
+use Rattle.std.specs.Str.{bytes_eq}
 use Rattle.lvm_name.specs.Names.{is_among}
 use Rattle.meta_model.specs.declared.lv.Lv.{Lv}
 use Rattle.meta_print.proofs.Printable.{AreNames}
 use Rattle.scan_rules.proofs.Scanning.{same_bytes_tells}
-use Rattle.scan_rules.specs.Decision.{same_bytes}
 use Rattle.group_edits.proofs.OneNamed.{among_first, both_true}
 use Rattle.group_edits.specs.NextVersion.{changed_if}
 use Rattle.group_edits.specs.Visible.{visible_from}
@@ -62,7 +62,7 @@ module _ {X : Type 0} where
 module _ (name : List ℕ) where
   -- the row has another name
   abbrev pub IsOther : Row → Type 0
-  IsOther row = same_bytes row.0 name ≡ false
+  IsOther row = bytes_eq row.0 name ≡ false
 
   -- the rows are that of the volume, which is visible, and rows of other names
   pub record IsSplit (rows : List Row) (v : Lv) : Type 0 where
@@ -71,7 +71,7 @@ module _ (name : List ℕ) where
     pub after : List Row
     pub rows_is : rows ≡ before ++ row ∷ after
     pub is_volume : row.1 ≡ v
-    pub named : same_bytes row.0 name ≡ true
+    pub named : bytes_eq row.0 name ≡ true
     pub seen : row.1.status.visible ≡ true
     pub earlier : Each IsOther before
     pub later : Each IsOther after
@@ -81,11 +81,11 @@ module _ (name : List ℕ) where
       → Each IsOther rows
   all_other [] taken are among = tt
   all_other (row ∷ rows) taken are among = (
-    by (same_bytes row.0 name) refl,
+    by (bytes_eq row.0 name) refl,
     all_other rows (row.0 ∷ taken) are.2
         (or_right (pointwise nat_eq name row.0) (is_among taken name) among),
   ) where
-    by : (b : Bool) → same_bytes row.0 name ≡ b → b ≡ false
+    by : (b : Bool) → bytes_eq row.0 name ≡ b → b ≡ false
     by true is = absurd (true≢false (sym among ∙ ap (is_among taken) (sym (same_bytes_tells row.0 name is)) ∙ are.1))
     by false is = refl
 
@@ -93,8 +93,8 @@ module _ (name : List ℕ) where
       → AreNames taken (map (λ (row : Row). row.0) rows) → IsSplit rows v.1
   split number [] taken v found are = absurd cc
   split number (row ∷ rows) taken v found are =
-      by (row.1.status.visible && same_bytes row.0 name) refl found (λ made. split (number + 1) rows (row.0 ∷ taken) v made are.2) where
-        other : IsSplit rows v.1 → (b : Bool) → same_bytes row.0 name ≡ b → b ≡ false
+      by (row.1.status.visible && bytes_eq row.0 name) refl found (λ made. split (number + 1) rows (row.0 ∷ taken) v made are.2) where
+        other : IsSplit rows v.1 → (b : Bool) → bytes_eq row.0 name ≡ b → b ≡ false
         other rest true is =
             let all : Each IsOther rows =
             all_other rows (row.0 ∷ taken) are.2 (among_first name row.0 taken (same_bytes_tells row.0 name is)) in
@@ -102,11 +102,11 @@ module _ (name : List ℕ) where
             (subst (Each IsOther) rest.rows_is all)))
         other rest false is = refl
 
-        by : (b : Bool) → (row.1.status.visible && same_bytes row.0 name) ≡ b
+        by : (b : Bool) → (row.1.status.visible && bytes_eq row.0 name) ≡ b
             → cond b (Some (number, row.1)) (visible_from (number + 1) name rows) ≡ Some v
             → (visible_from (number + 1) name rows ≡ Some v → IsSplit rows v.1) → IsSplit (row ∷ rows) v.1
         by true is made later =
-            let both = both_true row.1.status.visible (same_bytes row.0 name) is in
+            let both = both_true row.1.status.visible (bytes_eq row.0 name) is in
             record {
               before = [];
               row = row;
@@ -128,7 +128,7 @@ module _ (name : List ℕ) where
               is_volume = rest.is_volume;
               named = rest.named;
               seen = rest.seen;
-              earlier = (other rest (same_bytes row.0 name) refl, rest.earlier);
+              earlier = (other rest (bytes_eq row.0 name) refl, rest.earlier);
               later = rest.later;
             }
 
@@ -141,7 +141,7 @@ module _ (name : List ℕ) where
         ap (λ (b : Bool). cond b (change row) row ∷ map (changed_if name change) rows) all.0
         ∙ ap (λ (rs : List Row). row ∷ rs) (others_stay rows all.1)
 
-    pub change_between : (before after : List Row) (row : Row) → Each IsOther before → Each IsOther after → same_bytes row.0 name ≡ true
+    pub change_between : (before after : List Row) (row : Row) → Each IsOther before → Each IsOther after → bytes_eq row.0 name ≡ true
         → map (changed_if name change) (before ++ row ∷ after) ≡ before ++ change row ∷ after
     change_between [] after row earlier later named =
         ap (λ (b : Bool). cond b (change row) row ∷ map (changed_if name change) after) named

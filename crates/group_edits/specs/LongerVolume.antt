@@ -1,5 +1,6 @@
 -- A group in which a logical volume has more extents (lvextend(8)).
 use Rattle.std.specs.Prelude.{◌≡◌, ◌≤◌, ◌<◌, ℕ, ◌+◌, ◌*◌, ◌^◌, true, List, [], ◌∷◌, ◌++◌, length}
+use Rattle.std.specs.Str.{bytes_eq}
 use Rattle.meta_model.specs.Runs.{legs_of}
 use Rattle.meta_model.specs.declared.group.Group.{Group}
 use Rattle.meta_model.specs.declared.lv.Lv.{Lv}
@@ -7,7 +8,6 @@ use Rattle.meta_model.specs.declared.segment.SegKind.{SegKind}
 use Rattle.meta_model.specs.declared.segment.SegKind.TheVariants.{Striped}
 use Rattle.meta_model.specs.declared.segment.Segment.{Segment}
 use Rattle.extent_alloc.specs.declared.part.Part.{Part}
-use Rattle.scan_rules.specs.Decision.{same_bytes}
 use Rattle.volume_rules.specs.Extents.{extents_of}
 use Rattle.volume_rules.specs.Rules.{Follow, LvIsSmall}
 use Rattle.group_edits.specs.GivenSegments.{MayBeLaid, segments_in, segments_of}
@@ -47,4 +47,4 @@ pub record CanBeLonger (given : List Part) (lv : Lv) : Type 0 where
 
 -- so is the volume of this row, where it has this name
 abbrev pub CanBeLongerIf : List ℕ → List Part → List ℕ × Lv → Type 0
-CanBeLongerIf name given row = same_bytes row.0 name ≡ true → CanBeLonger given row.1
+CanBeLongerIf name given row = bytes_eq row.0 name ≡ true → CanBeLonger given row.1

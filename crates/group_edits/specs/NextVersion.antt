@@ -1,8 +1,8 @@
 -- The next version of a group with the same physical volumes.
 use Rattle.std.specs.Prelude.{ℕ, ◌+◌, if◌then◌else◌, List, map}
+use Rattle.std.specs.Str.{bytes_eq}
 use Rattle.meta_model.specs.declared.group.Group.{Group}
 use Rattle.meta_model.specs.declared.lv.Lv.{Lv}
-use Rattle.scan_rules.specs.Decision.{same_bytes}
 
 -- the next version of a group
 abbrev pub next_version : Group → Group
@@ -14,7 +14,7 @@ with_lvs group lvs = record (next_version group) { lvs = lvs }
 
 -- the row is changed so, where the volume has this name
 abbrev pub changed_if : List ℕ → (List ℕ × Lv → List ℕ × Lv) → List ℕ × Lv → List ℕ × Lv
-changed_if name change row = if same_bytes row.0 name then change row else row
+changed_if name change row = if bytes_eq row.0 name then change row else row
 
 -- the next version, where the volume of this name is changed so
 abbrev pub with_changed : List ℕ → (List ℕ × Lv → List ℕ × Lv) → Group → Group

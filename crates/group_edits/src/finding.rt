@@ -1,7 +1,7 @@
 //! The logical volumes that users see.
 ghost use Rattle.std.specs.Prelude.{◌≡◌, ◌≤◌, ℕ, length, option_map, IfSome};
+ghost use Rattle.std.specs.Str.{bytes_eq};
 ghost use Rattle.meta_model.specs.declared.lv.Lv.{Lv};
-ghost use Rattle.scan_rules.specs.Decision.{same_bytes};
 ghost use Rattle.group_edits.specs.Visible.{IsVisible, visible_named};
 
 use lvm_name::VolumeName;
@@ -26,7 +26,7 @@ pub fn find_visible(group: &Group, name: &Text) -> Option<u32>
 
 // Whether the volume's name is this one.
 pub(crate) fn is_volume(own: &VolumeName, name: &Text) -> bool
-    ensures { result ≡ same_bytes own.now name.now }
+    ensures { result ≡ bytes_eq own.now name.now }
 {
     own.as_bytes() == name.as_bytes()
 }

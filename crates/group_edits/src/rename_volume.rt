@@ -1,9 +1,9 @@
 //! A group in which a logical volume has another name.
 ghost use Rattle.std.specs.Prelude.{◌≡◌, ◌≢◌, ℕ, None, List, IfOk, false, true, if◌then◌else◌, is_some, map};
+ghost use Rattle.std.specs.Str.{bytes_eq};
 ghost use Rattle.lvm_name.specs.Names.{is_among, volume_name_refusal};
 ghost use Rattle.meta_model.specs.Tables.{names_of};
 ghost use Rattle.meta_model.specs.declared.lv.Lv.{Lv as Row};
-ghost use Rattle.scan_rules.specs.Decision.{same_bytes};
 ghost use Rattle.group_edits.specs.NextVersion.{changed_if};
 ghost use Rattle.group_edits.specs.RenamedVolume as specs;
 ghost use Rattle.group_edits.specs.Visible.{visible_named};
@@ -68,7 +68,7 @@ fn renamed_name(
     old: &Text,
     new: &VolumeName,
 ) -> Result<VolumeName, AllocError>
-    ensures { IfOk result (λ name. name ≡ (if same_bytes own.now old.now then new.now else own.now)) }
+    ensures { IfOk result (λ name. name ≡ (if bytes_eq own.now old.now then new.now else own.now)) }
 {
     if is_volume(own, old) {
         new.try_copy(alloc)

@@ -1,9 +1,9 @@
 //! A group in which a logical volume has its first extents alone.
 ghost use Rattle.std.specs.Prelude.{◌≡◌, ◌≢◌, ◌≤◌, ◌<◌, ◌^◌, ◌+◌, ℕ, List, IfOk, IsSomeAnd, All, if◌then◌else◌, map};
+ghost use Rattle.std.specs.Str.{bytes_eq};
 ghost use Rattle.meta_model.specs.declared.lv.Lv.{Lv as Volume};
 ghost use Rattle.meta_model.specs.declared.segment.Segment.{Segment as Part};
 ghost use Rattle.volume_rules.specs.Extents.{extents_of};
-ghost use Rattle.scan_rules.specs.Decision.{same_bytes};
 ghost use Rattle.group_edits.specs.NextVersion.{changed_if};
 ghost use Rattle.group_edits.specs.ShortenedVolume as specs;
 ghost use Rattle.group_edits.specs.Visible.{visible_named};
@@ -144,7 +144,7 @@ fn copy_of(
     name: &Text,
     left: u64,
 ) -> Result<Lv, AllocError>
-    ensures { IfOk result (λ copy. copy ≡ (if same_bytes own.now name.now then specs.shortened left lv.now else lv.now)) }
+    ensures { IfOk result (λ copy. copy ≡ (if bytes_eq own.now name.now then specs.shortened left lv.now else lv.now)) }
 {
     if is_volume(own, name) {
         shortened(alloc, lv, left)

@@ -4,8 +4,9 @@ use Rattle.std.proofs.Common.{◌∙◌, add-one, arith}
 use Rattle.std.specs.Prelude.{find, option_map, slice_get, unwrap_or}
 use Rattle.std.proofs.lemmas.Bool.{true≢false}
 use Rattle.std.proofs.lemmas.Option.{same_Some}
+use Rattle.std.specs.Str.{bytes_eq}
 use Rattle.pv_header.specs.declared.header.PvHeader.{PvHeader}
-use Rattle.scan_rules.specs.Decision.{Found as PvOf, first_duplicate, ids_from, same_bytes}
+use Rattle.scan_rules.specs.Decision.{Found as PvOf, first_duplicate, ids_from}
 use Rattle.scan_rules.proofs.Scanning.{same_bytes_tells, same_bytes_to}
 use Rattle.vg_found.specs.declared.disk.Disk.{Disk}
 use Rattle.vg_found.specs.Disks.{disk_with, has_header_id, header_on, pv_shape, shapes}
@@ -62,9 +63,9 @@ duplicate_by number None rest none = (refl, none)
 duplicate_by number (Some other) rest none = absurd cc
 
 split_duplicate : (one : ℕ × List ℕ) (more : List (ℕ × List ℕ)) → first_duplicate (one ∷ more) ≡ None
-    → (find (λ (other : ℕ × List ℕ). same_bytes one.1 other.1) more ≡ None) × (first_duplicate more ≡ None)
+    → (find (λ (other : ℕ × List ℕ). bytes_eq one.1 other.1) more ≡ None) × (first_duplicate more ≡ None)
 split_duplicate one more none =
-    duplicate_by one.0 (find (λ (other : ℕ × List ℕ). same_bytes one.1 other.1) more) (first_duplicate more) none
+    duplicate_by one.0 (find (λ (other : ℕ × List ℕ). bytes_eq one.1 other.1) more) (first_duplicate more) none
 
 apart_later : (base : ℕ) (o : Option PvHeader) (disks : List Disk) → first_duplicate (ids_with base o disks) ≡ None
     → first_duplicate (ids_from (base + 1) (shapes disks)) ≡ None
@@ -73,10 +74,10 @@ apart_later base (Some header) disks none = (split_duplicate (base, header.id) (
 
 apart_first : (base : ℕ) (o : Option PvHeader) (disks : List Disk) (header : PvHeader) → o ≡ Some header
     → first_duplicate (ids_with base o disks) ≡ None
-    → find (λ (other : ℕ × List ℕ). same_bytes header.id other.1) (ids_from (base + 1) (shapes disks)) ≡ None
+    → find (λ (other : ℕ × List ℕ). bytes_eq header.id other.1) (ids_from (base + 1) (shapes disks)) ≡ None
 apart_first base None disks header is none = absurd cc
 apart_first base (Some first) disks header is none =
-    subst (λ (h : PvHeader). find (λ (other : ℕ × List ℕ). same_bytes h.id other.1) (ids_from (base + 1) (shapes disks)) ≡ None)
+    subst (λ (h : PvHeader). find (λ (other : ℕ × List ℕ). bytes_eq h.id other.1) (ids_from (base + 1) (shapes disks)) ≡ None)
     (same_Some first header is) (split_duplicate (base, first.id) (ids_from (base + 1) (shapes disks)) none).0
 
 -- two disks have two ids
@@ -90,7 +91,7 @@ ids_apart base (disk ∷ disks) none zero (suc j) a b first second before at_i a
     let absent =
     apart_first base (header_on disk.contents) disks first (ap (λ (d : Disk). header_on d.contents) (same_Some disk a at_i) ∙ is_a)
     none in
-    true≢false (sym (same_bytes_to first.id second.id same) ∙ none_has (same_bytes first.id) (base + 1) disks absent j b second at_j is_b)
+    true≢false (sym (same_bytes_to first.id second.id same) ∙ none_has (bytes_eq first.id) (base + 1) disks absent j b second at_j is_b)
 ids_apart base (disk ∷ disks) none (suc i) zero a b first second before at_i at_j is_a is_b same = omega arith
 ids_apart base (disk ∷ disks) none (suc i) (suc j) a b first second before at_i at_j is_a is_b same =
     ids_apart (base + 1) disks (apart_later base (header_on disk.contents) disks none) i j a b first second (omega arith) at_i at_j is_a
@@ -99,16 +100,16 @@ ids_apart base (disk ∷ disks) none (suc i) (suc j) a b first second before at_
 -- ---- the disk with an id
 
 pub has_own : (id : List ℕ) (o : Option PvHeader) (header : PvHeader) → o ≡ Some header → header.id ≡ id
-    → unwrap_or (option_map (λ (h : PvHeader). same_bytes h.id id) o) false ≡ true
+    → unwrap_or (option_map (λ (h : PvHeader). bytes_eq h.id id) o) false ≡ true
 has_own id None header is same = absurd cc
 has_own id (Some first) header is same = same_bytes_to first.id id (ap (λ (h : PvHeader). h.id) (same_Some first header is) ∙ same)
 
 has_no_other : (id : List ℕ) (o : Option PvHeader) → ((header : PvHeader) → o ≡ Some header → header.id ≡ id → ⊥)
-    → unwrap_or (option_map (λ (h : PvHeader). same_bytes h.id id) o) false ≡ false
+    → unwrap_or (option_map (λ (h : PvHeader). bytes_eq h.id id) o) false ≡ false
 has_no_other id None other = refl
-has_no_other id (Some header) other = step (same_bytes header.id id) refl
+has_no_other id (Some header) other = step (bytes_eq header.id id) refl
   where
-    step : (b : Bool) → same_bytes header.id id ≡ b → same_bytes header.id id ≡ false
+    step : (b : Bool) → bytes_eq header.id id ≡ b → bytes_eq header.id id ≡ false
     step true is = absurd (other header refl (same_bytes_tells header.id id is))
     step false is = is
 

@@ -1,20 +1,18 @@
 -- What is found by an id is what a walk finds.
-use Rattle.std.proofs.Common.{◌≡◌, ℕ, Bool, true, false, cond, List, [], ◌∷◌, Some, subst, ◌∙◌}
+use Rattle.std.proofs.Common.{◌≡◌, ℕ, Bool, true, false, cond, List, [], ◌∷◌, Some, subst}
 use Rattle.std.specs.FinMap as map
 use Rattle.std.specs.Prelude.{All, find, option_map}
-use Rattle.std.specs.List.{AllByRecursion, list_any}
+use Rattle.std.specs.List.{AllByRecursion}
 use Rattle.std.proofs.lemmas.List.Elements.{recursion_from_All}
 use Rattle.std.proofs.lemmas.Option.{same_Some}
 use Rattle.meta_model.specs.declared.group.Group.{Group}
-use Rattle.meta_model.specs.declared.lv.Lv.{Lv}
 use Rattle.meta_model.specs.declared.pv.Pv.{Pv}
 use Rattle.id_index.specs.Ids.{has_id, lvs_by_id, pv_with}
 use Rattle.id_index.proofs.Found.{lists_lv}
-use Rattle.scan_rules.proofs.SameLists.{pointwise-same_bytes}
 use Rattle.group_plan.specs.Ids.{has_lv_id}
 
 pub found_lv : (group : Group) (id : List ℕ) → map.contains_key (lvs_by_id 0 group.lvs) id ≡ has_lv_id group id
-found_lv group id = lists_lv id 0 group.lvs ∙ (λ i. list_any (λ (lv : List ℕ × Lv). pointwise-same_bytes lv.1.id id i) group.lvs)
+found_lv group id = lists_lv id 0 group.lvs
 
 -- what holds of each physical volume holds of the one that is found
 module _ (P : Pv → Type 0) (id : List ℕ) (pv : Pv) where

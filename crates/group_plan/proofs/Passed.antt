@@ -9,9 +9,9 @@ use Rattle.std.specs.Cmp.{nat_cmp_total, unsigned_tied}
 use Rattle.std.specs.Ordering.{nat_cmp}
 use Rattle.std.proofs.lemmas.Bool.{eq-eqb, eqb-true, ltb-false, true≢false}
 use Rattle.std.proofs.lemmas.List.Elements.{recursion_from_All}
+use Rattle.std.specs.Str.{bytes_eq}
 use Rattle.line_answers.specs.declared.op_refusal.OpRefusal.{OpRefusal}
 use Rattle.pv_header.proofs.Overlaps.{All-from_find}
-use Rattle.scan_rules.specs.Decision.{same_bytes}
 use Rattle.scan_rules.proofs.Scanning.{same_bytes_to}
 use Rattle.group_plan.specs.Added.{data_end, data_start}
 use Rattle.group_plan.specs.Judging.{first_used, is_small, many_row, small_row, used_row, set_of, with_all}
@@ -128,11 +128,11 @@ unfolding used_row
 all_unused listed all none = unused (set_of listed) all (no_map _ (first_used (set_of listed) all) none)
 
 -- what isn't said to be the same isn't
-pub not_same : (a b : List ℕ) → same_bytes a b ≡ false → a ≢ b
+pub not_same : (a b : List ℕ) → bytes_eq a b ≡ false → a ≢ b
 not_same a b other same = true≢false (sym (same_bytes_to a b same) ∙ other)
 
 pub ids_differ : {V : Type 0} (its : V → List ℕ) (id : List ℕ) (rows : List (List ℕ × V))
-    → Each (λ (row : List ℕ × V). same_bytes (its row.1) id ≡ false) rows
+    → Each (λ (row : List ℕ × V). bytes_eq (its row.1) id ≡ false) rows
     → Each (λ other. other ≢ id) (map (λ (row : List ℕ × V). its row.1) rows)
 ids_differ its id [] none = tt
 ids_differ its id (row ∷ rows) none = (not_same (its row.1) id none.0, ids_differ its id rows none.1)

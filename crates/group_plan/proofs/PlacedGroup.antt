@@ -7,12 +7,13 @@ use Rattle.std.proofs.lemmas.Bool.{cases_lt, false≢true}
 use Rattle.std.proofs.lemmas.Bool.Decides.{nat_tests}
 use Rattle.std.proofs.lemmas.List.Elements.{All-contains, All-contains_itself, All-from_recursion, recursion_from_All}
 use Rattle.std.proofs.lemmas.List.{length-map}
+use Rattle.std.specs.Str.{bytes_eq}
 use Rattle.pv_header.specs.declared.header.PvHeader.{PvHeader}
 use Rattle.meta_model.specs.declared.group.Group.{Group}
 use Rattle.meta_model.specs.declared.pv.Pv.{Pv}
 use Rattle.volume_rules.specs.Rules.{IsAccepted}
 use Rattle.volume_rules.specs.declared.rule.Rule.TheVariants.{Volumes}
-use Rattle.scan_rules.specs.Decision.{Reading, first_misplaced, is_misplaced, meets_area, same_bytes}
+use Rattle.scan_rules.specs.Decision.{Reading, first_misplaced, is_misplaced, meets_area}
 use Rattle.scan_rules.specs.Found.{is_this_misplaced}
 use Rattle.scan_rules.proofs.Scanning.{same_bytes_tells, same_bytes_to}
 use Rattle.vg_found.specs.declared.disk.Disk.{Disk}
@@ -48,7 +49,7 @@ few_on start count sectors rest placed most =
       | inr none ↦ omega (arith, none)
     ]
 
-own_few : (extent_size : ℕ) (reading : Reading) (pv : Row) (header : PvHeader) → same_bytes pv.1.id header.id ≡ true
+own_few : (extent_size : ℕ) (reading : Reading) (pv : Row) (header : PvHeader) → bytes_eq pv.1.id header.id ≡ true
     → is_this_misplaced extent_size reading (pv_shape header) pv ≡ false → reading.sectors ≤ 2 ^ 40 → pv.1.pe_count * extent_size ≤ 2 ^ 40
 own_few extent_size reading pv header same placed most =
     few_on pv.1.pe_start (pv.1.pe_count * extent_size) reading.sectors
@@ -64,7 +65,7 @@ module _ (group : Group) (pv : Row) (among : Contains group.pvs pv) where
 
   -- where the disk's header has its id
   here : (disk : Disk) (header : Option PvHeader) → header_on disk.contents ≡ header
-      → unwrap_or (option_map (λ (h : PvHeader). same_bytes h.id pv.1.id) header) false ≡ true → IsPlacedOn group (disk_shape disk)
+      → unwrap_or (option_map (λ (h : PvHeader). bytes_eq h.id pv.1.id) header) false ≡ true → IsPlacedOn group (disk_shape disk)
       → disk.sectors ≤ 2 ^ 40 → IsFew
   here disk None there has placed most = absurd (false≢true has)
   here disk (Some header) there has placed most =

@@ -9,6 +9,7 @@ use Rattle.std.proofs.lemmas.Bool.Decides.{nat_tests}
 use Rattle.std.proofs.lemmas.List.Elements.{recursion_from_All}
 use Rattle.std.proofs.lemmas.List.Folds.{list_any-append}
 use Rattle.std.proofs.lemmas.Option.{same_Some}
+use Rattle.std.specs.Str.{bytes_eq}
 use Rattle.pv_header.specs.DataSectors.{data_end_of, data_start_of}
 use Rattle.pv_header.specs.declared.extent_list.Extent.{Extent}
 use Rattle.pv_header.specs.declared.header.PvHeader.{PvHeader}
@@ -16,7 +17,7 @@ use Rattle.meta_model.specs.declared.group.Group.{Group}
 use Rattle.meta_model.specs.declared.lv.Lv.{Lv}
 use Rattle.meta_model.specs.declared.pv.Pv.{Pv}
 use Rattle.scan_rules.proofs.Scanning.{same_bytes_tells}
-use Rattle.scan_rules.specs.Decision.{Found as PvOf, Reading, first_misplaced, has_misplaced, is_misplaced, meets_area, same_bytes}
+use Rattle.scan_rules.specs.Decision.{Found as PvOf, Reading, first_misplaced, has_misplaced, is_misplaced, meets_area}
 use Rattle.scan_rules.specs.Found.{is_this_misplaced}
 use Rattle.vg_found.specs.declared.disk.Disk.{Disk}
 use Rattle.vg_found.specs.Disks.{area_shape, disk_shape, header_on, pv_shape, shapes}
@@ -124,7 +125,7 @@ module _ (state : GroupState) (is : IsState state) (extent_size : ℕ) where
       ]
 
   one_by : (number : ℕ) (disk : Disk) (header : PvHeader) (name : List ℕ) (added : AddedPv) (b : Bool)
-      → same_bytes added.header.id header.id ≡ b → slice_get state.disks number ≡ Some disk → header_on disk.contents ≡ Some header
+      → bytes_eq added.header.id header.id ≡ b → slice_get state.disks number ≡ Some disk → header_on disk.contents ≡ Some header
       → IsFoundOn state added
       → is_this_misplaced extent_size (disk_shape disk) (pv_shape header) (name, pv_of extent_size added) ≡ false
   one_by number disk header name added false other there has found =
@@ -132,11 +133,11 @@ module _ (state : GroupState) (is : IsState state) (extent_size : ℕ) where
       (data_start added + (data_end added - data_start added) / extent_size * extent_size) (disk_shape disk) (pv_shape header)) other
   one_by number disk header name added true same there has found =
       let own = own_disk number disk header added there has found (same_bytes_tells added.header.id header.id same) in
-      ap (λ (b : Bool). same_bytes added.header.id header.id && b)
+      ap (λ (b : Bool). bytes_eq added.header.id header.id && b)
       (subst (λ (h : PvHeader). is_misplaced (data_start added)
       (data_start added + (data_end added - data_start added) / extent_size * extent_size) (disk_shape disk) (pv_shape h) ≡ false) own.0
       (own_placed added (disk_shape disk) found own.1))
-      ∙ and_false (same_bytes added.header.id header.id)
+      ∙ and_false (bytes_eq added.header.id header.id)
 
   each_one : (number : ℕ) (disk : Disk) (header : PvHeader) → slice_get state.disks number ≡ Some disk
       → header_on disk.contents ≡ Some header → (all : List AddedPv) → Each (IsFoundOn state) all
@@ -144,7 +145,7 @@ module _ (state : GroupState) (is : IsState state) (extent_size : ℕ) where
       → is_this_misplaced extent_size (disk_shape disk) (pv_shape header) (name, pv_of extent_size added) ≡ false) all
   each_one number disk header there has [] found = tt
   each_one number disk header there has (added ∷ more) found = (
-    (λ name. one_by number disk header name added (same_bytes added.header.id header.id) refl there has found.0),
+    (λ name. one_by number disk header name added (bytes_eq added.header.id header.id) refl there has found.0),
     each_one number disk header there has more found.1,
   )
 

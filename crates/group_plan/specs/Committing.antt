@@ -2,11 +2,11 @@
 use Rattle.std.specs.Prelude.{ℕ, ◌==◌, not, List, [], ◌∷◌, Option, None, Some}
 use Rattle.std.specs.Option.{option_map_or}
 use Rattle.std.specs.FinSet as set
+use Rattle.std.specs.Str.{bytes_eq}
 use Rattle.sector_base.specs.declared.spans.Span.{Span}
 use Rattle.line_answers.specs.declared.op_refusal.OpRefusal.{OpRefusal}
 use Rattle.line_answers.specs.declared.op_refusal.OpRefusal.TheVariants.{ReadOnly, SeqnoEnd, UnknownGroup}
 use Rattle.meta_model.specs.declared.group.Group.{Group}
-use Rattle.scan_rules.specs.Decision.{same_bytes}
 use Rattle.group_plan.specs.Judging.{area_row, large_row, refused_if, stored_size}
 use Rattle.group_plan.specs.declared.state.Change.{Change}
 use Rattle.group_plan.specs.declared.state.GroupState.{GroupState}
@@ -20,7 +20,7 @@ rows_where_found found vg rows = option_map_or rows found (Some (UnknownGroup vg
 -- the group has another name, or may not be changed
 abbrev pub named_rows : Group → List ℕ → List (Option OpRefusal)
 named_rows group vg =
-    refused_if (not (same_bytes group.name vg)) (UnknownGroup vg)
+    refused_if (not (bytes_eq group.name vg)) (UnknownGroup vg)
     ∷ refused_if (not group.status.write) ReadOnly
     ∷ []
 

@@ -1,8 +1,8 @@
 //! The next version of the group that was found: the rows that commands which make one share, and its change.
 ghost use Rattle.std.specs.Prelude.{◌≡◌, ◌<◌, [], ◌∷◌, Some, not, All};
+ghost use Rattle.std.specs.Str.{bytes_eq};
 ghost use Rattle.line_answers.specs.declared.op_refusal.OpRefusal.TheVariants.{NotResizeable, ReadOnly, UnknownGroup};
 ghost use Rattle.mda_ring.specs.Areas.{CanTake};
-ghost use Rattle.scan_rules.specs.Decision.{same_bytes};
 ghost use Rattle.group_plan.specs.Judging.{IsRefusedBy, Judges, first_refusal, refused_if};
 ghost use Rattle.group_plan.specs.Committing.{length_row, length_row_on, named_rows, seqno_row, version_change, version_change_on, zeroing_change};
 ghost use Rattle.group_plan.specs.Plans.{Plans};
@@ -32,7 +32,7 @@ pub fn unknown_group(alloc: Global, vg: &Text) -> PlanRefusal
 
 /// Whether the group has the name.
 pub fn is_named(group: &Group, vg: &Text) -> bool
-    ensures { result ≡ same_bytes group.now.name vg.now }
+    ensures { result ≡ bytes_eq group.now.name vg.now }
 {
     group.name.as_bytes() == vg.as_bytes()
 }
@@ -43,7 +43,7 @@ pub fn is_named(group: &Group, vg: &Text) -> bool
 ///
 /// Else `UnknownGroup`; `NoMemory` where memory is wanting.
 pub fn judge_name(alloc: Global, group: &Group, vg: &Text) -> Result<(), PlanRefusal>
-    ensures { Judges result (refused_if (not (same_bytes group.now.name vg.now)) (UnknownGroup vg.now)) }
+    ensures { Judges result (refused_if (not (bytes_eq group.now.name vg.now)) (UnknownGroup vg.now)) }
 {
     if is_named(group, vg) {
         return Ok(());

@@ -5,11 +5,12 @@ use Rattle.std.specs.Prelude.{filter, filter_map, option_map, unwrap_or}
 use Rattle.std.specs.List.{AllByRecursion, cons_option, list_any}
 use Rattle.std.proofs.lemmas.Bool.{or_left, or_right, false≢true}
 use Rattle.std.proofs.lemmas.Option.{same_Some}
+use Rattle.std.specs.Str.{bytes_eq}
 use Rattle.meta_model.specs.declared.group.Group.{Group}
 use Rattle.meta_model.specs.declared.pv.Pv.{Pv}
 use Rattle.scan_rules.specs.Decision.{Area, AreaReading, Conflict, Copy, DuplicatePv, Found, FoundGroup, GivesNoLater, HasShape, Held}
 use Rattle.scan_rules.specs.Decision.{HoldsNone, NoCopy, NoGroup, PvShape, Reading, SameAreas, SameHeaders, SamePv, ScanAnswer, TwoGroups}
-use Rattle.scan_rules.specs.Decision.{Unsupported, decide_scan, gives, group_found, has_id, holds, is_held, is_listed, lists, same_bytes}
+use Rattle.scan_rules.specs.Decision.{Unsupported, decide_scan, gives, group_found, has_id, holds, is_held, is_listed, lists}
 use Rattle.scan_rules.specs.Found.{is_missing, missing_of}
 use Rattle.scan_rules.proofs.Scanning.{same_bytes_to, scan_finds}
 use Rattle.image_scans.proofs.AreaReadings.{AreasGive, DisksGive, GivenHas, PvGives, each_given}
@@ -236,12 +237,12 @@ finds_newest group text disks shape all held =
 -- ---- what is missing
 
 id_on : (id : List ℕ) (a b : Option Found) → SamePv a b
-    → unwrap_or (option_map (λ (pv : Found). same_bytes pv.id id) a) false
-    ≡ unwrap_or (option_map (λ (pv : Found). same_bytes pv.id id) b) false
+    → unwrap_or (option_map (λ (pv : Found). bytes_eq pv.id id) a) false
+    ≡ unwrap_or (option_map (λ (pv : Found). bytes_eq pv.id id) b) false
 id_on id None None same = refl
 id_on id None (Some b) same = absurd same
 id_on id (Some a) None same = absurd same
-id_on id (Some a) (Some b) same = ap (λ (own : List ℕ). same_bytes own id) same.0
+id_on id (Some a) (Some b) same = ap (λ (own : List ℕ). bytes_eq own id) same.0
 
 pub same_ids : (id : List ℕ) (as' bs : List Reading) → SameHeaders as' bs → list_any (has_id id) as' ≡ list_any (has_id id) bs
 same_ids id [] [] same = refl

@@ -3,12 +3,13 @@ use Rattle.std.proofs.Common.{◌≡◌, ℕ, Bool, true, false, not, ◌&&◌, 
 use Rattle.std.specs.Prelude.{filter_map, find, option_map, unwrap_or, ◌==◌}
 use Rattle.std.specs.Option.{option_and_then}
 use Rattle.std.specs.List.{enumerate_from, flat_map, list_any}
+use Rattle.std.specs.Str.{bytes_eq}
 use Rattle.meta_model.specs.declared.group.Group.{Group}
 use Rattle.scan_rules.specs.declared.copy_refusal.CopyRefusal.{CopyRefusal}
 use Rattle.scan_rules.specs.Decision.{Conflict, DuplicatePv, FoundGroup, Held, NoCopy, NoGroup, PvShape, Reading, ScanAnswer, TwoGroups}
 use Rattle.scan_rules.specs.Decision.{Unsupported, best, conflict, copies, copies_from, decide_scan, duplicates, first_duplicate}
 use Rattle.scan_rules.specs.Decision.{first_misplaced, found, found_with, greater, ids_from, is_held, is_listed, is_something, misshapen}
-use Rattle.scan_rules.specs.Decision.{misshapen_by, no_copy, readings_in, refusals, refusals_from, same_bytes, sum_agrees, two_groups}
+use Rattle.scan_rules.specs.Decision.{misshapen_by, no_copy, readings_in, refusals, refusals_from, sum_agrees, two_groups}
 use Rattle.scan_rules.specs.Decision.{unsupported}
 use Rattle.scan_rules.specs.Found.{missing_of, stale_of}
 
@@ -54,14 +55,14 @@ unsupported_only (c ∷ cs) rs =
 two_groups_only : (cs : List Held) → OnlyRefuses (two_groups cs)
 two_groups_only [] = tt
 two_groups_only (c ∷ cs) =
-    mapped (λ (d : Held). TwoGroups c.group.id d.group.id) (find (λ (d : Held). not (same_bytes d.group.id c.group.id)) cs) (λ d. tt)
+    mapped (λ (d : Held). TwoGroups c.group.id d.group.id) (find (λ (d : Held). not (bytes_eq d.group.id c.group.id)) cs) (λ d. tt)
 
 conflict_only : (cs : List Held) → OnlyRefuses (conflict cs)
 conflict_only cs =
     chained (λ (b : Held). option_map (λ (d : Held). Conflict b.disk d.disk b.group.seqno)
-    (find (λ (d : Held). d.group.seqno == b.group.seqno && not (same_bytes d.text b.text)) cs)) (best cs) (λ b.
+    (find (λ (d : Held). d.group.seqno == b.group.seqno && not (bytes_eq d.text b.text)) cs)) (best cs) (λ b.
     mapped (λ (d : Held). Conflict b.disk d.disk b.group.seqno)
-    (find (λ (d : Held). d.group.seqno == b.group.seqno && not (same_bytes d.text b.text)) cs) (λ d. tt))
+    (find (λ (d : Held). d.group.seqno == b.group.seqno && not (bytes_eq d.text b.text)) cs) (λ d. tt))
 
 shape_only : (misplaced : Option ℕ) (held : Bool) (disk : ℕ)
     → OnlyRefuses (unwrap_or (option_map (λ (d : ℕ). Some (PvShape d)) misplaced) (cond held None (Some (PvShape disk))))

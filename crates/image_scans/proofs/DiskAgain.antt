@@ -7,6 +7,7 @@ use Rattle.std.specs.List.{AllByRecursion as Each}
 use Rattle.std.specs.Ordering.{nat_cmp}
 use Rattle.std.proofs.lemmas.List.Elements.{All-from_recursion, recursion_from_All}
 use Rattle.std.proofs.lemmas.Option.{same_Some}
+use Rattle.std.specs.Str.{bytes_eq}
 use Rattle.disk_model.specs.Steps.{Image}
 use Rattle.meta_model.specs.declared.group.Group.{Group}
 use Rattle.pv_header.specs.declared.extent_list.Extent.{Extent}
@@ -19,7 +20,7 @@ use Rattle.disk_contents.specs.declared.contents.AreaFound.{AreaFound}
 use Rattle.disk_contents.specs.declared.contents.PvFound.{PvFound}
 use Rattle.disk_contents.specs.declared.contents.PvFound.TheVariants.{Whole}
 use Rattle.disk_contents.specs.Contents.{AreAreasFound, IsAreaFound, IsFound}
-use Rattle.scan_rules.specs.Decision.{Area as AreaOf, AreaReading, Copy, Found as PvOf, Reading, same_bytes}
+use Rattle.scan_rules.specs.Decision.{Area as AreaOf, AreaReading, Copy, Found as PvOf, Reading}
 use Rattle.vg_found.specs.declared.disk.Disk.{Disk}
 use Rattle.vg_found.specs.Disks.{areas_on, disk_with, has_header_id}
 use Rattle.vg_scan.specs.Readings.{AreAreaReadings, AreDiskReadings, IsContents, IsDiskReading, IsPvReading}
@@ -173,7 +174,7 @@ module _ (text : List ℕ) (group : Group) (passed : List (List ℕ)) (copy : Is
           is = record { contents = at.2 list.found are; sectors_is = refl; pv_is = (refl, list.reads) };
           same_sectors = refl;
           again = (id_is ∙ sym at.1.id, list.again);
-          ids = λ id. ap (λ (h : List ℕ). same_bytes h id) at.1.id;
+          ids = λ id. ap (λ (h : List ℕ). bytes_eq h id) at.1.id;
           areas_is = list.same;
         }
 

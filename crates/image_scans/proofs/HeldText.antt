@@ -6,6 +6,7 @@ use Rattle.std.specs.List.{cons_option, list_any}
 use Rattle.std.proofs.lemmas.Bool.{or_left, or_right}
 use Rattle.std.proofs.lemmas.Option.{same_Some}
 use Rattle.std.proofs.lemmas.List.Elements.{All-head, All-tail}
+use Rattle.std.specs.Str.{bytes_eq}
 use Rattle.disk_model.specs.Steps.{Image}
 use Rattle.pv_header.specs.declared.header.PvHeader.{PvHeader}
 use Rattle.mda_header.specs.declared.entry.HeaderEntry.{HeaderEntry}
@@ -18,7 +19,7 @@ use Rattle.mda_ring.specs.Texts.{without_zero}
 use Rattle.mda_ring.proofs.TextBytes.{without_zero-zero}
 use Rattle.meta_model.specs.declared.group.Group.{Group}
 use Rattle.scan_rules.specs.Decision.{Area as AreaOf, AreaReading, Copy, Found as PvOf, HoldsNone, Reading, Refused, gives, holds, is_held}
-use Rattle.scan_rules.specs.Decision.{is_listed, lists, same_bytes}
+use Rattle.scan_rules.specs.Decision.{is_listed, lists}
 use Rattle.scan_rules.proofs.Scanning.{same_bytes_tells, same_bytes_to}
 use Rattle.disk_contents.specs.declared.contents.AreaFound.{AreaFound}
 use Rattle.disk_contents.specs.declared.contents.PvFound.{PvFound}
@@ -173,7 +174,7 @@ read_at P (first ∷ areas) all zero area there = subst (λ (a : AreaOf). GivenH
 read_at P (first ∷ areas) all (suc n) area there = read_at P areas all.1 n area there
 
 own_header : (id : List ℕ) (o : Option PvHeader) (header : PvHeader) → o ≡ Some header
-    → unwrap_or (option_map (λ (h : PvHeader). same_bytes h.id id) o) false ≡ true → header.id ≡ id
+    → unwrap_or (option_map (λ (h : PvHeader). bytes_eq h.id id) o) false ≡ true → header.id ≡ id
 own_header id None header is has = absurd cc
 own_header id (Some own) header is has = ap (λ (h : PvHeader). h.id) (sym (same_Some own header is)) ∙ same_bytes_tells own.id id has
 

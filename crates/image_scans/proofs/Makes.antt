@@ -7,12 +7,13 @@ use Rattle.std.specs.Option.{option_and_then}
 use Rattle.std.proofs.lemmas.Bool.{false≢true, true≢false, or_cases, or_left, or_right}
 use Rattle.std.proofs.lemmas.List.Elements.{All-append, All-from_recursion, All-map, recursion_from_All}
 use Rattle.std.proofs.lemmas.Option.{same_Some}
+use Rattle.std.specs.Str.{bytes_eq}
 use Rattle.command_table.specs.Options.{number_named}
 use Rattle.pv_header.specs.declared.header.PvHeader.{PvHeader}
 use Rattle.meta_model.specs.declared.group.Group.{Group}
 use Rattle.meta_model.specs.declared.lv.Lv.{Lv}
 use Rattle.meta_model.specs.declared.pv.Pv.{Pv}
-use Rattle.scan_rules.specs.Decision.{Found as PvOf, has_id, same_bytes}
+use Rattle.scan_rules.specs.Decision.{Found as PvOf, has_id}
 use Rattle.scan_rules.specs.Found.{is_missing}
 use Rattle.scan_rules.proofs.Scanning.{same_bytes_tells, same_bytes_to}
 use Rattle.disk_contents.specs.declared.contents.PvFound.{PvFound}
@@ -94,8 +95,8 @@ map_last f (y ∷ xs) x = ap (λ l. f y ∷ l) (map_last f xs x)
 -- ---- disks with ids
 
 pub has_same : (id : List ℕ) (o : Option PvHeader)
-    → unwrap_or (option_map (λ (pv : PvOf). same_bytes pv.id id) (option_map pv_shape o)) false
-    ≡ unwrap_or (option_map (λ (h : PvHeader). same_bytes h.id id) o) false
+    → unwrap_or (option_map (λ (pv : PvOf). bytes_eq pv.id id) (option_map pv_shape o)) false
+    ≡ unwrap_or (option_map (λ (h : PvHeader). bytes_eq h.id id) o) false
 has_same id None = refl
 has_same id (Some header) = refl
 
@@ -107,7 +108,7 @@ pub record HasDisk (disks : List Disk) (id : List ℕ) : Type 0 where
   pub is : header_on disk.contents ≡ Some header
   pub same : header.id ≡ id
 
-own_header : (id : List ℕ) (o : Option PvHeader) → unwrap_or (option_map (λ (h : PvHeader). same_bytes h.id id) o) false ≡ true
+own_header : (id : List ℕ) (o : Option PvHeader) → unwrap_or (option_map (λ (h : PvHeader). bytes_eq h.id id) o) false ≡ true
     → (header : PvHeader) × (o ≡ Some header) × (header.id ≡ id)
 own_header id None is = absurd (false≢true is)
 own_header id (Some header) is = (header, refl, same_bytes_tells header.id id is)
@@ -151,7 +152,7 @@ shape_at [] k disk header there is = absurd cc
 shape_at (first ∷ disks) zero disk header there is =
     or_left (has_id header.id (disk_shape first)) (list_any (has_id header.id) (shapes disks))
     (has_same header.id (header_on first.contents)
-    ∙ ap (λ (o : Option PvHeader). unwrap_or (option_map (λ (h : PvHeader). same_bytes h.id header.id) o) false)
+    ∙ ap (λ (o : Option PvHeader). unwrap_or (option_map (λ (h : PvHeader). bytes_eq h.id header.id) o) false)
     (ap (λ (d : Disk). header_on d.contents) (same_Some first disk there) ∙ is)
     ∙ same_bytes_to header.id header.id refl)
 shape_at (first ∷ disks) (suc k) disk header there is =
@@ -169,12 +170,12 @@ module _ (lvs : List (List ℕ × Lv)) (extent_size : ℕ) where
   any_added p pvs (added ∷ more) any = any_added p (pvs ++ row pvs added ∷ []) more (any_front p pvs (row pvs added ∷ []) any)
 
   all_listed : (pvs : List (List ℕ × Pv)) (all : List AddedPv)
-      → Each (λ (added : AddedPv). list_any (λ (pv : List ℕ × Pv). same_bytes pv.1.id added.header.id) (with_added lvs extent_size pvs all)
+      → Each (λ (added : AddedPv). list_any (λ (pv : List ℕ × Pv). bytes_eq pv.1.id added.header.id) (with_added lvs extent_size pvs all)
       ≡ true) all
   all_listed pvs [] = tt
   all_listed pvs (added ∷ more) = (
-    any_added (λ (pv : List ℕ × Pv). same_bytes pv.1.id added.header.id) (pvs ++ row pvs added ∷ []) more
-        (any_last (λ (pv : List ℕ × Pv). same_bytes pv.1.id added.header.id) pvs (row pvs added)
+    any_added (λ (pv : List ℕ × Pv). bytes_eq pv.1.id added.header.id) (pvs ++ row pvs added ∷ []) more
+        (any_last (λ (pv : List ℕ × Pv). bytes_eq pv.1.id added.header.id) pvs (row pvs added)
         (same_bytes_to added.header.id added.header.id refl)),
     all_listed (pvs ++ row pvs added ∷ []) more,
   )
@@ -252,7 +253,7 @@ makes_group state is base listed names known whole =
             header = (get_or all k d).header;
             is = header_of o.disk.contents (get_or all k d).label (get_or all k d).header o.found;
             listed =
-                All-from_recursion (λ (added : AddedPv). list_any (λ (pv : List ℕ × Pv). same_bytes pv.1.id added.header.id)
+                All-from_recursion (λ (added : AddedPv). list_any (λ (pv : List ℕ × Pv). bytes_eq pv.1.id added.header.id)
                 (with_added base.lvs base.extent_size base.pvs all) ≡ true) all (all_listed base.lvs base.extent_size base.pvs all) k d
                 within;
           }));
@@ -283,7 +284,7 @@ makes_group state is base listed names known whole =
           header = found.header;
           is = found.is;
           listed =
-              any_added base.lvs base.extent_size (λ (p : List ℕ × Pv). same_bytes p.1.id found.header.id) base.pvs all
-              (any_here (λ (p : List ℕ × Pv). same_bytes p.1.id found.header.id) base.pvs k d within
+              any_added base.lvs base.extent_size (λ (p : List ℕ × Pv). bytes_eq p.1.id found.header.id) base.pvs all
+              (any_here (λ (p : List ℕ × Pv). bytes_eq p.1.id found.header.id) base.pvs k d within
               (same_bytes_to pv.1.id found.header.id (sym found.same)));
         }

@@ -8,6 +8,7 @@ use Rattle.std.specs.Option.{option_map_or}
 use Rattle.std.specs.Ordering.{nat_cmp}
 use Rattle.std.proofs.lemmas.Bool.{cases_Bool, eqb-true, eq-eqb, true≢false}
 use Rattle.std.proofs.lemmas.List.Elements.{All-append, All-cons, All-nil}
+use Rattle.std.specs.Str.{bytes_eq}
 use Rattle.lvm_script.specs.declared.line.Line.{Line}
 use Rattle.disk_model.specs.Steps.{Image}
 use Rattle.pv_header.specs.declared.header.PvHeader.{PvHeader}
@@ -15,7 +16,7 @@ use Rattle.meta_model.specs.declared.group.Group.{Group}
 use Rattle.meta_model.specs.declared.pv.Pv.{Pv}
 use Rattle.extent_alloc.specs.declared.part.Part.{Part}
 use Rattle.scan_rules.specs.Decision.{AreaReading, Copy, Found as PvOf, HoldsNone, Reading, Refused, SamePv, first_duplicate, ids_from}
-use Rattle.scan_rules.specs.Decision.{is_listed, is_something, lists, same_bytes}
+use Rattle.scan_rules.specs.Decision.{is_listed, is_something, lists}
 use Rattle.scan_rules.proofs.Scanning.{same_bytes_tells, same_bytes_to}
 use Rattle.scan_rules.proofs.SameShape.{ids_same}
 use Rattle.disk_batch.specs.InTurn.{HasFirstBatches, Put}
@@ -66,19 +67,19 @@ nothing_is HoldsNone is = refl
 nothing_is (Copy group text passed) is = absurd (true≢false is)
 nothing_is (Refused why) is = absurd (true≢false is)
 
-other_side : (a b : List ℕ) → same_bytes a b ≡ false → same_bytes b a ≡ false
-other_side a b other = step (same_bytes b a) refl
+other_side : (a b : List ℕ) → bytes_eq a b ≡ false → bytes_eq b a ≡ false
+other_side a b other = step (bytes_eq b a) refl
   where
-    step : (t : Bool) → same_bytes b a ≡ t → same_bytes b a ≡ false
+    step : (t : Bool) → bytes_eq b a ≡ t → bytes_eq b a ≡ false
     step true is = absurd (true≢false (sym (same_bytes_to a b (sym (same_bytes_tells b a is))) ∙ other))
     step false is = is
 
 -- an id that the group doesn't list is that of no physical volume
-pub each_other : (id : List ℕ) (pvs : List (List ℕ × Pv)) → list_any (λ (pv : List ℕ × Pv). same_bytes pv.1.id id) pvs ≡ false
-    → Each (λ (pv : List ℕ × Pv). same_bytes id pv.1.id ≡ false) pvs
+pub each_other : (id : List ℕ) (pvs : List (List ℕ × Pv)) → list_any (λ (pv : List ℕ × Pv). bytes_eq pv.1.id id) pvs ≡ false
+    → Each (λ (pv : List ℕ × Pv). bytes_eq id pv.1.id ≡ false) pvs
 each_other id [] none = tt
 each_other id (pv ∷ pvs) none =
-    let parts = both_false (same_bytes pv.1.id id) (list_any (λ (p : List ℕ × Pv). same_bytes p.1.id id) pvs) none in
+    let parts = both_false (bytes_eq pv.1.id id) (list_any (λ (p : List ℕ × Pv). bytes_eq p.1.id id) pvs) none in
     (other_side pv.1.id id parts.0, each_other id pvs parts.1)
 
 module _ (base : Image) (sizes : List ℕ) (found : Found) (names : List (List ℕ)) (backup : Option Backup) (line : Line) (now : ℕ)
@@ -135,7 +136,7 @@ module _ (base : Image) (sizes : List ℕ) (found : Found) (names : List (List �
   header_unlisted : (group : Group) → found.group ≡ Some group → (header : PvHeader) → header_on m.disk.contents ≡ Some header
       → lists group header.id ≡ false
   header_unlisted group is header has =
-      not_among (λ (pv : List ℕ × Pv). same_bytes pv.1.id header.id) (λ (pv : List ℕ × Pv). disk_with found.disks pv.1.id) m.number
+      not_among (λ (pv : List ℕ × Pv). bytes_eq pv.1.id header.id) (λ (pv : List ℕ × Pv). disk_with found.disks pv.1.id) m.number
       group.pvs
       (λ pv same. ap (disk_with found.disks) (same_bytes_tells pv.1.id header.id same)
       ∙ disk_with_own 0 found.disks p.shape.differ m.number m.disk header m.there has)
@@ -178,7 +179,7 @@ module _ (base : Image) (sizes : List ℕ) (found : Found) (names : List (List �
   OtherIds (Some group) own = Each (λ (pv : List ℕ × Pv). has_header_id pv.1.id own ≡ false) group.pvs
 
   before_other : (group : Group) → found.group ≡ Some group → (o : Option PvHeader) → header_on m.disk.contents ≡ o
-      → Each (λ (pv : List ℕ × Pv). unwrap_or (option_map (λ (h : PvHeader). same_bytes h.id pv.1.id) o) false ≡ false) group.pvs
+      → Each (λ (pv : List ℕ × Pv). unwrap_or (option_map (λ (h : PvHeader). bytes_eq h.id pv.1.id) o) false ≡ false) group.pvs
   before_other group is None has = none_on group.pvs
     where
       none_on : (pvs : List (List ℕ × Pv)) → Each (λ (pv : List ℕ × Pv). false ≡ false) pvs

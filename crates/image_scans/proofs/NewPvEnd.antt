@@ -8,6 +8,7 @@ use Rattle.std.specs.Option.{option_and_then}
 use Rattle.std.proofs.lemmas.Bool.{true≢false}
 use Rattle.std.proofs.lemmas.Bool.Decides.{nat_tests}
 use Rattle.std.proofs.lemmas.List.Elements.{All-append, All-cons, All-from_recursion, All-head, All-nil, recursion_from_All}
+use Rattle.std.specs.Str.{bytes_eq}
 use Rattle.lvm_script.specs.declared.line.Line.{Line}
 use Rattle.disk_model.specs.Steps.{Image}
 use Rattle.pv_label.specs.Label.{IsFirstLabel, IsLabel}
@@ -19,7 +20,7 @@ use Rattle.mda_header.specs.declared.entry.HeaderEntry.TheVariants.{Nothing}
 use Rattle.mda_header.specs.Header.{IsHeader}
 use Rattle.meta_model.specs.declared.group.Group.{Group}
 use Rattle.extent_alloc.specs.declared.part.Part.{Part}
-use Rattle.scan_rules.specs.Decision.{Area as AreaOf, Found as PvOf, HoldsNone, Reading, has_id, lists, same_bytes}
+use Rattle.scan_rules.specs.Decision.{Area as AreaOf, Found as PvOf, HoldsNone, Reading, has_id, lists}
 use Rattle.disk_batch.specs.InTurn.{HasFirstBatches, with_batches}
 use Rattle.disk_batch.proofs.FrontBatches.{KeepsSector, front_kept, keeps_sector}
 use Rattle.disk_contents.specs.declared.contents.AreaFound.{AreaFound}
@@ -149,8 +150,8 @@ first_label at label low is none = record {
 
 -- ids on disks are those of their headers
 has_same : (id : List ℕ) (o : Option PvHeader)
-    → unwrap_or (option_map (λ (pv : PvOf). same_bytes pv.id id) (option_map pv_shape o)) false
-    ≡ unwrap_or (option_map (λ (h : PvHeader). same_bytes h.id id) o) false
+    → unwrap_or (option_map (λ (pv : PvOf). bytes_eq pv.id id) (option_map pv_shape o)) false
+    ≡ unwrap_or (option_map (λ (h : PvHeader). bytes_eq h.id id) o) false
 has_same id None = refl
 has_same id (Some header) = refl
 

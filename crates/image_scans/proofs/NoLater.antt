@@ -6,11 +6,12 @@ use Rattle.std.specs.Option.{option_and_then}
 use Rattle.std.specs.List.{AllByRecursion, cons_option}
 use Rattle.std.proofs.lemmas.Bool.{cases_lt, eq-eqb, le-leb, leb-true, true≢false}
 use Rattle.std.proofs.lemmas.Option.{same_Some}
+use Rattle.std.specs.Str.{bytes_eq}
 use Rattle.meta_model.specs.declared.group.Group.{Group}
 use Rattle.scan_rules.specs.declared.copy_refusal.CopyRefusal.{CopyRefusal}
 use Rattle.scan_rules.specs.Decision.{Area, AreaReading, Conflict, Copy, Found, FoundGroup, GivesNoLater, Held, HoldsNone, Reading, Refused}
 use Rattle.scan_rules.specs.Decision.{TwoGroups, Unsupported, best, conflict, copies, copies_from, copy_of, decide_scan, greater}
-use Rattle.scan_rules.specs.Decision.{readings_in, refusal_of, refusals, refusals_from, same_bytes, sum_agrees, two_groups, unsupported}
+use Rattle.scan_rules.specs.Decision.{readings_in, refusal_of, refusals, refusals_from, sum_agrees, two_groups, unsupported}
 use Rattle.scan_rules.proofs.Scanning.{same_bytes_tells}
 use Rattle.vg_scan.specs.Texts.{IsCopyOf}
 use Rattle.image_scans.proofs.Decided.{IsFoundWith, Passes, found_parts, passes}
@@ -150,14 +151,14 @@ one_id : (cs : List Held) → two_groups cs ≡ None → (id : List ℕ) × AllB
 one_id [] none = ([], tt)
 one_id (c ∷ cs) none =
     let each =
-    find_each (λ (d : Held). not (same_bytes d.group.id c.group.id)) cs
-    (no_map (λ (d : Held). TwoGroups c.group.id d.group.id) (find (λ (d : Held). not (same_bytes d.group.id c.group.id)) cs)
+    find_each (λ (d : Held). not (bytes_eq d.group.id c.group.id)) cs
+    (no_map (λ (d : Held). TwoGroups c.group.id d.group.id) (find (λ (d : Held). not (bytes_eq d.group.id c.group.id)) cs)
     none) in (
       c.group.id,
       (
         refl,
-        all_weaker (λ (d : Held). not (same_bytes d.group.id c.group.id) ≡ false) (λ (d : Held). d.group.id ≡ c.group.id)
-            (λ d no_other. same_bytes_tells d.group.id c.group.id (not_false (same_bytes d.group.id c.group.id) no_other)) cs each,
+        all_weaker (λ (d : Held). not (bytes_eq d.group.id c.group.id) ≡ false) (λ (d : Held). d.group.id ≡ c.group.id)
+            (λ d no_other. same_bytes_tells d.group.id c.group.id (not_false (bytes_eq d.group.id c.group.id) no_other)) cs each,
       ),
     )
   where
@@ -166,14 +167,14 @@ one_id (c ∷ cs) none =
     not_false false is = absurd (true≢false is)
 
 no_other_text : (cs : List Held) (b : Held) → best cs ≡ Some b → conflict cs ≡ None
-    → AllByRecursion (λ (d : Held). (d.group.seqno == b.group.seqno && not (same_bytes d.text b.text)) ≡ false) cs
+    → AllByRecursion (λ (d : Held). (d.group.seqno == b.group.seqno && not (bytes_eq d.text b.text)) ≡ false) cs
 no_other_text cs b is none =
-    find_each (λ (d : Held). d.group.seqno == b.group.seqno && not (same_bytes d.text b.text)) cs
+    find_each (λ (d : Held). d.group.seqno == b.group.seqno && not (bytes_eq d.text b.text)) cs
     (no_map (λ (d : Held). Conflict b.disk d.disk b.group.seqno)
-    (find (λ (d : Held). d.group.seqno == b.group.seqno && not (same_bytes d.text b.text)) cs)
+    (find (λ (d : Held). d.group.seqno == b.group.seqno && not (bytes_eq d.text b.text)) cs)
     (sym (ap (λ (o : Option Held). option_and_then
     (λ (x : Held). option_map (λ (d : Held). Conflict x.disk d.disk x.group.seqno)
-    (find (λ (d : Held). d.group.seqno == x.group.seqno && not (same_bytes d.text x.text)) cs)) o) is) ∙ none))
+    (find (λ (d : Held). d.group.seqno == x.group.seqno && not (bytes_eq d.text x.text)) cs)) o) is) ∙ none))
 
 plain_refusals : (cs : List Held) (rs : List (ℕ × CopyRefusal)) (b : Held) → best cs ≡ Some b → unsupported cs rs ≡ None
     → AllByRecursion IsPlainRefusal rs
@@ -185,7 +186,7 @@ plain_refusals (c ∷ cs) rs b is none =
 -- what is known of each copy
 abbrev IsEarlier : List ℕ → Held → Group → List ℕ → List (List ℕ) → Type 0
 IsEarlier id b group text passed =
-    (group.id ≡ id) × ((group.seqno ≤ b.group.seqno) × ((group.seqno == b.group.seqno && not (same_bytes text b.text)) ≡ false))
+    (group.id ≡ id) × ((group.seqno ≤ b.group.seqno) × ((group.seqno == b.group.seqno && not (bytes_eq text b.text)) ≡ false))
 
 no_later : (id : List ℕ) (b : Held) → b.group.id ≡ id → IsCopyOf b.text b.group b.passed → (r : AreaReading)
     → CopyHas (IsEarlier id b) r × (CopyHas IsItsCopy r × RefusesPlainly r) → GivesNoLater b.group b.text r
@@ -205,7 +206,7 @@ no_later id b own copy (Copy group text passed) is = (
       let most : group.seqno ≤ b.group.seqno = is.0.1.0 in
       let e : group.seqno ≡ b.group.seqno = omega (arith, reached, most) in
       let same : text ≡ b.text =
-      same_bytes_tells text b.text (agrees (group.seqno == b.group.seqno) (same_bytes text b.text) (eq-eqb group.seqno b.group.seqno e)
+      same_bytes_tells text b.text (agrees (group.seqno == b.group.seqno) (bytes_eq text b.text) (eq-eqb group.seqno b.group.seqno e)
       is.0.1.1) in
       inl (one_copy b.text group b.group passed b.passed (subst (λ (t : List ℕ). IsCopyOf t group passed) same is.1.0) copy, same))
       (cases_lt group.seqno b.group.seqno),
@@ -231,8 +232,8 @@ none_later_given readings held stale strays missing is are =
     let all : AllByRecursion (HeldHas (IsEarlier id held)) cs =
     all_both (λ (c : Held). c.group.id ≡ id)
     (λ (c : Held). (c.group.seqno ≤ held.group.seqno)
-    × ((c.group.seqno == held.group.seqno && not (same_bytes c.text held.text)) ≡ false)) cs ids.1
-    (all_both (IsAtMost held.group.seqno) (λ (c : Held). (c.group.seqno == held.group.seqno && not (same_bytes c.text held.text)) ≡ false)
+    × ((c.group.seqno == held.group.seqno && not (bytes_eq c.text held.text)) ≡ false)) cs ids.1
+    (all_both (IsAtMost held.group.seqno) (λ (c : Held). (c.group.seqno == held.group.seqno && not (bytes_eq c.text held.text)) ≡ false)
     cs (greatest cs held parts.best_is) (no_other_text cs held parts.best_is p.agree))
     in
     let given : DisksGive (λ disk. CopyHas (IsEarlier id held)) readings = copied_from (IsEarlier id held) 0 readings all in

@@ -5,6 +5,7 @@ use Rattle.std.specs.Prelude.{find, option_map, slice_get, slice_index, unwrap_o
 use Rattle.std.specs.List.{AllByRecursion as Each, enumerate_from, list_any}
 use Rattle.std.proofs.lemmas.Bool.{and_from, cases_lt, false≢true, lt-ltb, ltb-false, true≢false}
 use Rattle.std.proofs.lemmas.Option.{same_Some}
+use Rattle.std.specs.Str.{bytes_eq}
 use Rattle.sector_base.specs.declared.places.At.{At}
 use Rattle.meta_model.specs.declared.group.Group.{Group}
 use Rattle.meta_model.specs.declared.pv.Pv.{Pv}
@@ -12,7 +13,7 @@ use Rattle.meta_model.specs.declared.segment.On.{On}
 use Rattle.meta_model.specs.declared.segment.On.TheVariants as on
 use Rattle.pv_header.specs.declared.extent_list.Extent.{Extent}
 use Rattle.pv_header.specs.declared.header.PvHeader.{PvHeader}
-use Rattle.scan_rules.specs.Decision.{Found as PvOf, Reading, first_misplaced, has_id, has_misplaced, is_misplaced, meets_area, same_bytes}
+use Rattle.scan_rules.specs.Decision.{Found as PvOf, Reading, first_misplaced, has_id, has_misplaced, is_misplaced, meets_area}
 use Rattle.scan_rules.specs.Found.{is_missing, is_this_misplaced, misplaced_from, missing_of}
 use Rattle.scan_rules.proofs.Scanning.{same_bytes_to}
 use Rattle.volume_rules.specs.Rules.{IsAccepted}
@@ -187,7 +188,7 @@ extent_beside group disks placed there at e =
     any_at (is_this_misplaced group.extent_size (disk_shape d.disk) (pv_shape d.header)) group.pvs at.pv pv e.is_pv on_header in
     let end : ℕ = pv.1.pe_start + pv.1.pe_count * group.extent_size in
     let misplaced : is_misplaced pv.1.pe_start end (disk_shape d.disk) (pv_shape d.header) ≡ false =
-    and_right (same_bytes pv.1.id d.header.id) (is_misplaced pv.1.pe_start end (disk_shape d.disk) (pv_shape d.header))
+    and_right (bytes_eq pv.1.id d.header.id) (is_misplaced pv.1.pe_start end (disk_shape d.disk) (pv_shape d.header))
     (same_bytes_to pv.1.id d.header.id (sym d.same)) own
     in
     record {

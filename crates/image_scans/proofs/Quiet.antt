@@ -4,10 +4,11 @@ use Rattle.std.proofs.Common.{None, inl, inr, ⊎_elim, refl, sym, ap, subst, �
 use Rattle.std.specs.Prelude.{find, option_map, unwrap_or}
 use Rattle.std.specs.List.{AllByRecursion as Each, enumerate_from, list_any}
 use Rattle.std.proofs.lemmas.Bool.{and_parts, false≢true, or_cases, or_left, or_right, true≢false}
+use Rattle.std.specs.Str.{bytes_eq}
 use Rattle.meta_model.specs.declared.group.Group.{Group}
 use Rattle.meta_model.specs.declared.pv.Pv.{Pv}
 use Rattle.scan_rules.specs.Decision.{AreaReading, Found, Reading, first_duplicate, first_misplaced, has_id, has_misplaced, holds, ids_from}
-use Rattle.scan_rules.specs.Decision.{is_held, is_listed, is_misplaced, lists, same_bytes}
+use Rattle.scan_rules.specs.Decision.{is_held, is_listed, is_misplaced, lists}
 use Rattle.scan_rules.specs.Found.{is_missing, is_this_misplaced, misplaced_from, missing_of}
 use Rattle.scan_rules.proofs.Scanning.{same_bytes_tells, same_bytes_to}
 use Rattle.image_scans.proofs.Again.{all_there, none_missing}
@@ -84,11 +85,11 @@ module _ (group : Group) where
       (or_cases (is_listed group a && holds text a) (is_held group text as') held)
 
   -- an id that isn't listed is that of no physical volume
-  no_pv : (id : List ℕ) (pvs : List (List ℕ × Pv)) → list_any (λ (pv : List ℕ × Pv). same_bytes pv.1.id id) pvs ≡ false
-      → Each (λ (pv : List ℕ × Pv). same_bytes pv.1.id id ≡ false) pvs
+  no_pv : (id : List ℕ) (pvs : List (List ℕ × Pv)) → list_any (λ (pv : List ℕ × Pv). bytes_eq pv.1.id id) pvs ≡ false
+      → Each (λ (pv : List ℕ × Pv). bytes_eq pv.1.id id ≡ false) pvs
   no_pv id [] none = tt
   no_pv id (pv ∷ pvs) none =
-      let parts = split (same_bytes pv.1.id id) (list_any (λ (p : List ℕ × Pv). same_bytes p.1.id id) pvs)
+      let parts = split (bytes_eq pv.1.id id) (list_any (λ (p : List ℕ × Pv). bytes_eq p.1.id id) pvs)
       none in (parts.0, no_pv id pvs parts.1)
     where
       split : (x y : Bool) → (x || y) ≡ false → (x ≡ false) × (y ≡ false)
@@ -96,7 +97,7 @@ module _ (group : Group) where
       split false y is = (refl, is)
 
   misplaced_none : (sectors : ℕ) (disk : Reading) (found : Found) (pvs : List (List ℕ × Pv))
-      → Each (λ (pv : List ℕ × Pv). same_bytes pv.1.id found.id ≡ false) pvs
+      → Each (λ (pv : List ℕ × Pv). bytes_eq pv.1.id found.id ≡ false) pvs
       → list_any (is_this_misplaced group.extent_size disk found) pvs ≡ false
   misplaced_none sectors disk found [] all = refl
   misplaced_none sectors disk found (pv ∷ pvs) all =
@@ -137,13 +138,13 @@ module _ (group : Group) where
   quiet_placed as' bs but none = placed_from 0 as' bs but none
 
   -- an id of the group is on none of the disks that aren't listed
-  on_listed : (pv : List ℕ × Pv) → list_any (λ (p : List ℕ × Pv). same_bytes p.1.id pv.1.id) group.pvs ≡ true → (o : Option Found)
-      → unwrap_or (option_map (λ (x : Found). same_bytes x.id pv.1.id) o) false ≡ true
+  on_listed : (pv : List ℕ × Pv) → list_any (λ (p : List ℕ × Pv). bytes_eq p.1.id pv.1.id) group.pvs ≡ true → (o : Option Found)
+      → unwrap_or (option_map (λ (x : Found). bytes_eq x.id pv.1.id) o) false ≡ true
       → unwrap_or (option_map (λ (x : Found). lists group x.id) o) false ≡ true
   on_listed pv among None is = absurd (false≢true is)
   on_listed pv among (Some found) is = ap (lists group) (same_bytes_tells found.id pv.1.id is) ∙ among
 
-  quiet_ids : (pv : List ℕ × Pv) → list_any (λ (p : List ℕ × Pv). same_bytes p.1.id pv.1.id) group.pvs ≡ true → (as' bs : List Reading)
+  quiet_ids : (pv : List ℕ × Pv) → list_any (λ (p : List ℕ × Pv). bytes_eq p.1.id pv.1.id) group.pvs ≡ true → (as' bs : List Reading)
       → ButQuiet (Some group) as' bs → list_any (has_id pv.1.id) as' ≡ true → list_any (has_id pv.1.id) bs ≡ true
   quiet_ids pv among [] [] but any = any
   quiet_ids pv among [] (b ∷ bs) but any = absurd but
@@ -164,7 +165,7 @@ module _ (group : Group) where
   missing_parts false false is = absurd (true≢false is)
 
   still_there : (as' bs : List Reading) → ButQuiet (Some group) as' bs → (pv : List ℕ × Pv)
-      → list_any (λ (p : List ℕ × Pv). same_bytes p.1.id pv.1.id) group.pvs ≡ true → is_missing as' pv ≡ false → is_missing bs pv ≡ false
+      → list_any (λ (p : List ℕ × Pv). bytes_eq p.1.id pv.1.id) group.pvs ≡ true → is_missing as' pv ≡ false → is_missing bs pv ≡ false
   still_there as' bs but pv among is =
       let parts = missing_parts pv.1.missing (list_any (has_id pv.1.id) as') is in
       ap (λ (b : Bool). b || not (list_any (has_id pv.1.id) bs)) parts.0 ∙ ap not (quiet_ids pv among as' bs but parts.1)
@@ -174,21 +175,21 @@ module _ (group : Group) where
   any_back p (y ∷ front) x back is = or_right (p y) (list_any p (front ++ x ∷ back)) (any_back p front x back is)
 
   each_still : (as' bs : List Reading) → ButQuiet (Some group) as' bs → (pvs : List (List ℕ × Pv))
-      → Each (λ (pv : List ℕ × Pv). list_any (λ (p : List ℕ × Pv). same_bytes p.1.id pv.1.id) group.pvs ≡ true) pvs
+      → Each (λ (pv : List ℕ × Pv). list_any (λ (p : List ℕ × Pv). bytes_eq p.1.id pv.1.id) group.pvs ≡ true) pvs
       → Each (λ (pv : List ℕ × Pv). is_missing as' pv ≡ false) pvs → Each (λ (pv : List ℕ × Pv). is_missing bs pv ≡ false) pvs
   each_still as' bs but [] among all = tt
   each_still as' bs but (pv ∷ pvs) among all = (still_there as' bs but pv among.0 all.0, each_still as' bs but pvs among.1 all.1)
 
   pub own_ids : (pvs : List (List ℕ × Pv))
-      → Each (λ (pv : List ℕ × Pv). list_any (λ (p : List ℕ × Pv). same_bytes p.1.id pv.1.id) pvs ≡ true) pvs
+      → Each (λ (pv : List ℕ × Pv). list_any (λ (p : List ℕ × Pv). bytes_eq p.1.id pv.1.id) pvs ≡ true) pvs
   own_ids pvs = all_in pvs pvs (λ p any. any)
     where
       all_in : (rest all : List (List ℕ × Pv)) → ((p : List ℕ × Pv → Bool) → list_any p rest ≡ true → list_any p all ≡ true)
-          → Each (λ (pv : List ℕ × Pv). list_any (λ (p : List ℕ × Pv). same_bytes p.1.id pv.1.id) all ≡ true) rest
+          → Each (λ (pv : List ℕ × Pv). list_any (λ (p : List ℕ × Pv). bytes_eq p.1.id pv.1.id) all ≡ true) rest
       all_in [] all up = tt
       all_in (pv ∷ rest) all up = (
-        up (λ (p : List ℕ × Pv). same_bytes p.1.id pv.1.id)
-            (or_left (same_bytes pv.1.id pv.1.id) (list_any (λ (p : List ℕ × Pv). same_bytes p.1.id pv.1.id) rest)
+        up (λ (p : List ℕ × Pv). bytes_eq p.1.id pv.1.id)
+            (or_left (bytes_eq pv.1.id pv.1.id) (list_any (λ (p : List ℕ × Pv). bytes_eq p.1.id pv.1.id) rest)
             (same_bytes_to pv.1.id pv.1.id refl)),
         all_in rest all (λ p any. up p (or_right (p pv) (list_any p rest) any)),
       )
@@ -223,22 +224,22 @@ find_with p one more is none = ap (λ (b : Bool). cond b (Some one) (find p more
 
 -- an id that is on none of the disks isn't found
 find_new : (id : List ℕ) (n : ℕ) (disks : List Reading) → list_any (has_id id) disks ≡ false
-    → find (λ (other : ℕ × List ℕ). same_bytes id other.1) (ids_from n disks) ≡ None
+    → find (λ (other : ℕ × List ℕ). bytes_eq id other.1) (ids_from n disks) ≡ None
 find_new id n [] none = refl
 find_new id n (disk ∷ disks) none =
     let parts = or_false (has_id id disk) (list_any (has_id id) disks) none in by disk.pv parts.0 (find_new id (n + 1) disks parts.1)
   where
-    by : (o : Option Found) → unwrap_or (option_map (λ (pv : Found). same_bytes pv.id id) o) false ≡ false
-        → find (λ (other : ℕ × List ℕ). same_bytes id other.1) (ids_from (n + 1) disks) ≡ None
-        → find (λ (other : ℕ × List ℕ). same_bytes id other.1) (ids_with n o (ids_from (n + 1) disks)) ≡ None
+    by : (o : Option Found) → unwrap_or (option_map (λ (pv : Found). bytes_eq pv.id id) o) false ≡ false
+        → find (λ (other : ℕ × List ℕ). bytes_eq id other.1) (ids_from (n + 1) disks) ≡ None
+        → find (λ (other : ℕ × List ℕ). bytes_eq id other.1) (ids_with n o (ids_from (n + 1) disks)) ≡ None
     by None is rest = rest
     by (Some pv) is rest =
-        find_with (λ (other : ℕ × List ℕ). same_bytes id other.1) (n, pv.id) (ids_from (n + 1) disks) (other_side id pv.id is) rest
+        find_with (λ (other : ℕ × List ℕ). bytes_eq id other.1) (n, pv.id) (ids_from (n + 1) disks) (other_side id pv.id is) rest
       where
-        other_side : (a b : List ℕ) → same_bytes b a ≡ false → same_bytes a b ≡ false
-        other_side a b other = step (same_bytes a b) refl
+        other_side : (a b : List ℕ) → bytes_eq b a ≡ false → bytes_eq a b ≡ false
+        other_side a b other = step (bytes_eq a b) refl
           where
-            step : (t : Bool) → same_bytes a b ≡ t → same_bytes a b ≡ false
+            step : (t : Bool) → bytes_eq a b ≡ t → bytes_eq a b ≡ false
             step true is' = absurd (true≢false (sym (same_bytes_to b a (sym (same_bytes_tells a b is'))) ∙ other))
             step false is' = is'
 
@@ -281,7 +282,7 @@ duplicate_parts : (number : ℕ) (o : Option (ℕ × List ℕ)) (rest : Option (
 duplicate_parts number None rest none = (refl, none)
 duplicate_parts number (Some other) rest none = absurd cc
 
-duplicate_with : (one : ℕ × List ℕ) (more : List (ℕ × List ℕ)) → find (λ (other : ℕ × List ℕ). same_bytes one.1 other.1) more ≡ None
+duplicate_with : (one : ℕ × List ℕ) (more : List (ℕ × List ℕ)) → find (λ (other : ℕ × List ℕ). bytes_eq one.1 other.1) more ≡ None
     → first_duplicate more ≡ None → first_duplicate (one ∷ more) ≡ None
 duplicate_with one more none rest =
     ap (λ (o : Option (ℕ × List ℕ)). unwrap_or (option_map (λ (other : ℕ × List ℕ). Some (one.0, other.0)) o) (first_duplicate more)) none
@@ -302,7 +303,7 @@ one_apart zero n R all new (a ∷ as') (b ∷ bs) among at none =
     rest : (o : Option Found) → first_duplicate (ids_with n o (ids_from (n + 1) as')) ≡ None → first_duplicate (ids_from (n + 1) as') ≡ None
     rest None is = is
     rest (Some pv) is =
-        (duplicate_parts n (find (λ (other : ℕ × List ℕ). same_bytes pv.id other.1) (ids_from (n + 1) as'))
+        (duplicate_parts n (find (λ (other : ℕ × List ℕ). bytes_eq pv.id other.1) (ids_from (n + 1) as'))
         (first_duplicate (ids_from (n + 1) as')) is).1
 
     put : (o : Option Found) → IsNewId all o → first_duplicate (ids_from (n + 1) as') ≡ None
@@ -318,14 +319,14 @@ one_apart (suc k) n R all new (a ∷ as') (b ∷ bs) among at none =
     later))
   where
     by : (o : Option Found) → first_duplicate (ids_with n o (ids_from (n + 1) as')) ≡ None
-        → ((id : List ℕ) → list_any (has_id id) all ≡ false → unwrap_or (option_map (λ (pv : Found). same_bytes pv.id id) o) false ≡ false)
+        → ((id : List ℕ) → list_any (has_id id) all ≡ false → unwrap_or (option_map (λ (pv : Found). bytes_eq pv.id id) o) false ≡ false)
         → (first_duplicate (ids_from (n + 1) as') ≡ None → first_duplicate (ids_from (n + 1) bs) ≡ None)
         → first_duplicate (ids_with n o (ids_from (n + 1) bs)) ≡ None
     by None is out later = later is
     by (Some pv) is out later =
         let parts =
-        duplicate_parts n (find (λ (other : ℕ × List ℕ). same_bytes pv.id other.1) (ids_from (n + 1) as'))
+        duplicate_parts n (find (λ (other : ℕ × List ℕ). bytes_eq pv.id other.1) (ids_from (n + 1) as'))
         (first_duplicate (ids_from (n + 1) as')) is in
         duplicate_with (n, pv.id) (ids_from (n + 1) bs)
-        (find_one (same_bytes pv.id) k (n + 1) R (λ x y r q has. out q.id (subst (IsNewId all) has (new x y r))) as' bs at.1 parts.0)
+        (find_one (bytes_eq pv.id) k (n + 1) R (λ x y r q has. out q.id (subst (IsNewId all) has (new x y r))) as' bs at.1 parts.0)
         (later parts.1)

@@ -8,6 +8,7 @@ use Rattle.std.specs.FinSet as set
 use Rattle.std.proofs.lemmas.Bool.{cases_Bool, false≢true, or_cases}
 use Rattle.std.proofs.lemmas.List.Elements.{recursion_from_All}
 use Rattle.std.proofs.lemmas.Option.{same_Some}
+use Rattle.std.specs.Str.{bytes_eq}
 use Rattle.disk_model.specs.Steps.{Image}
 use Rattle.pv_header.specs.declared.extent_list.Extent.{Extent}
 use Rattle.pv_header.specs.declared.header.PvHeader.{PvHeader}
@@ -20,7 +21,7 @@ use Rattle.mda_ring.specs.declared.area.Area.{Area}
 use Rattle.meta_model.specs.declared.group.Group.{Group}
 use Rattle.meta_model.specs.declared.pv.Pv.{Pv}
 use Rattle.scan_rules.specs.Decision.{Area as AreaOf, AreaReading, Found as PvOf, HoldsNone, Reading, gives, holds, is_held, is_listed}
-use Rattle.scan_rules.specs.Decision.{lists, same_bytes}
+use Rattle.scan_rules.specs.Decision.{lists}
 use Rattle.scan_rules.proofs.Scanning.{same_bytes_tells}
 use Rattle.disk_contents.specs.Contents.{IsAreaFound}
 use Rattle.disk_contents.specs.declared.contents.AreaFound.{AreaFound}
@@ -197,13 +198,13 @@ listed_header group new pv base_at (Some (Whole label header fs)) (Some x) (Some
 
 no_row : (disks : List Disk) (id : List ℕ) (k : ℕ) → disk_with disks id ≡ k → (pvs : List (List ℕ × Pv))
     → Each (λ n. n ≢ k) (map (λ (pv : List ℕ × Pv). disk_with disks pv.1.id) pvs)
-    → list_any (λ (pv : List ℕ × Pv). same_bytes pv.1.id id) pvs ≡ true → ⊥
+    → list_any (λ (pv : List ℕ × Pv). bytes_eq pv.1.id id) pvs ≡ true → ⊥
 no_row disks id k at [] none any = false≢true any
 no_row disks id k at (pv ∷ pvs) none any =
     ⊎_elim
     (λ here. none.0 (ap (disk_with disks) (same_bytes_tells pv.1.id id here) ∙ at))
     (λ later. no_row disks id k at pvs none.1 later)
-    (or_cases (same_bytes pv.1.id id) (list_any (λ (p : List ℕ × Pv). same_bytes p.1.id id) pvs) any)
+    (or_cases (bytes_eq pv.1.id id) (list_any (λ (p : List ℕ × Pv). bytes_eq p.1.id id) pvs) any)
 
 -- so it is among those of the group
 pub disk_among : (group : Group) (disks : List Disk) (disk_of : List ℕ) → disk_of ≡ disks_of group disks → (k : ℕ) (header : PvHeader)

@@ -4,11 +4,12 @@ use Rattle.std.specs.Prelude.{filter, is_some}
 use Rattle.std.specs.List.{list_any}
 use Rattle.std.specs.Option.{option_map_or}
 use Rattle.std.proofs.lemmas.Bool.{or_cases}
+use Rattle.std.specs.Str.{bytes_eq}
 use Rattle.line_answers.specs.declared.op_refusal.OpRefusal.TheVariants.{UnknownGroup}
 use Rattle.meta_model.specs.declared.group.Group.{Group}
 use Rattle.meta_model.specs.declared.pv.Pv.{Pv}
 use Rattle.scan_rules.proofs.Scanning.{same_bytes_tells}
-use Rattle.scan_rules.specs.Decision.{lists, same_bytes}
+use Rattle.scan_rules.specs.Decision.{lists}
 use Rattle.vg_found.specs.Disks.{disks_of}
 use Rattle.group_edits.specs.RestoredGroup.{restored_group}
 use Rattle.group_plan.proofs.Chained.{back_passes, front_passes}
@@ -29,7 +30,7 @@ use Rattle.vg_plans.specs.Vgcfgrestore.{vgcfgrestore_rows}
 
 module _ (said : Group) (id : List ℕ) where
   abbrev has_it : List ℕ × Pv → Bool
-  has_it pv = same_bytes pv.1.id id
+  has_it pv = bytes_eq pv.1.id id
 
   abbrev lacked : List (List ℕ × Pv) → List (List ℕ × Pv)
   lacked pvs = filter (λ (row : List ℕ × Pv). not (has_pv_id said row.1.id)) pvs

@@ -6,6 +6,7 @@ use Rattle.std.specs.Cmp.Lexicographic.{pointwise}
 use Rattle.std.specs.List.{AllByRecursion as Each, range_with_len}
 use Rattle.std.proofs.lemmas.Bool.{true≢false}
 use Rattle.std.proofs.lemmas.Option.{same_Some}
+use Rattle.std.specs.Str.{bytes_eq}
 use Rattle.lvm_name.specs.Names.{is_among}
 use Rattle.command_table.specs.declared.amount.Growth.{Growth}
 use Rattle.command_table.specs.declared.command.Command.TheVariants.{Lvcreate, Lvextend}
@@ -20,9 +21,7 @@ use Rattle.meta_print.proofs.Printable.{AreNames}
 use Rattle.volume_rules.specs.Extents.{extents_of}
 use Rattle.volume_rules.specs.Rules.{IsAccepted}
 use Rattle.extent_alloc.specs.declared.part.Part.{Part}
-use Rattle.scan_rules.proofs.SameLists.{pointwise-same_bytes}
 use Rattle.scan_rules.proofs.Scanning.{same_bytes_tells}
-use Rattle.scan_rules.specs.Decision.{same_bytes}
 use Rattle.group_edits.proofs.GivenRules.{extents_both}
 use Rattle.group_edits.proofs.LongerPlaces.{primary_longer, primary_more}
 use Rattle.group_edits.specs.GivenSegments.{extents_in, segments_of}
@@ -68,7 +67,7 @@ module _ (name : List ℕ) (given : List Part) (before : Version) (disk_of : Lis
       (extents_in (segments_of (last_kind lv.segments) (extents_of lv) given) * before.group.extent_size))
 
   -- a row, where it is known whether it has the name
-  row_after : (number : ℕ) (row : Row) (rows : List Row) (b : Bool) → same_bytes row.0 name ≡ b
+  row_after : (number : ℕ) (row : Row) (rows : List Row) (b : Bool) → bytes_eq row.0 name ≡ b
       → placed_from after number (map grown (row ∷ rows))
       ≡ cond row.1.status.visible (record {
         id = row.1.id;
@@ -102,7 +101,7 @@ module _ (name : List ℕ) (given : List Part) (before : Version) (disk_of : Lis
         places_kept before after accepted disks refl number number row row.1 there refl (primary_longer name given before.group number)
 
     -- so has one of another name
-    row_kept : (number : ℕ) (row : Row) (rows : List Row) → StandFrom before.group number (row ∷ rows) → same_bytes row.0 name ≡ false
+    row_kept : (number : ℕ) (row : Row) (rows : List Row) → StandFrom before.group number (row ∷ rows) → bytes_eq row.0 name ≡ false
         → placed_from after number (map grown (row ∷ rows))
         ≡ cond row.1.status.visible (placed number row ∷ placed_from after (number + 1) (map grown rows))
         (placed_from after (number + 1) (map grown rows))
@@ -129,7 +128,7 @@ module _ (name : List ℕ) (given : List Part) (before : Version) (disk_of : Lis
 
     -- rows of other names keep all
     others_kept : (number : ℕ) (rows : List Row) → StandFrom before.group number rows
-        → Each (λ (row : Row). same_bytes row.0 name ≡ false) rows
+        → Each (λ (row : Row). bytes_eq row.0 name ≡ false) rows
         → placed_from after number (map grown rows) ≡ placed_from before number rows
     others_kept number [] stand other = refl
     others_kept number (row ∷ rows) stand other =
@@ -143,7 +142,7 @@ module _ (name : List ℕ) (given : List Part) (before : Version) (disk_of : Lis
         → placed_from after number (map grown rows) ≡ changed_named name (grown_by (places_behind v.0 v.1)) (placed_from before number rows)
     longer_from number [] taken v stand is are = absurd cc
     longer_from number (row ∷ rows) taken v stand is are =
-        by row.1.status.visible (same_bytes row.0 name) refl refl is
+        by row.1.status.visible (bytes_eq row.0 name) refl refl is
         (λ made. longer_from (number + 1) rows (row.0 ∷ taken) v (rest_stand before.group number row rows stand) made are.2)
       where
         grow : PlacedVolume → PlacedVolume
@@ -159,13 +158,13 @@ module _ (name : List ℕ) (given : List Part) (before : Version) (disk_of : Lis
         changed = changed_named name grow later
 
         -- the first volume of the placed ones, where it has this name or another one
-        first_named : (b : Bool) → same_bytes row.0 name ≡ b
+        first_named : (b : Bool) → bytes_eq row.0 name ≡ b
             → changed_named name grow (placed number row ∷ later) ≡ cond b (grow (placed number row) ∷ later) (placed number row ∷ changed)
         first_named b same =
             ap (λ (c : Bool). cond c (grow (placed number row) ∷ later) (placed number row ∷ changed))
-            (pointwise-same_bytes row.0 name ∙ same)
+            (same)
 
-        by : (visible same : Bool) → row.1.status.visible ≡ visible → same_bytes row.0 name ≡ same
+        by : (visible same : Bool) → row.1.status.visible ≡ visible → bytes_eq row.0 name ≡ same
             → cond (visible && same) (Some (number, row.1)) (visible_from (number + 1) name rows) ≡ Some v
             → (visible_from (number + 1) name rows ≡ Some v → later_after ≡ changed)
             → placed_from after number (map grown (row ∷ rows)) ≡ changed_named name grow (cond visible (placed number row ∷ later) later)
@@ -229,7 +228,7 @@ free_from version name number (row ∷ rows) free =
           → has_named name (cond seen (volume ∷ later) later) ≡ false
       by false same is rest = rest
       by true true is rest =
-          let own : row.0 ≡ name = same_bytes_tells row.0 name (sym (pointwise-same_bytes row.0 name) ∙ is) in
+          let own : row.0 ≡ name = same_bytes_tells row.0 name (is) in
           absurd (true≢false (sym (ap (pointwise nat_eq name) own ∙ pointwise_same name) ∙ both.0))
       by true false is rest = ap (λ (b : Bool). b || has_named name later) is ∙ rest
 

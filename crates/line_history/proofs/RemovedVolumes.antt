@@ -2,9 +2,8 @@
 use Rattle.std.proofs.Common.{◌≡◌, ◌<◌, ◌≤◌, ℕ, suc, ◌+◌, Bool, true, false, ◌&&◌, cond, List, [], ◌∷◌, Some, refl, sym, ap, ◌∙◌, arith}
 use Rattle.std.specs.Prelude.{slice_get}
 use Rattle.std.proofs.lemmas.Option.{same_Some}
+use Rattle.std.specs.Str.{bytes_eq}
 use Rattle.meta_model.specs.declared.lv.Lv.{Lv}
-use Rattle.scan_rules.proofs.SameLists.{pointwise-same_bytes}
-use Rattle.scan_rules.specs.Decision.{same_bytes}
 use Rattle.volume_rules.specs.Rules.{IsAccepted}
 use Rattle.group_edits.proofs.RemovedPlaces.{primary_without}
 use Rattle.group_edits.proofs.Renumbered.{extents_same}
@@ -22,7 +21,7 @@ use Rattle.line_history.proofs.KeptVolumes.{KeepsDisks, StandFrom, all_stand, fi
 found_from : (name : List ℕ) (number : ℕ) (rows : List (List ℕ × Lv)) (v : ℕ × Lv) → visible_from number name rows ≡ Some v → number ≤ v.0
 found_from name number [] v found = absurd cc
 found_from name number (row ∷ rows) v found =
-    by (row.1.status.visible && same_bytes row.0 name) found (λ made. found_from name (number + 1) rows v made) where
+    by (row.1.status.visible && bytes_eq row.0 name) found (λ made. found_from name (number + 1) rows v made) where
       by : (b : Bool) → cond b (Some (number, row.1)) (visible_from (number + 1) name rows) ≡ Some v
           → (visible_from (number + 1) name rows ≡ Some v → number + 1 ≤ v.0) → number ≤ v.0
       by true made later = let at : number ≡ v.0 = ap (λ (x : ℕ × Lv). x.0) (same_Some (number, row.1) v made) in omega (arith, at)
@@ -118,7 +117,7 @@ module _ (before : Version) (disk_of : List ℕ) (removed : ℕ) where
         → visible_from number name rows ≡ Some (removed, lv) → left number rows ≡ without_named name (placed_from before number rows)
     removed_from name number [] lv stand found = absurd cc
     removed_from name number (one ∷ rows) lv stand found =
-        by one.1.status.visible (same_bytes one.0 name) refl refl found
+        by one.1.status.visible (bytes_eq one.0 name) refl refl found
         (λ made. removed_from name (number + 1) rows lv (rest_stand before.group number one rows stand) made)
       where
         is : slice_get before.group.lvs number ≡ Some one
@@ -127,7 +126,7 @@ module _ (before : Version) (disk_of : List ℕ) (removed : ℕ) where
         later : List PlacedVolume
         later = placed_from before (number + 1) rows
 
-        by : (visible same : Bool) → one.1.status.visible ≡ visible → same_bytes one.0 name ≡ same
+        by : (visible same : Bool) → one.1.status.visible ≡ visible → bytes_eq one.0 name ≡ same
             → cond (visible && same) (Some (number, one.1)) (visible_from (number + 1) name rows) ≡ Some (removed, lv)
             → (visible_from (number + 1) name rows ≡ Some (removed, lv) → left (number + 1) rows ≡ without_named name later)
             → left number (one ∷ rows) ≡ without_named name (cond visible (placed number one ∷ later) later)
@@ -135,12 +134,12 @@ module _ (before : Version) (disk_of : List ℕ) (removed : ℕ) where
             let at : number ≡ removed = ap (λ (x : ℕ × Lv). x.0) (same_Some (number, one.1) (removed, lv) made) in
             left_going number one rows (ap stay at ∙ removed_goes before.group removed)
             ∙ behind_stay (number + 1) rows (rest_stand before.group number one rows stand) (omega (arith, at))
-            ∙ sym (ap (λ (b : Bool). cond b later (placed number one ∷ without_named name later)) (pointwise-same_bytes one.0 name ∙ same))
+            ∙ sym (ap (λ (b : Bool). cond b later (placed number one ∷ without_named name later)) (same))
         by true false visible same made next =
             let behind : number + 1 ≤ removed = found_from name (number + 1) rows (removed, lv) made in
             left_visible number one rows is visible (λ equal. omega (arith, behind, equal))
             ∙ ap (λ (l : List PlacedVolume). placed number one ∷ l) (next made)
-            ∙ sym (ap (λ (b : Bool). cond b later (placed number one ∷ without_named name later)) (pointwise-same_bytes one.0 name ∙ same))
+            ∙ sym (ap (λ (b : Bool). cond b later (placed number one ∷ without_named name later)) (same))
         by false same hidden is_same made next = left_hidden number one rows is hidden ∙ next made
 
     -- so it is in the group

@@ -4,15 +4,14 @@ use Rattle.std.specs.Prelude.{nat_eq}
 use Rattle.std.specs.Cmp.Lexicographic.{pointwise}
 use Rattle.std.specs.List.{AllByRecursion as Each}
 use Rattle.std.proofs.lemmas.Bool.{true≢false}
+use Rattle.std.specs.Str.{bytes_eq}
 use Rattle.lvm_name.specs.Names.{is_among}
 use Rattle.meta_model.specs.Standing.{HasTree}
 use Rattle.meta_model.specs.declared.lv.Lv.{Lv}
 use Rattle.meta_print.proofs.GroupFrom.{printable}
 use Rattle.meta_print.proofs.NamesOfText.{pointwise_same}
 use Rattle.meta_print.proofs.Printable.{AreNames}
-use Rattle.scan_rules.proofs.SameLists.{pointwise-same_bytes}
 use Rattle.scan_rules.proofs.Scanning.{same_bytes_tells}
-use Rattle.scan_rules.specs.Decision.{same_bytes}
 use Rattle.volume_rules.specs.Rules.{IsAccepted}
 use Rattle.group_edits.proofs.RenamedPlaces.{named_same, primary_renamed}
 use Rattle.group_edits.specs.NextVersion.{changed_if}
@@ -34,18 +33,18 @@ pub named_from : (version : Version) (name : List ℕ) (number : ℕ) (rows : Li
     → visible_from number name rows ≡ Some v → has_named name (placed_from version number rows) ≡ true
 named_from version name number [] v found = absurd cc
 named_from version name number (row ∷ rows) v found =
-    by row.1.status.visible (same_bytes row.0 name) refl found (λ made. named_from version name (number + 1) rows v made) where
+    by row.1.status.visible (bytes_eq row.0 name) refl found (λ made. named_from version name (number + 1) rows v made) where
       later : List PlacedVolume
       later = placed_from version (number + 1) rows
 
       volume : PlacedVolume
       volume = record { id = row.1.id; name = row.0; places = places_of version number row.1 }
 
-      by : (seen same : Bool) → same_bytes row.0 name ≡ same
+      by : (seen same : Bool) → bytes_eq row.0 name ≡ same
           → cond (seen && same) (Some (number, row.1)) (visible_from (number + 1) name rows) ≡ Some v
           → (visible_from (number + 1) name rows ≡ Some v → has_named name later ≡ true)
           → has_named name (cond seen (volume ∷ later) later) ≡ true
-      by true true is made rest = ap (λ (b : Bool). b || has_named name later) (pointwise-same_bytes row.0 name ∙ is)
+      by true true is made rest = ap (λ (b : Bool). b || has_named name later) (is)
       by true false is made rest = or_true (pointwise nat_eq row.0 name) (has_named name later) (rest made)
       by false same is made rest = rest made
 
@@ -57,14 +56,14 @@ named_in version name v found = named_from version name 0 version.group.lvs v fo
 -- no row behind it has its name
 pub others_named : (old : List ℕ) (rows : List (List ℕ × Lv)) (taken : List (List ℕ))
     → AreNames taken (map (λ (row : List ℕ × Lv). row.0) rows) → is_among taken old ≡ true
-    → Each (λ (row : List ℕ × Lv). same_bytes row.0 old ≡ false) rows
+    → Each (λ (row : List ℕ × Lv). bytes_eq row.0 old ≡ false) rows
 others_named old [] taken are among = tt
 others_named old (row ∷ rows) taken are among = (
-  by (same_bytes row.0 old) refl,
+  by (bytes_eq row.0 old) refl,
   others_named old rows (row.0 ∷ taken) are.2
       (or_true (pointwise nat_eq old row.0) (is_among taken old) among),
 ) where
-  by : (b : Bool) → same_bytes row.0 old ≡ b → b ≡ false
+  by : (b : Bool) → bytes_eq row.0 old ≡ b → b ≡ false
   by true is = absurd (true≢false (sym among ∙ ap (is_among taken) (sym (same_bytes_tells row.0 old is)) ∙ are.1))
   by false is = refl
 
@@ -95,13 +94,13 @@ module _ (old new : List ℕ) (before : Version) (disk_of : List ℕ) where
         (places_kept before after accepted disks refl number number row row.1 (first_stands before.group number row rows stand) refl
         (primary_renamed old new before.group number))
 
-    name_is : (row : List ℕ × Lv) (b : Bool) → same_bytes row.0 old ≡ b → (named row).0 ≡ cond b new row.0
+    name_is : (row : List ℕ × Lv) (b : Bool) → bytes_eq row.0 old ≡ b → (named row).0 ≡ cond b new row.0
     name_is row true is = ap (λ (b : Bool). (cond b (new, row.1) row).0) is
     name_is row false is = ap (λ (b : Bool). (cond b (new, row.1) row).0) is
 
     -- rows of other names keep all
     others_kept : (number : ℕ) (rows : List (List ℕ × Lv)) → StandFrom before.group number rows
-        → Each (λ (row : List ℕ × Lv). same_bytes row.0 old ≡ false) rows
+        → Each (λ (row : List ℕ × Lv). bytes_eq row.0 old ≡ false) rows
         → placed_from after number (map named rows) ≡ placed_from before number rows
     others_kept number [] stand other = refl
     others_kept number (row ∷ rows) stand other =
@@ -118,7 +117,7 @@ module _ (old new : List ℕ) (before : Version) (disk_of : List ℕ) where
     renamed_from number [] taken v stand found are = absurd cc
     renamed_from number (row ∷ rows) taken v stand found are =
         row_renamed number row rows stand
-        ∙ by row.1.status.visible (same_bytes row.0 old) refl found
+        ∙ by row.1.status.visible (bytes_eq row.0 old) refl found
         (λ made. renamed_from (number + 1) rows (row.0 ∷ taken) v (rest_stand before.group number row rows stand) made are.2)
       where
         later : List PlacedVolume
@@ -130,7 +129,7 @@ module _ (old new : List ℕ) (before : Version) (disk_of : List ℕ) where
         changed : List PlacedVolume
         changed = changed_named old (named_so new) later
 
-        by : (seen same : Bool) → same_bytes row.0 old ≡ same
+        by : (seen same : Bool) → bytes_eq row.0 old ≡ same
             → cond (seen && same) (Some (number, row.1)) (visible_from (number + 1) old rows) ≡ Some v
             → (visible_from (number + 1) old rows ≡ Some v → later_after ≡ changed)
             → cond seen (placed number row (named row).0 ∷ later_after) later_after
@@ -143,12 +142,12 @@ module _ (old new : List ℕ) (before : Version) (disk_of : List ℕ) where
             (ap (λ (b : Bool). b || is_among taken old)
             (ap (pointwise nat_eq old) (same_bytes_tells row.0 old is) ∙ pointwise_same old))))
             ∙ sym (ap (λ (b : Bool). cond b (placed number row new ∷ later) (placed number row row.0 ∷ changed))
-            (pointwise-same_bytes row.0 old ∙ is))
+            (is))
         by true false is made rest =
             ap (λ (name : List ℕ). placed number row name ∷ later_after) (name_is row false is)
             ∙ ap (λ (l : List PlacedVolume). placed number row row.0 ∷ l) (rest made)
             ∙ sym (ap (λ (b : Bool). cond b (placed number row new ∷ later) (placed number row row.0 ∷ changed))
-            (pointwise-same_bytes row.0 old ∙ is))
+            (is))
         by false same is made rest = rest made
 
     -- so it is in the group

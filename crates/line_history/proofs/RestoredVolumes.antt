@@ -14,8 +14,6 @@ use Rattle.meta_print.proofs.Printable.{AreNames}
 use Rattle.volume_rules.specs.Rules.{IsAccepted, ids_of}
 use Rattle.volume_rules.specs.declared.rule.Rule.TheVariants.{Ids}
 use Rattle.extent_alloc.proofs.Pairs.{Pairs, pairs_from}
-use Rattle.scan_rules.proofs.SameLists.{pointwise-same_bytes}
-use Rattle.scan_rules.specs.Decision.{same_bytes}
 use Rattle.group_edits.specs.RestoredGroup.{restored_group}
 use Rattle.image_scans.specs.Versions.{Version}
 use Rattle.volume_history.proofs.Bits.{same_text}
@@ -34,7 +32,7 @@ placed version number row = record { id = row.1.id; name = row.0; places = place
 -- ---- names
 
 -- rows of other names give no volume of this one
-none_named : (version : Version) (name : List ℕ) (number : ℕ) (rows : List Row) → Each (λ (row : Row). same_bytes row.0 name ≡ false) rows
+none_named : (version : Version) (name : List ℕ) (number : ℕ) (rows : List Row) → Each (λ (row : Row). bytes_eq row.0 name ≡ false) rows
     → has_named name (placed_from version number rows) ≡ false
 none_named version name number [] other = refl
 none_named version name number (row ∷ rows) other = by row.1.status.visible (none_named version name (number + 1) rows other.1) where
@@ -42,7 +40,7 @@ none_named version name number (row ∷ rows) other = by row.1.status.visible (n
       → has_named name (cond seen (placed version number row ∷ placed_from version (number + 1) rows)
       (placed_from version (number + 1) rows)) ≡ false
   by true rest =
-      ap (λ (b : Bool). b || has_named name (placed_from version (number + 1) rows)) (pointwise-same_bytes row.0 name ∙ other.0) ∙ rest
+      ap (λ (b : Bool). b || has_named name (placed_from version (number + 1) rows)) (other.0) ∙ rest
   by false rest = rest
 
 names_from : (version : Version) (number : ℕ) (rows : List Row) (taken : List (List ℕ)) → AreNames taken (map (λ (row : Row). row.0) rows)

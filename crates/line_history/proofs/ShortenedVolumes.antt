@@ -6,15 +6,14 @@ use Rattle.std.specs.Cmp.Lexicographic.{pointwise}
 use Rattle.std.specs.List.{AllByRecursion as Each, range_with_len}
 use Rattle.std.proofs.lemmas.Nat.{mul-le}
 use Rattle.std.proofs.lemmas.Option.{same_Some}
+use Rattle.std.specs.Str.{bytes_eq}
 use Rattle.lvm_name.specs.Names.{is_among}
 use Rattle.meta_model.specs.Standing.{HasTree}
 use Rattle.meta_model.specs.declared.lv.Lv.{Lv}
 use Rattle.meta_print.proofs.GroupFrom.{printable}
 use Rattle.meta_print.proofs.NamesOfText.{pointwise_same}
 use Rattle.meta_print.proofs.Printable.{AreNames, IsPrintable}
-use Rattle.scan_rules.proofs.SameLists.{pointwise-same_bytes}
 use Rattle.scan_rules.proofs.Scanning.{same_bytes_tells}
-use Rattle.scan_rules.specs.Decision.{same_bytes}
 use Rattle.volume_rules.specs.Extents.{extents_of}
 use Rattle.volume_rules.specs.Rules.{IsAccepted}
 use Rattle.volume_view.proofs.PrimariesStand.{primary_stands}
@@ -58,7 +57,7 @@ module _ (name : List ℕ) (left : ℕ) (before : Version) (disk_of : List ℕ) 
   sectors lv = extents_of (shortened left lv) * before.group.extent_size
 
   -- a row, where it is known whether it has the name
-  row_after : (number : ℕ) (row : Row) (rows : List Row) (b : Bool) → same_bytes row.0 name ≡ b
+  row_after : (number : ℕ) (row : Row) (rows : List Row) (b : Bool) → bytes_eq row.0 name ≡ b
       → placed_from after number (map short (row ∷ rows))
       ≡ cond row.1.status.visible (record {
         id = row.1.id;
@@ -87,7 +86,7 @@ module _ (name : List ℕ) (left : ℕ) (before : Version) (disk_of : List ℕ) 
   module _ (accepted : IsAccepted before.group) (disks : KeepsDisks before after) (can : IsPrintable before.group) (v : ℕ × Lv)
       (found : visible_named before.group name ≡ Some v) (seen : v.1.status.visible ≡ true) where
     -- a row of another name has the same places
-    row_kept : (number : ℕ) (row : Row) (rows : List Row) → StandFrom before.group number (row ∷ rows) → same_bytes row.0 name ≡ false
+    row_kept : (number : ℕ) (row : Row) (rows : List Row) → StandFrom before.group number (row ∷ rows) → bytes_eq row.0 name ≡ false
         → placed_from after number (map short (row ∷ rows))
         ≡ cond row.1.status.visible (placed number row ∷ placed_from after (number + 1) (map short rows))
         (placed_from after (number + 1) (map short rows))
@@ -98,10 +97,10 @@ module _ (name : List ℕ) (left : ℕ) (before : Version) (disk_of : List ℕ) 
         ∙ ap (λ (l : List Place). cond row.1.status.visible (record { id = row.1.id; name = row.0; places = l } ∷ later) later)
         (places_kept before after accepted disks refl number number row row.1 there refl
         (λ sector at is. primary_others before.group name left v accepted can found seen number sector at
-        (λ r stands. subst (λ (x : Row). same_bytes x.0 name ≡ false) (same_Some row r (sym there ∙ stands)) other) is))
+        (λ r stands. subst (λ (x : Row). bytes_eq x.0 name ≡ false) (same_Some row r (sym there ∙ stands)) other) is))
 
     -- the volume has the places of its first sectors
-    places_cut : (number : ℕ) (row : Row) → slice_get before.group.lvs number ≡ Some row → same_bytes row.0 name ≡ true
+    places_cut : (number : ℕ) (row : Row) → slice_get before.group.lvs number ≡ Some row → bytes_eq row.0 name ≡ true
         → places_of after number (shortened left row.1) ≡ take (sectors row.1) (places_of before number row.1)
     places_cut number row there same =
         let size : ℕ = before.group.extent_size in
@@ -118,7 +117,7 @@ module _ (name : List ℕ) (left : ℕ) (before : Version) (disk_of : List ℕ) 
 
     -- rows of other names keep all
     others_kept : (number : ℕ) (rows : List Row) → StandFrom before.group number rows
-        → Each (λ (row : Row). same_bytes row.0 name ≡ false) rows
+        → Each (λ (row : Row). bytes_eq row.0 name ≡ false) rows
         → placed_from after number (map short rows) ≡ placed_from before number rows
     others_kept number [] stand other = refl
     others_kept number (row ∷ rows) stand other =
@@ -132,7 +131,7 @@ module _ (name : List ℕ) (left : ℕ) (before : Version) (disk_of : List ℕ) 
         → placed_from after number (map short rows) ≡ changed_named name (cut_to (sectors v.1)) (placed_from before number rows)
     shortened_from number [] taken stand is are = absurd cc
     shortened_from number (row ∷ rows) taken stand is are =
-        by row.1.status.visible (same_bytes row.0 name) refl refl is
+        by row.1.status.visible (bytes_eq row.0 name) refl refl is
         (λ made. shortened_from (number + 1) rows (row.0 ∷ taken) (rest_stand before.group number row rows stand) made are.2)
       where
         later : List PlacedVolume
@@ -145,14 +144,14 @@ module _ (name : List ℕ) (left : ℕ) (before : Version) (disk_of : List ℕ) 
         changed = changed_named name (cut_to (sectors v.1)) later
 
         -- the first volume of the placed ones, where it has this name or another one
-        first_named : (b : Bool) → same_bytes row.0 name ≡ b
+        first_named : (b : Bool) → bytes_eq row.0 name ≡ b
             → changed_named name (cut_to (sectors v.1)) (placed number row ∷ later)
             ≡ cond b (cut_to (sectors v.1) (placed number row) ∷ later) (placed number row ∷ changed)
         first_named b same =
             ap (λ (c : Bool). cond c (cut_to (sectors v.1) (placed number row) ∷ later) (placed number row ∷ changed))
-            (pointwise-same_bytes row.0 name ∙ same)
+            (same)
 
-        by : (visible same : Bool) → row.1.status.visible ≡ visible → same_bytes row.0 name ≡ same
+        by : (visible same : Bool) → row.1.status.visible ≡ visible → bytes_eq row.0 name ≡ same
             → cond (visible && same) (Some (number, row.1)) (visible_from (number + 1) name rows) ≡ Some v
             → (visible_from (number + 1) name rows ≡ Some v → later_after ≡ changed)
             → placed_from after number (map short (row ∷ rows))

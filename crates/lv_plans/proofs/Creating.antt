@@ -7,6 +7,7 @@ use Rattle.std.specs.Option.{option_and_then, option_map_or}
 use Rattle.std.specs.Ordering.{nat_cmp}
 use Rattle.std.proofs.lemmas.Bool.{eqb-true, ltb-false, ltb-true}
 use Rattle.std.proofs.lemmas.List.Elements.{All-from_recursion}
+use Rattle.std.specs.Str.{bytes_eq}
 use Rattle.sector_base.specs.declared.spans.Span.{Span}
 use Rattle.lvm_name.specs.Names.{is_among}
 use Rattle.command_table.specs.declared.command.NewVolume.{NewVolume}
@@ -26,7 +27,6 @@ use Rattle.extent_alloc.specs.Giving.{IsGiven, IsRequest}
 use Rattle.extent_alloc.specs.declared.part.Part.{Part}
 use Rattle.extent_alloc.specs.declared.part.PartRun.{PartRun}
 use Rattle.extent_alloc.specs.declared.request.Request.{Request}
-use Rattle.scan_rules.specs.Decision.{same_bytes}
 use Rattle.group_edits.proofs.FirstSectors.{Beginning, beginning, start_within}
 use Rattle.group_edits.proofs.GivenRuns.{given_may, given_some}
 use Rattle.group_edits.proofs.Inserted.{none_passes}
@@ -128,13 +128,13 @@ fresh_id state group id none =
     in
     let no_pv : (has_other_id group id ≡ false) × (has_pv_id group id ≡ false) =
     both_false (has_other_id group id) (has_pv_id group id) nowhere.0 in
-    let no_lv : (same_bytes group.id id ≡ false) × (has_lv_id group id ≡ false) =
-    both_false (same_bytes group.id id) (has_lv_id group id) no_pv.0 in
+    let no_lv : (bytes_eq group.id id ≡ false) × (has_lv_id group id ≡ false) =
+    both_false (bytes_eq group.id id) (has_lv_id group id) no_pv.0 in
     All-from_recursion (λ other. other ≢ id) (ids_of group) (
       not_same group.id id no_lv.0,
       each_both (λ other. other ≢ id) (map (λ (pv : List ℕ × Pv). pv.1.id) group.pvs) (map (λ (lv : List ℕ × Lv). lv.1.id) group.lvs)
-          (ids_differ (λ (pv : Pv). pv.id) id group.pvs (none_passes (λ (pv : List ℕ × Pv). same_bytes pv.1.id id) group.pvs no_pv.1))
-          (ids_differ (λ (lv : Lv). lv.id) id group.lvs (none_passes (λ (lv : List ℕ × Lv). same_bytes lv.1.id id) group.lvs no_lv.1)),
+          (ids_differ (λ (pv : Pv). pv.id) id group.pvs (none_passes (λ (pv : List ℕ × Pv). bytes_eq pv.1.id id) group.pvs no_pv.1))
+          (ids_differ (λ (lv : Lv). lv.id) id group.lvs (none_passes (λ (lv : List ℕ × Lv). bytes_eq lv.1.id id) group.lvs no_lv.1)),
     )
 
 -- the group may have the volume with what it is given, where the rows before the allocator's pass

@@ -7,6 +7,7 @@ use Rattle.std.proofs.lemmas.Bool.{false≢true}
 use Rattle.std.proofs.lemmas.List.{length-map}
 use Rattle.std.proofs.lemmas.Option.{same_Some}
 use Rattle.std.proofs.lemmas.List.Elements.{All-contains, All-from_recursion}
+use Rattle.std.specs.Str.{bytes_eq}
 use Rattle.sector_base.specs.declared.spans.Span.{Span}
 use Rattle.pv_header.specs.declared.header.PvHeader.{PvHeader}
 use Rattle.meta_model.specs.declared.group.Group.{Group}
@@ -14,7 +15,7 @@ use Rattle.meta_model.specs.declared.pv.Pv.{Pv}
 use Rattle.meta_model.specs.declared.segment.SegKind.{SegKind}
 use Rattle.volume_rules.specs.Rules.{IsAccepted}
 use Rattle.extent_alloc.specs.declared.part.Part.{Part}
-use Rattle.scan_rules.specs.Decision.{Reading, first_misplaced, is_misplaced, meets_area, same_bytes}
+use Rattle.scan_rules.specs.Decision.{Reading, first_misplaced, is_misplaced, meets_area}
 use Rattle.scan_rules.specs.Found.{is_this_misplaced}
 use Rattle.scan_rules.proofs.Scanning.{same_bytes_tells, same_bytes_to}
 use Rattle.vg_found.specs.declared.disk.Disk.{Disk}
@@ -46,7 +47,7 @@ module _ (group : Group) (pv : Row) (among : Contains group.pvs pv) where
   abbrev end : ℕ
   end = pv.1.pe_start + pv.1.pe_count * group.extent_size
 
-  own_ends : (reading : Reading) (header : PvHeader) → same_bytes pv.1.id header.id ≡ true
+  own_ends : (reading : Reading) (header : PvHeader) → bytes_eq pv.1.id header.id ≡ true
       → is_this_misplaced group.extent_size reading (pv_shape header) pv ≡ false → pv.1.pe_start < end → end ≤ reading.sectors
   own_ends reading header same placed some =
       ends_on pv.1.pe_start end reading.sectors (ltb pv.1.pe_start 8 || list_any (meets_area pv.1.pe_start end) (pv_shape header).areas)
@@ -54,7 +55,7 @@ module _ (group : Group) (pv : Row) (among : Contains group.pvs pv) where
 
   -- where the disk's header has its id
   here : (disk : Disk) (header : Option PvHeader) → header_on disk.contents ≡ header
-      → unwrap_or (option_map (λ (h : PvHeader). same_bytes h.id pv.1.id) header) false ≡ true → IsPlacedOn group (disk_shape disk)
+      → unwrap_or (option_map (λ (h : PvHeader). bytes_eq h.id pv.1.id) header) false ≡ true → IsPlacedOn group (disk_shape disk)
       → pv.1.pe_start < end → end ≤ disk.sectors
   here disk None there has placed some = absurd (false≢true has)
   here disk (Some header) there has placed some =

@@ -2,6 +2,7 @@
 use Rattle.std.specs.Prelude.{ℕ, Bool, if◌then◌else◌, nat_lt, Option, None, Some, List, [], ◌∷◌, length, codes, filter, map, sum_by}
 use Rattle.std.specs.List.{enumerate_from, position, range_with_len}
 use Rattle.std.specs.FinMap as map
+use Rattle.std.specs.Str.{bytes_eq}
 use Rattle.id_index.specs.Ids.{IdNumbers, pvs_by_id}
 use Rattle.extent_map.specs.FreeCount.{free_extents}
 use Rattle.meta_model.specs.declared.group.Group.{Group}
@@ -10,12 +11,11 @@ use Rattle.meta_model.specs.declared.pv.Pv.{Pv}
 use Rattle.meta_model.specs.declared.segment.Segment.{Segment}
 use Rattle.meta_model.specs.declared.segment.SegKind.{SegKind}
 use Rattle.meta_model.specs.declared.segment.SegKind.TheVariants.{Striped, Mirror}
-use Rattle.scan_rules.specs.Decision.{same_bytes}
 use Rattle.volume_rules.specs.Moving.{leads_to_pvmove}
 
 -- the number of the group's physical volume with this id, if it lists one
 abbrev pub number_with : Group → List ℕ → Option ℕ
-number_with group id = position (λ (pv : List ℕ × Pv). same_bytes pv.1.id id) group.pvs
+number_with group id = position (λ (pv : List ℕ × Pv). bytes_eq pv.1.id id) group.pvs
 
 -- the numbers of the physical volumes of a group by their ids, where there is a group
 abbrev pub numbers_in : Option Group → IdNumbers

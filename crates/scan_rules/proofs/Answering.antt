@@ -9,15 +9,16 @@ use Rattle.scan_rules.specs.declared.held.HeldCopy.{HeldCopy}
 use Rattle.scan_rules.specs.declared.readings.GroupCopy.{GroupCopy}
 use Rattle.scan_rules.specs.declared.readings.DiskRead.{DiskRead}
 use Rattle.std.specs.FinSet as set
+use Rattle.std.specs.Str.{bytes_eq}
 use Rattle.scan_rules.specs.declared.decision.Decided.{Decided}
 use Rattle.scan_rules.specs.declared.decision.ScanRefusal.{ScanRefusal}
 use Rattle.scan_rules.specs.Answers.{Denies, IsDecided, IsRefusedBy, answer_for, answer_with, answer_without, denial, denies_copy}
 use Rattle.scan_rules.specs.Answers.{first_answer, shape_denial}
 use Rattle.scan_rules.specs.Decision.{Conflict, DuplicatePv, Held, NoCopy, NoGroup, PvShape, Reading, ScanAnswer, Unsupported, best}
 use Rattle.scan_rules.specs.Decision.{conflict, copies, decide_scan, duplicates, first_duplicate, first_misplaced, found, found_with}
-use Rattle.scan_rules.specs.Decision.{ids_from, is_held, misshapen, misshapen_by, no_copy, refusals, same_bytes, sum_agrees, two_groups}
+use Rattle.scan_rules.specs.Decision.{ids_from, is_held, misshapen, misshapen_by, no_copy, refusals, sum_agrees, two_groups}
 use Rattle.scan_rules.specs.Decision.{unsupported}
-use Rattle.scan_rules.specs.Flat.{IsThat, all_held, held_copy, held_of, held_on, refused_on, strays_on}
+use Rattle.scan_rules.specs.Flat.{IsThat, all_held, held_copy, held_on, refused_on, strays_on}
 use Rattle.scan_rules.specs.Found.{missing_of, stale_on}
 use Rattle.scan_rules.specs.Readings.{AllAreOf, readings_of}
 use Rattle.scan_rules.proofs.FlatLists.{copies_are, ids_are, misplaced_are, missing_are, refusals_are, strays_are}
@@ -110,7 +111,7 @@ tests_with cs rs disks o =
     unwrap_or (option_map (λ (r : ℕ × CopyRefusal). Unsupported r.0) (find (λ (r : ℕ × CopyRefusal). sum_agrees r.1) rs))
     (unwrap_or (two_groups cs)
     (unwrap_or (option_and_then (λ (b : Held). option_map (λ (d : Held). Conflict b.disk d.disk b.group.seqno)
-    (find (λ (d : Held). d.group.seqno == b.group.seqno && not (same_bytes d.text b.text)) cs)) o)
+    (find (λ (d : Held). d.group.seqno == b.group.seqno && not (bytes_eq d.text b.text)) cs)) o)
     (unwrap_or (option_and_then (λ (b : Held). misshapen_by b disks) o) (unwrap_or (option_map (found_with disks) o) NoGroup))))
 
 with_best : (cs : List Held) (rs : List (ℕ × CopyRefusal)) (disks : List Reading) (b : Held) → best cs ≡ Some b

@@ -1,11 +1,11 @@
 -- The flat lists of what was read are those of the readings.
 use Rattle.std.proofs.Common.{◌≡◌, ℕ, zero, suc, ◌+◌, ◌<◌, Bool, true, false, not, ◌&&◌, ◌||◌, cond, List, [], ◌∷◌, ◌++◌, length, Option}
-use Rattle.std.proofs.Common.{Some, None, refl, sym, ap, subst, ◌∙◌, arith}
-use Rattle.std.specs.Prelude.{option_map, unwrap_or, find, filter, filter_map, map, slice_get}
+use Rattle.std.proofs.Common.{Some, None, refl, sym, ap, ◌∙◌, arith}
+use Rattle.std.specs.Prelude.{option_map, unwrap_or, filter, filter_map, map, slice_get}
 use Rattle.std.specs.Option.{option_and_then}
 use Rattle.std.specs.List.{AllByRecursion, cons_option, list_any, enumerate_from}
 use Rattle.std.proofs.lemmas.List.Elements.{filter_map-append}
-use Rattle.std.proofs.lemmas.Option.{slice_get-get_or}
+use Rattle.std.specs.Str.{bytes_eq}
 use Rattle.meta_model.specs.declared.group.Group.{Group}
 use Rattle.meta_model.specs.declared.pv.Pv.{Pv}
 use Rattle.scan_rules.specs.declared.copy_refusal.CopyRefusal.{CopyRefusal}
@@ -16,13 +16,13 @@ use Rattle.scan_rules.specs.declared.readings.AreaGives.TheVariants.{Nothing, Co
 use Rattle.scan_rules.specs.declared.readings.AreaRead.{AreaRead}
 use Rattle.scan_rules.specs.declared.readings.PvRead.{PvRead}
 use Rattle.scan_rules.specs.declared.readings.DiskRead.{DiskRead}
-use Rattle.scan_rules.specs.Decision.{AreaReading, HoldsNone, Area, Found, Held, Reading, SameAreas, SameHeaders, SamePv, copies_from}
+use Rattle.scan_rules.specs.Decision.{AreaReading, HoldsNone, Found, Held, Reading, SameAreas, SameHeaders, SamePv, copies_from}
 use Rattle.scan_rules.specs.Decision.{copy_of, first_misplaced, has_id, ids_from, is_listed, is_something, lists, readings_in, refusal_of}
-use Rattle.scan_rules.specs.Decision.{refusals_from, same_bytes}
+use Rattle.scan_rules.specs.Decision.{refusals_from}
 use Rattle.scan_rules.specs.Flat.{all_held, areas_on, held_by, held_copy, held_in, held_of, held_on, holds_something, is_given, is_stray}
 use Rattle.scan_rules.specs.Flat.{refused_by, refused_in, refused_on, strays_on}
 use Rattle.scan_rules.specs.Found.{missing_of}
-use Rattle.scan_rules.specs.Readings.{AreasAreOf, DiskIsOf, GivesAtMost, GivesOneOf, area_of, copied, found_of, gives_of, given_by}
+use Rattle.scan_rules.specs.Readings.{AreasAreOf, DiskIsOf, GivesAtMost, area_of, copied, found_of, gives_of, given_by}
 use Rattle.scan_rules.specs.Readings.{reading_of, readings_of}
 use Rattle.scan_rules.proofs.SameShape.{find_same, ids_same}
 
@@ -181,8 +181,8 @@ strays_are copies group first (disk ∷ disks) are =
 
 -- the ids that were found
 has_id_pv : (copies : List GroupCopy) (id : List ℕ) (pv : Option PvRead)
-    → unwrap_or (option_map (λ (x : Found). same_bytes x.id id) (option_map (found_of copies) pv)) false
-    ≡ unwrap_or (option_map (λ (x : Found). same_bytes x.id id) (option_map (found_of []) pv)) false
+    → unwrap_or (option_map (λ (x : Found). bytes_eq x.id id) (option_map (found_of copies) pv)) false
+    ≡ unwrap_or (option_map (λ (x : Found). bytes_eq x.id id) (option_map (found_of []) pv)) false
 has_id_pv copies id None = refl
 has_id_pv copies id (Some pv) = refl
 

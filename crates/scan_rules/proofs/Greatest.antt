@@ -1,5 +1,5 @@
 -- The best of the copies, from the last to the first.
-use Rattle.std.proofs.Common.{◌≡◌, ℕ, Bool, true, false, nat_le, cond, List, [], ◌∷◌, Option, Some, None, refl, sym, ap, subst, ◌∙◌}
+use Rattle.std.proofs.Common.{◌≡◌, ℕ, Bool, true, false, nat_le, cond, List, Option, Some, None, refl, sym, ap, ◌∙◌}
 use Rattle.std.specs.Prelude.{option_map, slice_get}
 use Rattle.std.specs.Option.{option_and_then}
 use Rattle.std.specs.List.{cons_option}
@@ -7,7 +7,7 @@ use Rattle.std.proofs.lemmas.Option.{same_Some}
 use Rattle.scan_rules.specs.declared.held.HeldCopy.{HeldCopy}
 use Rattle.scan_rules.specs.declared.readings.GroupCopy.{GroupCopy}
 use Rattle.scan_rules.specs.Decision.{Held, best, greater}
-use Rattle.scan_rules.specs.Flat.{IsThat, all_held, chosen, greater_of, held_copy, held_of, seqno_in}
+use Rattle.scan_rules.specs.Flat.{IsThat, chosen, greater_of, held_copy, held_of, seqno_in}
 
 abbrev after : Option Held → Option Held → Option Held
 after None later = later

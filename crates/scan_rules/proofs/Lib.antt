@@ -6,7 +6,6 @@ pub mod Members
 mod OlderCopies
 pub mod OnePv
 pub mod Repairs
-pub mod SameLists
 pub mod SameShape
 pub mod Scanning
 mod Silent

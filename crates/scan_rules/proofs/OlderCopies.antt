@@ -11,7 +11,7 @@ use Rattle.scan_rules.specs.declared.readings.PvRead.{PvRead}
 use Rattle.scan_rules.specs.declared.readings.DiskRead.{DiskRead}
 use Rattle.scan_rules.specs.Decision.{HoldsNone}
 use Rattle.scan_rules.specs.Found.{FewAreasOn, HasFewAreas}
-use Rattle.scan_rules.specs.Readings.{AllAreOf, AreasAreOf, DiskIsOf, GivesAtMost, area_of, copied, found_of, gives_of, reading_of}
+use Rattle.scan_rules.specs.Readings.{AllAreOf, AreasAreOf, DiskIsOf, GivesAtMost, area_of, copied, found_of, gives_of}
 use Rattle.scan_rules.specs.Readings.{readings_of}
 
 older_copy : (copies : List GroupCopy) (more : GroupCopy) (number : ℕ) → number < length copies

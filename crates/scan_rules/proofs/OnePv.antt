@@ -1,15 +1,14 @@
 -- At most one physical volume of a group has an id, so the first that has it decides.
-use Rattle.std.proofs.Common.{◌≡◌, ◌≢◌, ℕ, suc, ◌<◌, Bool, true, false, ◌&&◌, ◌||◌, cond, List, [], ◌∷◌, ◌++◌, length, Some, refl, sym, ap}
-use Rattle.std.proofs.Common.{subst, ◌∙◌, arith}
+use Rattle.std.proofs.Common.{◌≡◌, ◌≢◌, ℕ, suc, ◌<◌, Bool, true, false, ◌&&◌, ◌||◌, cond, List, [], ◌∷◌, ◌++◌, length, Some, refl, sym}
+use Rattle.std.proofs.Common.{subst, arith}
 use Rattle.std.specs.Prelude.{AllPairs, find, map, option_map, slice_index_or, unwrap_or}
 use Rattle.std.specs.List.{AllByRecursion, list_any}
+use Rattle.std.specs.Str.{bytes_eq}
 use Rattle.meta_model.specs.declared.group.Group.{Group}
 use Rattle.meta_model.specs.declared.lv.Lv.{Lv}
 use Rattle.meta_model.specs.declared.pv.Pv.{Pv}
 use Rattle.id_index.specs.Ids.{has_id, pv_with}
 use Rattle.volume_rules.specs.Rules.{IdsDiffer}
-use Rattle.scan_rules.specs.Decision.{same_bytes}
-use Rattle.scan_rules.proofs.SameLists.{pointwise-same_bytes}
 use Rattle.scan_rules.proofs.Scanning.{same_bytes_tells}
 
 -- none of the others has the id of one
@@ -41,13 +40,13 @@ pvs_differ group pairs =
 
 -- the physical volumes with an id for which this holds
 abbrev IsSo : List ℕ → (Pv → Bool) → List ℕ × Pv → Bool
-IsSo id test pv = same_bytes pv.1.id id && test pv.1
+IsSo id test pv = bytes_eq pv.1.id id && test pv.1
 
 none_so : (id : List ℕ) (test : Pv → Bool) (pvs : List (List ℕ × Pv)) → AllByRecursion (λ (other : List ℕ × Pv). id ≢ other.1.id) pvs
     → list_any (IsSo id test) pvs ≡ false
 none_so id test [] differ = refl
-none_so id test (pv ∷ pvs) differ = by (same_bytes pv.1.id id) refl (none_so id test pvs differ.1) where
-  by : (b : Bool) → same_bytes pv.1.id id ≡ b → list_any (IsSo id test) pvs ≡ false
+none_so id test (pv ∷ pvs) differ = by (bytes_eq pv.1.id id) refl (none_so id test pvs differ.1) where
+  by : (b : Bool) → bytes_eq pv.1.id id ≡ b → list_any (IsSo id test) pvs ≡ false
       → ((b && test pv.1) || list_any (IsSo id test) pvs) ≡ false
   by true same none = absurd (differ.0 (sym (same_bytes_tells pv.1.id id same)))
   by false other none = none
@@ -56,15 +55,13 @@ first_so : (id : List ℕ) (test : Pv → Bool) (pvs : List (List ℕ × Pv)) �
     → unwrap_or (option_map test (pv_with pvs id)) false ≡ list_any (IsSo id test) pvs
 first_so id test [] differ = refl
 first_so id test (pv ∷ pvs) differ =
-    ap (λ (b : Bool). unwrap_or (option_map test (option_map (λ (x : List ℕ × Pv). x.1) (cond b (Some pv) (find (has_id id) pvs)))) false)
-    (pointwise-same_bytes pv.1.id id)
-    ∙ by (same_bytes pv.1.id id) refl (first_so id test pvs differ.1)
+    by (bytes_eq pv.1.id id) refl (first_so id test pvs differ.1)
   where
     alone : (b later : Bool) → later ≡ false → b ≡ (b || later)
     alone true later none = refl
     alone false later none = sym none
 
-    by : (b : Bool) → same_bytes pv.1.id id ≡ b → unwrap_or (option_map test (pv_with pvs id)) false ≡ list_any (IsSo id test) pvs
+    by : (b : Bool) → bytes_eq pv.1.id id ≡ b → unwrap_or (option_map test (pv_with pvs id)) false ≡ list_any (IsSo id test) pvs
         → unwrap_or (option_map test (option_map (λ (x : List ℕ × Pv). x.1) (cond b (Some pv) (find (has_id id) pvs)))) false
         ≡ ((b && test pv.1) || list_any (IsSo id test) pvs)
     by true same later =
@@ -75,5 +72,5 @@ first_so id test (pv ∷ pvs) differ =
 
 pub first_decides : (group : Group) (id : List ℕ) (test : Pv → Bool) → IdsDiffer group
     → unwrap_or (option_map test (pv_with group.pvs id)) false
-    ≡ list_any (λ (pv : List ℕ × Pv). same_bytes pv.1.id id && test pv.1) group.pvs
+    ≡ list_any (λ (pv : List ℕ × Pv). bytes_eq pv.1.id id && test pv.1) group.pvs
 first_decides group id test differ = first_so id test group.pvs (pvs_differ group differ)

@@ -1,18 +1,19 @@
 -- The lists of a group that was found, member by member.
-use Rattle.std.proofs.Common.{◌≡◌, ◌≢◌, ◌↔◌, ℕ, zero, suc, ◌+◌, ◌⊎◌, Bool, true, false, not, ◌&&◌, ◌||◌, cond, List, [], ◌∷◌, Option, Some}
-use Rattle.std.proofs.Common.{None, inl, inr, ⊎_elim, refl, sym, ap, subst, ◌∙◌, arith}
+use Rattle.std.proofs.Common.{◌≡◌, ◌≢◌, ◌↔◌, ℕ, zero, suc, ◌⊎◌, Bool, true, false, not, ◌&&◌, ◌||◌, cond, List, [], ◌∷◌, Option, Some}
+use Rattle.std.proofs.Common.{None, inl, inr, ⊎_elim, refl, sym, ap, subst, ◌∙◌}
 use Rattle.std.specs.Prelude.{◌==◌, filter_map, find, map, option_map, slice_get, unwrap_or}
 use Rattle.std.specs.Option.{option_and_then}
 use Rattle.std.specs.List.{Contains, cons_option, enumerate_from, filter, list_any}
 use Rattle.std.proofs.lemmas.Bool.{and_parts, false≢true, or_cases, or_parts}
 use Rattle.std.proofs.lemmas.Option.{same_Some}
+use Rattle.std.specs.Str.{bytes_eq}
 use Rattle.meta_model.specs.declared.group.Group.{Group}
 use Rattle.meta_model.specs.declared.pv.Pv.{Pv}
 use Rattle.scan_rules.specs.declared.copy_refusal.CopyRefusal.{CopyRefusal}
 use Rattle.scan_rules.specs.Decision.{Area, AreaReading, Conflict, DuplicatePv, Found, FoundGroup, Held, NoCopy, NoGroup, PvShape, Reading}
 use Rattle.scan_rules.specs.Decision.{ScanAnswer, TwoGroups, Unsupported, best, conflict, copies, decide_scan, duplicates, first_misplaced}
 use Rattle.scan_rules.specs.Decision.{found, found_with, gives, has_id, is_held, is_listed, is_something, lists, misshapen, misshapen_by}
-use Rattle.scan_rules.specs.Decision.{no_copy, readings_in, refusals, same_bytes, stale_in, sum_agrees, two_groups, unsupported}
+use Rattle.scan_rules.specs.Decision.{no_copy, readings_in, refusals, sum_agrees, two_groups, unsupported}
 use Rattle.scan_rules.specs.Found.{is_missing, stale_if, stale_of, stale_on}
 use Rattle.scan_rules.specs.Laws.{IsMissing, IsStale, IsStray, given_in, pv_on}
 use Rattle.scan_rules.proofs.Members.{In, Numbered, Passing, flat_has, has_member, in_flat, in_kept, in_list, in_passing, kept_has}
@@ -77,14 +78,14 @@ unsupported_not (c ∷ cs) rs =
 two_groups_not : (cs : List Held) → NotFound (two_groups cs)
 two_groups_not [] = tt
 two_groups_not (c ∷ cs) =
-    mapped (λ (d : Held). TwoGroups c.group.id d.group.id) (find (λ (d : Held). not (same_bytes d.group.id c.group.id)) cs) (λ d. tt)
+    mapped (λ (d : Held). TwoGroups c.group.id d.group.id) (find (λ (d : Held). not (bytes_eq d.group.id c.group.id)) cs) (λ d. tt)
 
 conflict_not : (cs : List Held) → NotFound (conflict cs)
 conflict_not cs =
     chained (λ (b : Held). option_map (λ (d : Held). Conflict b.disk d.disk b.group.seqno)
-    (find (λ (d : Held). d.group.seqno == b.group.seqno && not (same_bytes d.text b.text)) cs)) (best cs) (λ b.
+    (find (λ (d : Held). d.group.seqno == b.group.seqno && not (bytes_eq d.text b.text)) cs)) (best cs) (λ b.
     mapped (λ (d : Held). Conflict b.disk d.disk b.group.seqno)
-    (find (λ (d : Held). d.group.seqno == b.group.seqno && not (same_bytes d.text b.text)) cs) (λ d. tt))
+    (find (λ (d : Held). d.group.seqno == b.group.seqno && not (bytes_eq d.text b.text)) cs) (λ d. tt))
 
 shape_not : (misplaced : Option ℕ) (held : Bool) (disk : ℕ)
     → NotFound (unwrap_or (option_map (λ (d : ℕ). Some (PvShape d)) misplaced) (cond held None (Some (PvShape disk))))
@@ -366,8 +367,8 @@ away : (id : List ℕ) (disks : List Reading) → list_any (has_id id) disks ≡
 away id [] none disk pv got = cc
 away id (d ∷ disks) none zero pv got =
     let parts = or_parts (has_id id d) (list_any (has_id id) disks) none in
-    let differ : same_bytes pv.id id ≡ false =
-    sym (ap (λ (o : Option Found). unwrap_or (option_map (λ (x : Found). same_bytes x.id id) o) false) got) ∙ parts.0 in
+    let differ : bytes_eq pv.id id ≡ false =
+    sym (ap (λ (o : Option Found). unwrap_or (option_map (λ (x : Found). bytes_eq x.id id) o) false) got) ∙ parts.0 in
     λ same. false≢true (sym differ ∙ same_bytes_to pv.id id same)
 away id (d ∷ disks) none (suc disk) pv got = away id disks (or_parts (has_id id d) (list_any (has_id id) disks) none).1 disk pv got
 
@@ -376,9 +377,9 @@ none_has_id id [] is_away = refl
 none_has_id id (d ∷ disks) is_away =
     ap (λ (b : Bool). b || list_any (has_id id) disks) (first d.pv refl) ∙ none_has_id id disks (λ disk. is_away (suc disk))
   where
-    first : (o : Option Found) → d.pv ≡ o → unwrap_or (option_map (λ (x : Found). same_bytes x.id id) o) false ≡ false
+    first : (o : Option Found) → d.pv ≡ o → unwrap_or (option_map (λ (x : Found). bytes_eq x.id id) o) false ≡ false
     first None e = refl
-    first (Some pv) e = is_false (same_bytes pv.id id) (λ same. is_away 0 pv e (same_bytes_tells pv.id id same))
+    first (Some pv) e = is_false (bytes_eq pv.id id) (λ same. is_away 0 pv e (same_bytes_tells pv.id id same))
 
 pub is_missing_id : (group : Group) (disks : List Reading) (id : List ℕ) → Contains (missing_from group disks) id → IsMissing group disks id
 is_missing_id group disks id has =

@@ -4,9 +4,10 @@ use Rattle.std.proofs.Common.{ap, ◌∙◌}
 use Rattle.std.specs.Prelude.{option_map, unwrap_or, find}
 use Rattle.std.specs.List.{list_any, enumerate_from}
 use Rattle.std.proofs.lemmas.Bool.{false≢true}
+use Rattle.std.specs.Str.{bytes_eq}
 use Rattle.meta_model.specs.declared.group.Group.{Group}
 use Rattle.meta_model.specs.declared.pv.Pv.{Pv}
-use Rattle.scan_rules.specs.Decision.{Area, Found, Reading, same_bytes, ids_from, first_duplicate, meets_area, has_misplaced, HasShape}
+use Rattle.scan_rules.specs.Decision.{Area, Found, Reading, ids_from, first_duplicate, meets_area, has_misplaced, HasShape}
 use Rattle.scan_rules.specs.Decision.{SameAreas, SamePv, SameHeaders}
 
 any_same : {X : Type 0} (f g : X → Bool) (xs : List X) → ((x : X) → f x ≡ g x) → list_any f xs ≡ list_any g xs
@@ -28,7 +29,7 @@ meets_same start end (a ∷ as') (b ∷ bs) same =
 -- one physical volume of the group on a disk
 abbrev bad : Group → ℕ → List ℕ → List Area → List ℕ × Pv → Bool
 bad group sectors id areas pv =
-    same_bytes pv.1.id id
+    bytes_eq pv.1.id id
     && (nat_lt pv.1.pe_start (pv.1.pe_start + pv.1.pe_count * group.extent_size)
     && (nat_lt sectors (pv.1.pe_start + pv.1.pe_count * group.extent_size)
     || (nat_lt pv.1.pe_start 8 || list_any (meets_area pv.1.pe_start (pv.1.pe_start + pv.1.pe_count * group.extent_size)) areas)))
@@ -40,7 +41,7 @@ bad_same group s t a b sectors id areas pv =
     ∙ ap (λ (i : List ℕ). bad group t i a.areas pv) id
     ∙ ap
     (λ (m : Bool).
-    same_bytes pv.1.id b.id
+    bytes_eq pv.1.id b.id
     && (nat_lt pv.1.pe_start (pv.1.pe_start + pv.1.pe_count * group.extent_size)
     && (nat_lt t (pv.1.pe_start + pv.1.pe_count * group.extent_size) || (nat_lt pv.1.pe_start 8 || m))))
     (meets_same pv.1.pe_start (pv.1.pe_start + pv.1.pe_count * group.extent_size) a.areas b.areas areas)

@@ -6,26 +6,27 @@ use Rattle.std.specs.Option.{option_and_then}
 use Rattle.std.specs.List.{AllByRecursion, list_any}
 use Rattle.std.proofs.lemmas.Bool.{and_parts, or_cases, leb-true, le-leb, eqb-true, eq-eqb, false≢true}
 use Rattle.std.proofs.lemmas.Option.{same_Some}
+use Rattle.std.specs.Str.{bytes_eq}
 use Rattle.meta_model.specs.declared.group.Group.{Group}
 use Rattle.scan_rules.specs.declared.copy_refusal.CopyRefusal.{CopyRefusal}
 use Rattle.scan_rules.specs.Decision.{sum_agrees, AreaReading, HoldsNone, Copy, Refused, Reading, Held, ScanAnswer, DuplicatePv}
-use Rattle.scan_rules.specs.Decision.{Unsupported, TwoGroups, Conflict, PvShape, NoGroup, same_bytes, copy_of, refusal_of, readings_in}
+use Rattle.scan_rules.specs.Decision.{Unsupported, TwoGroups, Conflict, PvShape, NoGroup, copy_of, refusal_of, readings_in}
 use Rattle.scan_rules.specs.Decision.{copies_from, refusals_from, copies, refusals, greater, best, is_listed, duplicates, no_copy}
 use Rattle.scan_rules.specs.Decision.{unsupported, two_groups, conflict, gives, holds, first_misplaced, is_held, misshapen_by, misshapen}
 use Rattle.scan_rules.specs.Decision.{found, found_with, decide_scan, group_found, GivesNoLater, EachArea, GivesVersion, HasShape}
 
-pub same_bytes_to : (xs ys : List ℕ) → xs ≡ ys → same_bytes xs ys ≡ true
-same_bytes_to xs ys same = subst (λ (l : List ℕ). same_bytes xs l ≡ true) same (itself xs) where
-  itself : (l : List ℕ) → same_bytes l l ≡ true
+pub same_bytes_to : (xs ys : List ℕ) → xs ≡ ys → bytes_eq xs ys ≡ true
+same_bytes_to xs ys same = subst (λ (l : List ℕ). bytes_eq xs l ≡ true) same (itself xs) where
+  itself : (l : List ℕ) → bytes_eq l l ≡ true
   itself [] = refl
-  itself (x ∷ l) = ap (λ (b : Bool). b && same_bytes l l) (eq-eqb x x refl) ∙ itself l
+  itself (x ∷ l) = ap (λ (b : Bool). b && bytes_eq l l) (eq-eqb x x refl) ∙ itself l
 
-pub same_bytes_tells : (xs ys : List ℕ) → same_bytes xs ys ≡ true → xs ≡ ys
+pub same_bytes_tells : (xs ys : List ℕ) → bytes_eq xs ys ≡ true → xs ≡ ys
 same_bytes_tells [] [] is = refl
 same_bytes_tells [] (y ∷ ys) is = absurd (false≢true is)
 same_bytes_tells (x ∷ xs) [] is = absurd (false≢true is)
 same_bytes_tells (x ∷ xs) (y ∷ ys) is =
-    let parts = and_parts (x == y) (same_bytes xs ys) is in
+    let parts = and_parts (x == y) (bytes_eq xs ys) is in
     ap (λ (n : ℕ). n ∷ xs) (eqb-true x y parts.0) ∙ ap (λ (l : List ℕ). y ∷ l) (same_bytes_tells xs ys parts.1)
 
 -- nothing is found where nothing passes
@@ -125,8 +126,8 @@ one_group : (group : Group) (text : List ℕ) (cs : List Held) → AllByRecursio
 one_group group text [] all = refl
 one_group group text (c ∷ cs) all =
     ap (λ (o : Option Held). option_map (λ (d : Held). TwoGroups c.group.id d.group.id) o)
-    (find_none (λ (d : Held). not (same_bytes d.group.id c.group.id)) cs
-    (all_weaker (IsNoLater group text) (λ d. not (same_bytes d.group.id c.group.id) ≡ false) cs
+    (find_none (λ (d : Held). not (bytes_eq d.group.id c.group.id)) cs
+    (all_weaker (IsNoLater group text) (λ d. not (bytes_eq d.group.id c.group.id) ≡ false) cs
     (λ d is. ap not (same_bytes_to d.group.id c.group.id (is.0 ∙ sym all.0.0))) all.1))
 
 -- no two of the greatest differ
@@ -139,7 +140,7 @@ is_false true not_true = absurd (not_true refl)
 is_false false not_true = refl
 
 agrees : (group : Group) (text : List ℕ) (b c : Held) → Is group text b → IsNoLater group text c
-    → (c.group.seqno == b.group.seqno && not (same_bytes c.text b.text)) ≡ false
+    → (c.group.seqno == b.group.seqno && not (bytes_eq c.text b.text)) ≡ false
 agrees group text b c it (id, inl is) =
     ap (λ (t : Bool). c.group.seqno == b.group.seqno && not t) (same_bytes_to c.text b.text (is.1 ∙ sym it.1))
     ∙ and_false (c.group.seqno == b.group.seqno)
@@ -147,18 +148,18 @@ agrees group text b c it (id, inr earlier) =
     let e = ap (λ (g : Group). g.seqno) it.0 in
     let differ : (c.group.seqno == b.group.seqno) ≡ false =
     is_false (c.group.seqno == b.group.seqno) (λ same. let h = eqb-true c.group.seqno b.group.seqno same in absurd (omega arith)) in
-    ap (λ (t : Bool). t && not (same_bytes c.text b.text)) differ
+    ap (λ (t : Bool). t && not (bytes_eq c.text b.text)) differ
 
 no_conflict : (group : Group) (text : List ℕ) (cs : List Held) → AllByRecursion (IsNoLater group text) cs → BestIs group text cs
     → conflict cs ≡ None
 no_conflict group text cs all b =
     let of_best : Option Held → Option ScanAnswer =
     λ o. option_and_then (λ (x : Held). option_map (λ (d : Held). Conflict x.disk d.disk x.group.seqno)
-    (find (λ (d : Held). d.group.seqno == x.group.seqno && not (same_bytes d.text x.text)) cs)) o in
+    (find (λ (d : Held). d.group.seqno == x.group.seqno && not (bytes_eq d.text x.text)) cs)) o in
     ap of_best b.1
     ∙ ap (λ (o : Option Held). option_map (λ (d : Held). Conflict b.0.disk d.disk b.0.group.seqno) o)
-    (find_none (λ (d : Held). d.group.seqno == b.0.group.seqno && not (same_bytes d.text b.0.text)) cs
-    (all_weaker (IsNoLater group text) (λ d. (d.group.seqno == b.0.group.seqno && not (same_bytes d.text b.0.text)) ≡ false) cs
+    (find_none (λ (d : Held). d.group.seqno == b.0.group.seqno && not (bytes_eq d.text b.0.text)) cs
+    (all_weaker (IsNoLater group text) (λ d. (d.group.seqno == b.0.group.seqno && not (bytes_eq d.text b.0.text)) ≡ false) cs
     (λ d is. agrees group text b.0 d b.2 is) all))
 
 -- the copies of areas that give nothing later
@@ -196,7 +197,7 @@ all_refusals group text disk (d ∷ disks) all =
 -- a disk that holds the text has the copy
 has_here : (group : Group) (text : List ℕ) (disk : ℕ) (other : Group) (others : List ℕ) (passed : List (List ℕ)) (rs : List AreaReading)
     → (((other ≡ group) × (others ≡ text)) ⊎ ((other.seqno < group.seqno) × (others ≢ text)))
-    → (same_bytes others text ≡ true) ⊎ (list_any (gives text) rs ≡ true)
+    → (bytes_eq others text ≡ true) ⊎ (list_any (gives text) rs ≡ true)
     → (list_any (gives text) rs ≡ true → Has group text (filter_map (copy_of disk) rs))
     → Has group text (filter_map (copy_of disk) (Copy other others passed ∷ rs))
 has_here group text disk other others passed rs (inl it) any later = inl it
@@ -209,7 +210,7 @@ area_has group text disk [] all any = absurd (false≢true any)
 area_has group text disk (HoldsNone ∷ rs) all any = area_has group text disk rs all.1 any
 area_has group text disk (Refused why ∷ rs) all any = area_has group text disk rs all.1 any
 area_has group text disk (Copy other others passed ∷ rs) all any =
-    has_here group text disk other others passed rs all.0.1 (or_cases (same_bytes others text) (list_any (gives text) rs) any)
+    has_here group text disk other others passed rs all.0.1 (or_cases (bytes_eq others text) (list_any (gives text) rs) any)
     (area_has group text disk rs all.1)
 
 disks_have : (group : Group) (text : List ℕ) (disk : ℕ) (disks : List Reading) → EachArea (GivesNoLater group text) disks

@@ -3,13 +3,14 @@ use Rattle.std.proofs.Common.{◌≡◌, ℕ, ◌+◌, Bool, true, false, not, �
 use Rattle.std.specs.Prelude.{filter, filter_map, find, map, option_map, unwrap_or}
 use Rattle.std.specs.Option.{option_and_then}
 use Rattle.std.specs.List.{cons_option, enumerate_from, flat_map, list_any}
+use Rattle.std.specs.Str.{bytes_eq}
 use Rattle.meta_model.specs.declared.group.Group.{Group}
 use Rattle.meta_model.specs.declared.pv.Pv.{Pv}
 use Rattle.scan_rules.specs.declared.copy_refusal.CopyRefusal.{CopyRefusal}
 use Rattle.scan_rules.specs.Decision.{Area, AreaReading, DuplicatePv, Found, FoundGroup, Held, NoGroup, PvShape, Reading, ScanAnswer, best}
 use Rattle.scan_rules.specs.Decision.{conflict, copies, copies_from, copy_of, decide_scan, first_duplicate, first_misplaced, found_with}
 use Rattle.scan_rules.specs.Decision.{has_id, has_misplaced, holds, ids_from, is_held, is_listed, is_something, lists, misshapen_by}
-use Rattle.scan_rules.specs.Decision.{no_copy, readings_in, refusal_of, refusals, refusals_from, same_bytes, stale_in, two_groups}
+use Rattle.scan_rules.specs.Decision.{no_copy, readings_in, refusal_of, refusals, refusals_from, stale_in, two_groups}
 use Rattle.scan_rules.specs.Decision.{unsupported}
 use Rattle.scan_rules.specs.Found.{is_this_misplaced, stale_of, stale_on}
 
@@ -99,7 +100,7 @@ found_silent disk none disks b =
     ≡ filter_map (stray_if b.group) (enumerate_from 0 disks) =
     kept_silent (stray_if b.group) disk (no_stray b.group disk none) 0 disks in
     let known : (id : List ℕ) → list_any (has_id id) (disks ++ disk ∷ []) ≡ list_any (has_id id) disks =
-    λ id. any_silent (has_id id) disk (ap (λ (o : Option Found). unwrap_or (option_map (λ (pv : Found). same_bytes pv.id id) o) false) none)
+    λ id. any_silent (has_id id) disk (ap (λ (o : Option Found). unwrap_or (option_map (λ (pv : Found). bytes_eq pv.id id) o) false) none)
     disks in
     λ i. FoundGroup b (stale i) (strays i) (map (λ (pv : List ℕ × Pv). pv.1.id)
     (filter (λ (pv : List ℕ × Pv). pv.1.missing || not (known pv.1.id i)) b.group.pvs))

@@ -7,6 +7,7 @@ use Rattle.std.specs.List.{cons_option, list_any}
 use Rattle.std.proofs.lemmas.Option.{same_Some}
 use Rattle.std.proofs.lemmas.Bool.{false≢true}
 use Rattle.std.proofs.lemmas.List.Elements.{filter_map-append}
+use Rattle.std.specs.Str.{bytes_eq}
 use Rattle.sector_base.proofs.Walks.{next_got}
 use Rattle.meta_model.specs.declared.pv.Pv.{Pv}
 use Rattle.scan_rules.specs.declared.copy_refusal.CopyRefusal.{CopyRefusal}
@@ -17,7 +18,7 @@ use Rattle.scan_rules.specs.declared.readings.AreaGives.TheVariants.{Nothing, Co
 use Rattle.scan_rules.specs.declared.readings.AreaRead.{AreaRead}
 use Rattle.scan_rules.specs.declared.readings.DiskRead.{DiskRead}
 use Rattle.scan_rules.specs.Answers.{denies_copy, denying_disk, unsupported_among}
-use Rattle.scan_rules.specs.Decision.{Held, TwoGroups, best, same_bytes, sum_agrees, two_groups}
+use Rattle.scan_rules.specs.Decision.{Held, TwoGroups, best, sum_agrees, two_groups}
 use Rattle.scan_rules.specs.Flat.{IsThat, all_held, areas_on, greater_of, held_copy, held_of, id_in, is_unsupported, is_unsupported_by}
 use Rattle.scan_rules.specs.Flat.{other_among, other_of, refused_by, refused_in, refused_on}
 use Rattle.id_index.specs.Ids.{IdNumbers}
@@ -90,7 +91,7 @@ first_at disk None id rest is = cc
 first_at disk (Some copy) id rest is =
     let e : id ≡ copy.group.id = same_Some id copy.group.id is in
     map_twice (λ (other : List ℕ). TwoGroups copy.group.id other) (λ (d : Held). d.group.id)
-    (find (λ (d : Held). not (same_bytes d.group.id copy.group.id)) rest)
+    (find (λ (d : Held). not (bytes_eq d.group.id copy.group.id)) rest)
     ∙ map_twice (λ (ids : List ℕ × List ℕ). TwoGroups ids.0 ids.1) (λ (other : List ℕ). (copy.group.id, other))
     (other_among copy.group.id rest)
     ∙ ap (λ (x : List ℕ). option_map (λ (ids : List ℕ × List ℕ). TwoGroups ids.0 ids.1)
@@ -113,10 +114,10 @@ none_here copies one rest is = none_at one.disk (slice_get copies one.number) (a
 other_at : (disk : ℕ) (o : Option GroupCopy) (id other : List ℕ) (rest : List Held) → Some other ≡ option_and_then (other_of id) (id_held o)
     → other_among id (cons_option (option_map (held_copy disk) o) rest) ≡ Some other
 other_at disk None id other rest is = cc
-other_at disk (Some copy) id other rest is = of (not (same_bytes copy.group.id id)) is where
+other_at disk (Some copy) id other rest is = of (not (bytes_eq copy.group.id id)) is where
   of : (b : Bool) → Some other ≡ cond b (Some copy.group.id) None
       → option_map (λ (d : Held). d.group.id) (cond b (Some (held_copy disk copy))
-      (find (λ (d : Held). not (same_bytes d.group.id id)) rest)) ≡ Some other
+      (find (λ (d : Held). not (bytes_eq d.group.id id)) rest)) ≡ Some other
   of true is = sym is
   of false is = cc
 
@@ -128,10 +129,10 @@ other_here copies one id other rest is = other_at one.disk (slice_get copies one
 same_at : (disk : ℕ) (o : Option GroupCopy) (id : List ℕ) (rest : List Held) → None ≡ option_and_then (other_of id) (id_held o)
     → other_among id (cons_option (option_map (held_copy disk) o) rest) ≡ other_among id rest
 same_at disk None id rest is = refl
-same_at disk (Some copy) id rest is = of (not (same_bytes copy.group.id id)) is where
+same_at disk (Some copy) id rest is = of (not (bytes_eq copy.group.id id)) is where
   of : (b : Bool) → None ≡ cond b (Some copy.group.id) None
       → option_map (λ (d : Held). d.group.id) (cond b (Some (held_copy disk copy))
-      (find (λ (d : Held). not (same_bytes d.group.id id)) rest)) ≡ other_among id rest
+      (find (λ (d : Held). not (bytes_eq d.group.id id)) rest)) ≡ other_among id rest
   of true is = cc
   of false is = refl
 

@@ -2,8 +2,9 @@
 use Rattle.std.specs.Prelude.{◌≡◌, ◌≢◌, ℕ, Bool, true, false, ◌&&◌, ◌==◌, not, Option, None, Some, List, [], find, option_map, unwrap_or}
 use Rattle.std.specs.Prelude.{slice_get}
 use Rattle.std.specs.FinSet as set
-use Rattle.scan_rules.specs.Decision.{Held, Reading, ScanAnswer, DuplicatePv, NoCopy, Unsupported, TwoGroups, Conflict, PvShape, NoGroup}
-use Rattle.scan_rules.specs.Decision.{FoundGroup, first_misplaced, found_with, is_held, no_copy, same_bytes, sum_agrees, two_groups}
+use Rattle.std.specs.Str.{bytes_eq}
+use Rattle.scan_rules.specs.Decision.{Held, ScanAnswer, DuplicatePv, NoCopy, Unsupported, TwoGroups, Conflict, PvShape, NoGroup}
+use Rattle.scan_rules.specs.Decision.{FoundGroup, first_misplaced, found_with, is_held, no_copy, sum_agrees, two_groups}
 use Rattle.scan_rules.specs.declared.held.HeldCopy.{HeldCopy}
 use Rattle.scan_rules.specs.declared.readings.DiskRead.{DiskRead}
 use Rattle.scan_rules.specs.Flat.{all_held, held_copy, refused_on}
@@ -56,7 +57,7 @@ unsupported_disk disks = unsupported_among (refused_on 0 disks)
 
 -- whether a copy has the same sequence number and another text
 abbrev pub denies_copy : GroupCopy → Held → Bool
-denies_copy copy other = other.group.seqno == copy.group.seqno && not (same_bytes other.text copy.text)
+denies_copy copy other = other.group.seqno == copy.group.seqno && not (bytes_eq other.text copy.text)
 
 -- the first disk with one that does
 abbrev pub denying_disk : GroupCopy → List Held → Option ℕ

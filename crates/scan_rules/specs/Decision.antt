@@ -3,6 +3,7 @@ use Rattle.std.specs.Prelude.{◌≡◌, ◌≢◌, ◌<◌, ◌⊎◌, ℕ, ◌
 use Rattle.std.specs.Prelude.{Option, None, Some, List, [], ◌∷◌, ◌++◌, map, filter, filter_map, find, option_map, unwrap_or}
 use Rattle.std.specs.Option.{option_and_then}
 use Rattle.std.specs.List.{AllByRecursion, enumerate_from, flat_map, list_any}
+use Rattle.std.specs.Str.{bytes_eq}
 use Rattle.meta_model.specs.declared.group.Group.{Group}
 use Rattle.meta_model.specs.declared.pv.Pv.{Pv}
 use Rattle.scan_rules.specs.declared.copy_refusal.CopyRefusal.{CopyRefusal}
@@ -57,13 +58,6 @@ pub data ScanAnswer : Type 0 where
   -- the copy, the stale areas by disk and number, the strays, and the ids that are missing
   FoundGroup : Held → List (ℕ × ℕ) → List ℕ → List (List ℕ) → ScanAnswer
 
--- whether two texts, or two ids, are the same
-abbrev pub same_bytes : List ℕ → List ℕ → Bool
-same_bytes [] [] = true
-same_bytes [] (y ∷ ys) = false
-same_bytes (x ∷ xs) [] = false
-same_bytes (x ∷ xs) (y ∷ ys) = x == y && same_bytes xs ys
-
 -- the copy that an area of this disk gives, if it gives one
 abbrev pub copy_of : ℕ → AreaReading → Option Held
 copy_of disk HoldsNone = None
@@ -108,7 +102,7 @@ ids_from disk (reading ∷ more) =
 abbrev pub first_duplicate : List (ℕ × List ℕ) → Option (ℕ × ℕ)
 first_duplicate [] = None
 first_duplicate (one ∷ more) =
-    unwrap_or (option_map (λ (other : ℕ × List ℕ). Some (one.0, other.0)) (find (λ (other : ℕ × List ℕ). same_bytes one.1 other.1) more))
+    unwrap_or (option_map (λ (other : ℕ × List ℕ). Some (one.0, other.0)) (find (λ (other : ℕ × List ℕ). bytes_eq one.1 other.1) more))
     (first_duplicate more)
 
 -- the first of the copies with the greatest sequence number
@@ -123,7 +117,7 @@ best (copy ∷ more) = Some (greater copy (best more))
 
 -- whether the group lists a physical volume with this id
 abbrev pub lists : Group → List ℕ → Bool
-lists group id = list_any (λ (pv : List ℕ × Pv). same_bytes pv.1.id id) group.pvs
+lists group id = list_any (λ (pv : List ℕ × Pv). bytes_eq pv.1.id id) group.pvs
 
 -- whether it lists the physical volume on the disk
 abbrev pub is_listed : Group → Reading → Bool
@@ -144,7 +138,7 @@ has_misplaced group disk =
     unwrap_or
     (option_map
     (λ (found : Found).
-    list_any (λ (pv : List ℕ × Pv). same_bytes pv.1.id found.id
+    list_any (λ (pv : List ℕ × Pv). bytes_eq pv.1.id found.id
     && is_misplaced pv.1.pe_start (pv.1.pe_start + pv.1.pe_count * group.extent_size) disk found) group.pvs)
     disk.pv)
     false
@@ -170,7 +164,7 @@ unsupported (c ∷ cs) rs = option_map (λ (r : ℕ × CopyRefusal). Unsupported
 abbrev pub two_groups : List Held → Option ScanAnswer
 two_groups [] = None
 two_groups (c ∷ cs) =
-    option_map (λ (d : Held). TwoGroups c.group.id d.group.id) (find (λ (d : Held). not (same_bytes d.group.id c.group.id)) cs)
+    option_map (λ (d : Held). TwoGroups c.group.id d.group.id) (find (λ (d : Held). not (bytes_eq d.group.id c.group.id)) cs)
 
 -- two copies with the greatest sequence number whose texts differ
 abbrev pub conflict : List Held → Option ScanAnswer
@@ -178,7 +172,7 @@ conflict cs =
     option_and_then
     (λ (b : Held).
     option_map (λ (d : Held). Conflict b.disk d.disk b.group.seqno)
-    (find (λ (d : Held). d.group.seqno == b.group.seqno && not (same_bytes d.text b.text)) cs))
+    (find (λ (d : Held). d.group.seqno == b.group.seqno && not (bytes_eq d.text b.text)) cs))
     (best cs)
 
 -- the disks, numbered
@@ -188,7 +182,7 @@ numbered disks = enumerate_from 0 disks
 -- whether an area reads as a copy with this text
 abbrev pub gives : List ℕ → AreaReading → Bool
 gives text HoldsNone = false
-gives text (Copy group other passed) = same_bytes other text
+gives text (Copy group other passed) = bytes_eq other text
 gives text (Refused why) = false
 
 -- whether an area of the disk that isn't ignored gives it
@@ -234,7 +228,7 @@ is_something (Refused why) = true
 
 -- whether the disk has the physical volume with this id
 abbrev pub has_id : List ℕ → Reading → Bool
-has_id id disk = unwrap_or (option_map (λ (pv : Found). same_bytes pv.id id) disk.pv) false
+has_id id disk = unwrap_or (option_map (λ (pv : Found). bytes_eq pv.id id) disk.pv) false
 
 -- what is found with this copy: stale areas of listed disks, strays, and physical volumes that are missing
 abbrev pub found_with : List Reading → Held → ScanAnswer

@@ -3,6 +3,7 @@ use Rattle.std.specs.Prelude.{◌≡◌, ℕ, ◌+◌, Bool, true, false, ◌&&�
 use Rattle.std.specs.Prelude.{option_map, unwrap_or, slice_get, nat_le, if◌then◌else◌}
 use Rattle.std.specs.Option.{option_and_then}
 use Rattle.std.specs.List.{list_any}
+use Rattle.std.specs.Str.{bytes_eq}
 use Rattle.scan_rules.specs.declared.copy_refusal.CopyRefusal.{CopyRefusal}
 use Rattle.scan_rules.specs.declared.held.HeldCopy.{HeldCopy}
 use Rattle.scan_rules.specs.declared.readings.GroupCopy.{GroupCopy}
@@ -12,7 +13,7 @@ use Rattle.scan_rules.specs.declared.readings.AreaRead.{AreaRead}
 use Rattle.scan_rules.specs.declared.readings.PvRead.{PvRead}
 use Rattle.scan_rules.specs.declared.readings.DiskRead.{DiskRead}
 use Rattle.meta_model.specs.declared.group.Group.{Group}
-use Rattle.scan_rules.specs.Decision.{Held, best, is_listed, same_bytes, sum_agrees}
+use Rattle.scan_rules.specs.Decision.{Held, is_listed, sum_agrees}
 use Rattle.scan_rules.specs.Readings.{reading_of}
 
 -- the areas of a disk
@@ -104,11 +105,11 @@ id_in copies held = option_map (λ (copy : GroupCopy). copy.group.id) (slice_get
 
 -- an id, where it is another, and the first such id
 abbrev pub other_of : List ℕ → List ℕ → Option (List ℕ)
-other_of id other = if not (same_bytes other id) then Some other else None
+other_of id other = if not (bytes_eq other id) then Some other else None
 
 -- the id of the first copy of another group
 abbrev pub other_among : List ℕ → List Held → Option (List ℕ)
-other_among id cs = option_map (λ (d : Held). d.group.id) (find (λ (d : Held). not (same_bytes d.group.id id)) cs)
+other_among id cs = option_map (λ (d : Held). d.group.id) (find (λ (d : Held). not (bytes_eq d.group.id id)) cs)
 
 -- the one of two with the greater sequence number, the first where both have one
 abbrev pub chosen : HeldCopy → Option HeldCopy → Option ℕ → Option ℕ → Option HeldCopy

@@ -4,18 +4,19 @@ use Rattle.std.specs.Prelude.{filter_map, find, option_map, if◌then◌else◌}
 use Rattle.std.specs.Option.{option_and_then}
 use Rattle.std.specs.List.{enumerate_from, flat_map, list_any}
 use Rattle.std.specs.FinMap as map
+use Rattle.std.specs.Str.{bytes_eq}
 use Rattle.id_index.specs.Ids.{IdNumbers}
 use Rattle.meta_model.specs.declared.group.Group.{Group}
 use Rattle.meta_model.specs.declared.pv.Pv.{Pv}
 use Rattle.scan_rules.specs.declared.readings.DiskRead.{DiskRead}
 use Rattle.scan_rules.specs.declared.readings.PvRead.{PvRead}
-use Rattle.scan_rules.specs.Decision.{Area, AreaReading, Found, Reading, gives, has_id, has_misplaced, is_listed, is_misplaced, same_bytes}
+use Rattle.scan_rules.specs.Decision.{Area, AreaReading, Found, Reading, gives, has_id, has_misplaced, is_listed, is_misplaced}
 use Rattle.scan_rules.specs.Decision.{stale_in}
 
 -- whether a physical volume of the group is this one, and doesn't lie well on the disk
 abbrev pub is_this_misplaced : ℕ → Reading → Found → List ℕ × Pv → Bool
 is_this_misplaced extent_size disk found pv =
-    same_bytes pv.1.id found.id && is_misplaced pv.1.pe_start (pv.1.pe_start + pv.1.pe_count * extent_size) disk found
+    bytes_eq pv.1.id found.id && is_misplaced pv.1.pe_start (pv.1.pe_start + pv.1.pe_count * extent_size) disk found
 
 -- the first disk on which one doesn't lie well, where the first has this number
 abbrev pub misplaced_from : Group → ℕ → List Reading → Option ℕ

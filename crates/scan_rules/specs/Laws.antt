@@ -5,7 +5,7 @@ use Rattle.std.specs.Option.{option_and_then}
 use Rattle.meta_model.specs.declared.group.Group.{Group}
 use Rattle.meta_model.specs.declared.pv.Pv.{Pv}
 use Rattle.scan_rules.specs.Decision.{Area, AreaReading, EachArea, Found, FoundGroup, GivesVersion, HasShape, Held, Reading, SameHeaders}
-use Rattle.scan_rules.specs.Decision.{ScanAnswer, decide_scan, gives, group_found, is_held, is_something, lists}
+use Rattle.scan_rules.specs.Decision.{decide_scan, gives, group_found, is_held, is_something, lists}
 
 -- between a version of a group and the next, the next is found where a listed volume holds it
 abbrev pub ScansFindNew : Type 0

@@ -1,5 +1,5 @@
 -- What was read of the disks, as the readings that a scan decides over: each area with the copy itself in place of its number.
-use Rattle.std.specs.Prelude.{◌<◌, ◌≤◌, ◌^◌, ℕ, Option, None, Some, List, [], ◌∷◌, length, map, filter_map, option_map, unwrap_or}
+use Rattle.std.specs.Prelude.{◌<◌, ◌≤◌, ◌^◌, ℕ, Option, None, Some, List, length, map, filter_map, option_map, unwrap_or}
 use Rattle.std.specs.Prelude.{slice_get}
 use Rattle.std.specs.List.{AllByRecursion}
 use Rattle.scan_rules.specs.declared.readings.GroupCopy.{GroupCopy}

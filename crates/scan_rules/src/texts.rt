@@ -1,8 +1,9 @@
 //! Which areas hold the copy that is in force.
 ghost use Rattle.std.specs.Prelude.{◌≡◌, ◌&&◌, Some, false, option_map, unwrap_or, slice_get};
 ghost use Rattle.std.specs.List.{list_any};
+ghost use Rattle.std.specs.Str.{bytes_eq};
 ghost use Rattle.scan_rules.specs.Answers.{denies_copy, denying_disk};
-ghost use Rattle.scan_rules.specs.Decision.{gives, holds, is_held, is_listed, same_bytes};
+ghost use Rattle.scan_rules.specs.Decision.{gives, holds, is_held, is_listed};
 ghost use Rattle.scan_rules.specs.Flat.{all_held, held_of};
 ghost use Rattle.scan_rules.specs.Readings.{given_by, gives_of, reading_of, readings_of};
 
@@ -16,7 +17,7 @@ use id_index::Members;
 fn has_text(copies: &[GroupCopy], number: usize, own: usize, copy: &GroupCopy) -> bool
     requires { slice_get copies.now own ≡ Some copy.now }
     ensures { result ≡
-        unwrap_or (option_map (λ other. same_bytes other.text copy.now.text) (slice_get copies.now number)) false }
+        unwrap_or (option_map (λ other. bytes_eq other.text copy.now.text) (slice_get copies.now number)) false }
 {
     if number == own {
         return true;

@@ -70,9 +70,9 @@ pub adds_area : (text : List ℕ) (area : Area) (committed : Option Locn) (place
     → IsHeader (header_bytes (header_of area (Some (record { offset = place.offset; size = count; sum = sum })) None))
     (header_of area (Some (record { offset = place.offset; size = count; sum = sum })) None))
     → IsArea area → IsNoneOrInside area.size committed → Adds text (area, committed) old new
-adds_area text area committed place count sum old new bytes same_bytes count_is next sum_is texts headers publish entries read_before
+adds_area text area committed place count sum old new bytes bytes_eq count_is next sum_is texts headers publish entries read_before
     read_after good inside =
-    let long : count ≡ length text + 1 = count_is ∙ ap (λ (l : List ℕ). length l + 1) same_bytes in
+    let long : count ≡ length text + 1 = count_is ∙ ap (λ (l : List ℕ). length l + 1) bytes_eq in
     let entry : Locn = record { offset = place.offset; size = count; sum = sum } in
     let same : entry ≡ new_entry text (area, committed) =
     ap (λ (o : ℕ). record { offset = o; size = count; sum = sum }) next.offset_is

@@ -1,28 +1,29 @@
 -- The disks of physical volumes that are there.
 use Rattle.std.proofs.Common.{◌≡◌, ◌<◌, ℕ, zero, suc, ◌+◌, Bool, true, false, not, ◌||◌, cond, List, [], ◌∷◌, length, map, Option, Some}
-use Rattle.std.proofs.Common.{None, refl, sym, ap, subst, ◌∙◌, add-one, arith}
+use Rattle.std.proofs.Common.{None, refl, sym, ap, ◌∙◌, add-one, arith}
 use Rattle.std.specs.Prelude.{filter, option_map, slice_get, unwrap_or}
 use Rattle.std.specs.List.{list_any}
 use Rattle.std.proofs.lemmas.Bool.{false≢true}
-use Rattle.std.proofs.lemmas.Option.{same_Some, slice_get-map, slice_get_within}
+use Rattle.std.proofs.lemmas.Option.{same_Some, slice_get-map}
+use Rattle.std.specs.Str.{bytes_eq}
 use Rattle.meta_model.specs.declared.group.Group.{Group}
 use Rattle.meta_model.specs.declared.pv.Pv.{Pv}
 use Rattle.pv_header.specs.declared.header.PvHeader.{PvHeader}
-use Rattle.scan_rules.specs.Decision.{Reading, has_id, same_bytes}
+use Rattle.scan_rules.specs.Decision.{has_id}
 use Rattle.scan_rules.specs.Found.{is_missing, missing_of}
 use Rattle.scan_rules.proofs.Scanning.{same_bytes_tells}
 use Rattle.vg_found.specs.declared.disk.Disk.{Disk}
-use Rattle.vg_found.specs.Disks.{disk_shape, disk_with, disks_of, has_header_id, header_on, pv_shape, shapes}
+use Rattle.vg_found.specs.Disks.{disk_with, disks_of, has_header_id, header_on, pv_shape, shapes}
 use Rattle.vg_found.specs.Laws.{HasHeader}
 
 -- a disk that has the id in its shape has it in its header
 shape_has : (id : List ℕ) (header : Option PvHeader)
-    → unwrap_or (option_map (λ pv. same_bytes pv.id id) (option_map pv_shape header)) false
-    ≡ unwrap_or (option_map (λ (h : PvHeader). same_bytes h.id id) header) false
+    → unwrap_or (option_map (λ pv. bytes_eq pv.id id) (option_map pv_shape header)) false
+    ≡ unwrap_or (option_map (λ (h : PvHeader). bytes_eq h.id id) header) false
 shape_has id None = refl
 shape_has id (Some header) = refl
 
-header_with : (id : List ℕ) (o : Option PvHeader) → unwrap_or (option_map (λ (h : PvHeader). same_bytes h.id id) o) false ≡ true
+header_with : (id : List ℕ) (o : Option PvHeader) → unwrap_or (option_map (λ (h : PvHeader). bytes_eq h.id id) o) false ≡ true
     → (header : PvHeader) × (o ≡ Some header) × (header.id ≡ id)
 header_with id None has = absurd (false≢true has)
 header_with id (Some header) has = (header, refl, same_bytes_tells header.id id has)

@@ -5,24 +5,22 @@ use Rattle.std.specs.Cmp.Lexicographic.{slice_cmp}
 use Rattle.std.specs.Ordering.{nat_cmp}
 use Rattle.std.specs.FinMap as map
 use Rattle.std.specs.FinMap.{get-empty}
+use Rattle.std.specs.Str.{bytes_eq}
 use Rattle.id_index.specs.Ids.{IdNumbers}
 use Rattle.id_index.proofs.Found.{get_put}
 use Rattle.pv_header.specs.declared.header.PvHeader.{PvHeader}
-use Rattle.scan_rules.specs.Decision.{same_bytes}
-use Rattle.scan_rules.proofs.SameLists.{pointwise-same_bytes}
 use Rattle.vg_found.specs.declared.disk.Disk.{Disk}
 use Rattle.vg_found.specs.Disks.{disk_with, header_on, headers_by_id, put_header}
 
 -- one disk more in front of the others
 one_more : (first end n : ℕ) (id : List ℕ) (o : Option PvHeader) (numbers : IdNumbers) → unwrap_or (map.get numbers id) end ≡ first + 1 + n
     → unwrap_or (map.get (put_header first o numbers) id) end
-    ≡ first + cond (unwrap_or (option_map (λ (h : PvHeader). same_bytes h.id id) o) false) 0 (n + 1)
+    ≡ first + cond (unwrap_or (option_map (λ (h : PvHeader). bytes_eq h.id id) o) false) 0 (n + 1)
 one_more first end n id None numbers later = let e : first + 1 + n ≡ first + (n + 1) = omega arith in later ∙ e
 one_more first end n id (Some header) numbers later =
     ap (λ (at : Option ℕ). unwrap_or at end)
-    (get_put numbers header.id first id ∙ ap (λ (b : Bool). cond b (Some first) (map.get numbers id))
-    (pointwise-same_bytes header.id id))
-    ∙ by_test (same_bytes header.id id) where
+    (get_put numbers header.id first id)
+    ∙ by_test (bytes_eq header.id id) where
       by_test : (b : Bool) → unwrap_or (cond b (Some first) (map.get numbers id)) end ≡ first + cond b 0 (n + 1)
       by_test true = let e : first ≡ first + 0 = omega arith in e
       by_test false = let e : first + 1 + n ≡ first + (n + 1) = omega arith in later ∙ e

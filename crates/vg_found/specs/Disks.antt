@@ -12,10 +12,11 @@ use Rattle.disk_contents.specs.declared.contents.PvFound.{PvFound}
 use Rattle.disk_contents.specs.declared.contents.PvFound.TheVariants.{NoLabel, NoHeader, Whole}
 use Rattle.disk_contents.specs.Standing.{area_on, areas_in}
 use Rattle.std.specs.FinMap as map
+use Rattle.std.specs.Str.{bytes_eq}
 use Rattle.id_index.specs.Ids.{IdNumbers}
 use Rattle.meta_model.specs.declared.group.Group.{Group}
 use Rattle.meta_model.specs.declared.pv.Pv.{Pv}
-use Rattle.scan_rules.specs.Decision.{Area as AreaOf, Found as PvOf, Reading, same_bytes}
+use Rattle.scan_rules.specs.Decision.{Area as AreaOf, Found as PvOf, Reading}
 use Rattle.vg_found.specs.declared.disk.Disk.{Disk}
 
 -- the header that was found on a disk, if one was
@@ -74,7 +75,7 @@ shapes disks = map disk_shape disks
 
 -- whether the header on a disk has this id
 abbrev pub has_header_id : List ℕ → Disk → Bool
-has_header_id id disk = unwrap_or (option_map (λ (header : PvHeader). same_bytes header.id id) (header_on disk.contents)) false
+has_header_id id disk = unwrap_or (option_map (λ (header : PvHeader). bytes_eq header.id id) (header_on disk.contents)) false
 
 -- the first disk whose header has this id, or the number of disks
 abbrev pub disk_with : List Disk → List ℕ → ℕ

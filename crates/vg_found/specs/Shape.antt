@@ -1,10 +1,9 @@
 -- What holds of all that a scan finds, whatever stands on the disks.
-use Rattle.std.specs.Prelude.{◌≡◌, ◌≤◌, ◌<◌, ◌↔◌, ℕ, ◌^◌, true, Option, Some, None, is_none, slice_get, List, [], length, All, AllPairs}
+use Rattle.std.specs.Prelude.{◌≡◌, ◌≤◌, ◌<◌, ◌↔◌, ℕ, ◌^◌, true, Option, Some, None, slice_get, length, All, AllPairs}
 use Rattle.std.specs.Prelude.{IfSome}
 use Rattle.std.specs.FinSet as set
 use Rattle.std.specs.Ordering.{nat_cmp}
 use Rattle.mda_ring.specs.Areas.{CanTake, LieApart}
-use Rattle.meta_model.specs.declared.group.Group.{Group}
 use Rattle.disk_contents.specs.declared.contents.PvFound.{PvFound}
 use Rattle.disk_contents.specs.Standing.{CanStand}
 use Rattle.scan_rules.specs.Decision.{first_duplicate, first_misplaced, ids_from}

@@ -8,6 +8,7 @@ use Rattle.std.specs.Ordering.{nat_cmp}
 use Rattle.std.proofs.lemmas.Bool.{cases_order, eq-eqb, true≢false}
 use Rattle.std.proofs.lemmas.List.Elements.{All-from_recursion, recursion_from_All}
 use Rattle.std.proofs.lemmas.Option.{get_or_from_slice_get, slice_get_within}
+use Rattle.std.specs.Str.{bytes_eq}
 use Rattle.lvm_id.specs.LvmId.{IsId}
 use Rattle.lvm_name.specs.Names.{group_name_refusal}
 use Rattle.line_answers.specs.declared.op_refusal.OpRefusal.{OpRefusal}
@@ -23,7 +24,6 @@ use Rattle.meta_print.proofs.GroupFrom.{printable}
 use Rattle.meta_print.proofs.ReadAgain.{has_tree}
 use Rattle.volume_rules.specs.Rules.{IsAccepted, ids_of}
 use Rattle.volume_rules.specs.declared.rule.Rule.TheVariants.{Numbers, Volumes}
-use Rattle.scan_rules.specs.Decision.{same_bytes}
 use Rattle.vg_found.specs.Disks.{disk_with, disks_of, has_header_id, header_on}
 use Rattle.group_edits.proofs.Inserted.{none_at, none_passes}
 use Rattle.group_edits.proofs.PushedPrintable.{printable_version}
@@ -211,8 +211,8 @@ fresh_one : (state : GroupState) → IsState state → (group : Group) (added : 
     → IsFoundOn state added → IsUnused (set_of state.disk_of) added → has_other_id group added.header.id ≡ false
     → IsFresh group added
 fresh_one state is group added listed found free other =
-    let parts : (same_bytes group.id added.header.id ≡ false) × (has_lv_id group added.header.id ≡ false) =
-    both_false (same_bytes group.id added.header.id) (has_lv_id group added.header.id) other in
+    let parts : (bytes_eq group.id added.header.id ≡ false) × (has_lv_id group added.header.id ≡ false) =
+    both_false (bytes_eq group.id added.header.id) (has_lv_id group added.header.id) other in
     let apart : Each (λ n. n ≢ added.disk) (disks_of group state.disks) =
     subst (Each (λ n. n ≢ added.disk)) listed (absent set.empty state.disk_of added.disk free).1 in
     All-from_recursion (λ id. id ≢ added.header.id) (ids_of group) (
@@ -220,7 +220,7 @@ fresh_one state is group added listed found free other =
       each_both (λ id. id ≢ added.header.id) (map (λ (pv : List ℕ × Pv). pv.1.id) group.pvs) (map (λ (lv : List ℕ × Lv). lv.1.id) group.lvs)
           (pvs_differ state is added found group.pvs apart)
           (ids_differ (λ (lv : Lv). lv.id) added.header.id group.lvs
-          (none_passes (λ (lv : List ℕ × Lv). same_bytes lv.1.id added.header.id) group.lvs parts.1)),
+          (none_passes (λ (lv : List ℕ × Lv). bytes_eq lv.1.id added.header.id) group.lvs parts.1)),
     )
 
 fresh_all : (state : GroupState) → IsState state → (group : Group) (all : List AddedPv) → state.disk_of ≡ disks_of group state.disks

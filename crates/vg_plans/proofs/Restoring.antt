@@ -2,12 +2,13 @@
 use Rattle.std.proofs.Common.{inl, inr, ◌≡◌, ◌<◌, ℕ, true, List, [], ◌∷◌, length, Option, Some, None, refl, subst}
 use Rattle.std.specs.Prelude.{All, is_some}
 use Rattle.std.specs.Option.{option_map_or}
+use Rattle.std.specs.Str.{bytes_eq}
 use Rattle.line_answers.specs.declared.op_refusal.OpRefusal.TheVariants.{UnknownGroup}
 use Rattle.meta_model.specs.Standing.{HasTree}
 use Rattle.meta_model.specs.declared.group.Group.{Group}
 use Rattle.volume_rules.specs.Rules.{IsAccepted}
 use Rattle.scan_rules.proofs.Scanning.{same_bytes_tells}
-use Rattle.scan_rules.specs.Decision.{first_misplaced, same_bytes}
+use Rattle.scan_rules.specs.Decision.{first_misplaced}
 use Rattle.vg_found.specs.Disks.{disks_of, shapes}
 use Rattle.group_edits.proofs.RestoredGroup.{restored_whole}
 use Rattle.group_edits.proofs.Whole.{IsWhole}
@@ -65,8 +66,8 @@ backup_restores state now old (Sound said) gives there none =
       said = said;
       gives = gives;
       change_is = refl;
-      same_id = same_bytes_tells said.id old.id (test_holds (same_bytes said.id old.id) _ rows.1.1.1.1.1.1.0);
-      same_name = same_bytes_tells said.name old.name (test_holds (same_bytes said.name old.name) _ rows.1.1.1.1.1.1.1.0);
+      same_id = same_bytes_tells said.id old.id (test_holds (bytes_eq said.id old.id) _ rows.1.1.1.1.1.1.0);
+      same_name = same_bytes_tells said.name old.name (test_holds (bytes_eq said.name old.name) _ rows.1.1.1.1.1.1.1.0);
       listed = λ is. sound_listed state is old said there tests;
       has_area =
           λ is. subst (λ (disks : List ℕ). area_row state.areas disks ≡ None)

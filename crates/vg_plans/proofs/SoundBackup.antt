@@ -11,11 +11,11 @@ use Rattle.std.proofs.lemmas.Bool.{eq-eqb, ltb-true, true≢false}
 use Rattle.std.proofs.lemmas.Bool.Decides.{nat_tests}
 use Rattle.std.proofs.lemmas.Cmp.{same_from_slice_cmp_tested}
 use Rattle.std.proofs.lemmas.List.Elements.{All-from_recursion, recursion_from_All}
+use Rattle.std.specs.Str.{bytes_eq}
 use Rattle.sector_base.proofs.Walks.{next_got}
 use Rattle.line_answers.specs.declared.op_refusal.OpRefusal.TheVariants.{SeqnoEnd}
 use Rattle.meta_model.specs.declared.group.Group.{Group}
 use Rattle.meta_model.specs.declared.pv.Pv.{Pv}
-use Rattle.scan_rules.specs.Decision.{same_bytes}
 use Rattle.scan_rules.proofs.Scanning.{same_bytes_tells}
 use Rattle.vg_found.specs.declared.disk.Disk.{Disk}
 use Rattle.vg_found.specs.Disks.{disk_with, disks_of}
@@ -68,16 +68,16 @@ all_listed found (pv ∷ pvs) none =
 
 -- what holds of the disk of an id holds of one with the same id
 module _ (P : ℕ → Type 0) (disks : List Disk) where
-  by_test : (id own : List ℕ) (b any : Bool) → same_bytes own id ≡ b → (b || any) ≡ true → P (disk_with disks own)
+  by_test : (id own : List ℕ) (b any : Bool) → bytes_eq own id ≡ b → (b || any) ≡ true → P (disk_with disks own)
       → (any ≡ true → P (disk_with disks id)) → P (disk_with disks id)
   by_test id own true any same has here later = subst (λ (l : List ℕ). P (disk_with disks l)) (same_bytes_tells own id same) here
   by_test id own false any same has here later = later has
 
   on_one : (id : List ℕ) (pvs : List (List ℕ × Pv)) → Each P (map (λ (pv : List ℕ × Pv). disk_with disks pv.1.id) pvs)
-      → list_any (λ (pv : List ℕ × Pv). same_bytes pv.1.id id) pvs ≡ true → P (disk_with disks id)
+      → list_any (λ (pv : List ℕ × Pv). bytes_eq pv.1.id id) pvs ≡ true → P (disk_with disks id)
   on_one id [] holds has = absurd cc
   on_one id (pv ∷ pvs) holds has =
-      by_test id pv.1.id (same_bytes pv.1.id id) (list_any (λ (row : List ℕ × Pv). same_bytes row.1.id id) pvs) refl has holds.0
+      by_test id pv.1.id (bytes_eq pv.1.id id) (list_any (λ (row : List ℕ × Pv). bytes_eq row.1.id id) pvs) refl has holds.0
       (on_one id pvs holds.1)
 
   on_all : (found : Group) (pvs : List (List ℕ × Pv)) → Each P (disks_of found disks)

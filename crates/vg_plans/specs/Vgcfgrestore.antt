@@ -5,6 +5,7 @@ use Rattle.std.specs.List.{list_any}
 use Rattle.std.specs.Option.{option_map_or}
 use Rattle.std.specs.Ordering.{is_le, nat_cmp}
 use Rattle.std.specs.Cmp.Lexicographic.{slice_cmp}
+use Rattle.std.specs.Str.{bytes_eq}
 use Rattle.lvm_id.specs.LvmId.{hyphen_form}
 use Rattle.line_answers.specs.declared.op_refusal.OpRefusal.{OpRefusal}
 use Rattle.line_answers.specs.declared.op_refusal.OpRefusal.TheVariants.{BadRule, BadText, MoveStands, OtherGroup, SeqnoEnd}
@@ -13,7 +14,7 @@ use Rattle.meta_model.specs.declared.pv.Pv.{Pv}
 use Rattle.volume_rules.specs.Moving.{has_move}
 use Rattle.volume_rules.specs.Rules.{number_of}
 use Rattle.volume_rules.specs.declared.rule.Rule.{Rule}
-use Rattle.scan_rules.specs.Decision.{has_misplaced, same_bytes}
+use Rattle.scan_rules.specs.Decision.{has_misplaced}
 use Rattle.vg_found.specs.Disks.{disk_shape, disks_of}
 use Rattle.vg_found.specs.declared.disk.Disk.{Disk}
 use Rattle.group_edits.specs.RestoredGroup.{restored_group}
@@ -59,8 +60,8 @@ other_pvs_row said found = refused_if (is_some said || is_some found) (OtherGrou
 -- the text's group has another id, another name or other physical volumes than the group that was found
 abbrev pub other_group_rows : Group → Group → List (Option OpRefusal)
 other_group_rows said found =
-    refused_if (not (same_bytes said.id found.id)) (OtherGroup (hyphen_form said.id) (hyphen_form found.id))
-    ∷ refused_if (not (same_bytes said.name found.name)) (OtherGroup said.name found.name)
+    refused_if (not (bytes_eq said.id found.id)) (OtherGroup (hyphen_form said.id) (hyphen_form found.id))
+    ∷ refused_if (not (bytes_eq said.name found.name)) (OtherGroup said.name found.name)
     ∷ other_pvs_row (id_lacked found said) (id_lacked said found)
     ∷ []
 

@@ -1,9 +1,9 @@
 -- vgrename(8): the rows of its refusals, and its change.
 use Rattle.std.specs.Prelude.{ℕ, List, [], ◌∷◌, ◌++◌, Option}
+use Rattle.std.specs.Str.{bytes_eq}
 use Rattle.line_answers.specs.declared.op_refusal.OpRefusal.{OpRefusal}
 use Rattle.line_answers.specs.declared.op_refusal.OpRefusal.TheVariants.{NameTaken}
 use Rattle.meta_model.specs.declared.group.Group.{Group}
-use Rattle.scan_rules.specs.Decision.{same_bytes}
 use Rattle.group_edits.specs.RenamedGroup.{renamed_group}
 use Rattle.group_plan.specs.Committing.{change_where_found, length_row, named_rows, no_area_row, rows_where_found, seqno_row}
 use Rattle.group_plan.specs.Committing.{version_change}
@@ -15,7 +15,7 @@ use Rattle.group_plan.specs.declared.state.GroupState.{GroupState}
 abbrev pub rename_tests : GroupState → List ℕ → List ℕ → Group → List (Option OpRefusal)
 rename_tests state vg new group =
     named_rows group vg
-    ++ refused_if (same_bytes group.name new) (NameTaken new)
+    ++ refused_if (bytes_eq group.name new) (NameTaken new)
     ∷ no_area_row state
     ∷ seqno_row group
     ∷ []

@@ -2,9 +2,9 @@
 ghost use Rattle.std.specs.Prelude.{◌≡◌, if◌then◌else◌, not, IfOk, Some};
 ghost use Rattle.std.specs.Cmp.Lexicographic.{slice_cmp};
 ghost use Rattle.std.specs.Ordering.{is_le, nat_cmp};
+ghost use Rattle.std.specs.Str.{bytes_eq};
 ghost use Rattle.lvm_id.specs.LvmId.{hyphen_form};
 ghost use Rattle.line_answers.specs.declared.op_refusal.OpRefusal.TheVariants.{OtherGroup};
-ghost use Rattle.scan_rules.specs.Decision.{same_bytes};
 ghost use Rattle.group_plan.specs.Ids.{has_pv_id};
 ghost use Rattle.group_plan.specs.Judging.{Judges, first_refusal, refused_if};
 ghost use Rattle.vg_plans.specs.Vgcfgrestore.{id_lacked, lesser, other_group_rows, other_pvs_row, shown_id};
@@ -37,7 +37,7 @@ pub(crate) fn judge_other(
 
 // They have one id.
 fn judge_id(alloc: Global, said: &Group, found: &Group) -> Result<(), PlanRefusal>
-    ensures { Judges result (refused_if (not (same_bytes said.now.id found.now.id)) (OtherGroup (hyphen_form said.now.id) (hyphen_form found.now.id))) }
+    ensures { Judges result (refused_if (not (bytes_eq said.now.id found.now.id)) (OtherGroup (hyphen_form said.now.id) (hyphen_form found.now.id))) }
 {
     if same_id(&said.id, &found.id) {
         return Ok(());
@@ -49,7 +49,7 @@ fn judge_id(alloc: Global, said: &Group, found: &Group) -> Result<(), PlanRefusa
 
 // They have one name.
 fn judge_names(alloc: Global, said: &Group, found: &Group) -> Result<(), PlanRefusal>
-    ensures { Judges result (refused_if (not (same_bytes said.now.name found.now.name)) (OtherGroup said.now.name found.now.name)) }
+    ensures { Judges result (refused_if (not (bytes_eq said.now.name found.now.name)) (OtherGroup said.now.name found.now.name)) }
 {
     if has_name_of(said, found) {
         return Ok(());
@@ -60,7 +60,7 @@ fn judge_names(alloc: Global, said: &Group, found: &Group) -> Result<(), PlanRef
 }
 
 fn has_name_of(said: &Group, found: &Group) -> bool
-    ensures { result ≡ same_bytes said.now.name found.now.name }
+    ensures { result ≡ bytes_eq said.now.name found.now.name }
 {
     said.name.as_bytes() == found.name.as_bytes()
 }

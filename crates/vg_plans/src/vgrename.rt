@@ -1,8 +1,8 @@
 //! vgrename(8): its refusals, in their order, and its change.
 ghost use Rattle.std.specs.Prelude.{◌≡◌, ◌<◌, None, Some, All};
+ghost use Rattle.std.specs.Str.{bytes_eq};
 ghost use Rattle.lvm_name.specs.Names.{group_name_refusal};
 ghost use Rattle.line_answers.specs.declared.op_refusal.OpRefusal.TheVariants.{NameTaken};
-ghost use Rattle.scan_rules.specs.Decision.{same_bytes};
 ghost use Rattle.group_edits.specs.RenamedGroup.{renamed_group};
 ghost use Rattle.group_plan.specs.Committing.{version_change};
 ghost use Rattle.group_plan.specs.Judging.{Judges, first_refusal, refused_if};
@@ -84,7 +84,7 @@ fn judge_rename(
 
 // The new name isn't the one that it has.
 fn judge_new(alloc: Global, group: &Group, new: &Text) -> Result<(), PlanRefusal>
-    ensures { Judges result (refused_if (same_bytes group.now.name new.now) (NameTaken new.now)) }
+    ensures { Judges result (refused_if (bytes_eq group.now.name new.now) (NameTaken new.now)) }
 {
     if is_named(group, new) {
         let name = copied_text(alloc, new)?;

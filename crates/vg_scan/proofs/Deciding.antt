@@ -1,19 +1,19 @@
 -- What an answer shows of the readings that it stands on.
-use Rattle.std.proofs.Common.{◌≡◌, ◌<◌, ℕ, ◌+◌, Bool, true, false, not, ◌&&◌, cond, eqb, List, [], ◌∷◌, ◌++◌, length, Option, Some, None}
+use Rattle.std.proofs.Common.{◌≡◌, ◌<◌, ℕ, ◌+◌, Bool, true, false, not, ◌&&◌, cond, eqb, List, [], ◌∷◌, length, Option, Some, None}
 use Rattle.std.proofs.Common.{refl, sym, ap, arith}
 use Rattle.std.specs.Prelude.{option_map, unwrap_or, find, filter_map, All, IfSome}
 use Rattle.std.specs.Option.{option_and_then}
 use Rattle.std.specs.List.{enumerate_from, flat_map, list_any}
-use Rattle.std.proofs.lemmas.List.Elements.{All-nil, All-cons, All-head, All-tail, All-append, All-weaker}
+use Rattle.std.proofs.lemmas.List.Elements.{All-nil, All-cons, All-head, All-tail, All-append}
 use Rattle.std.proofs.lemmas.Option.{same_Some}
-use Rattle.meta_model.specs.declared.group.Group.{Group}
+use Rattle.std.specs.Str.{bytes_eq}
 use Rattle.scan_rules.specs.declared.copy_refusal.CopyRefusal.{CopyRefusal}
 use Rattle.scan_rules.specs.declared.decision.Decided.{Decided}
 use Rattle.scan_rules.specs.Answers.{IsDecided}
 use Rattle.scan_rules.specs.Decision.{Area, AreaReading, Conflict, DuplicatePv, Found, FoundGroup, Held, NoCopy, NoGroup, PvShape, Reading}
 use Rattle.scan_rules.specs.Decision.{ScanAnswer, TwoGroups, Unsupported, best, conflict, copies, decide_scan, duplicates, first_duplicate}
 use Rattle.scan_rules.specs.Decision.{first_misplaced, found_with, gives, ids_from, is_held, is_listed, is_something, misshapen_by, no_copy}
-use Rattle.scan_rules.specs.Decision.{readings_in, refusals, same_bytes, stale_in, sum_agrees, two_groups, unsupported}
+use Rattle.scan_rules.specs.Decision.{readings_in, refusals, stale_in, sum_agrees, two_groups, unsupported}
 use Rattle.scan_rules.specs.Found.{missing_of}
 use Rattle.vg_found.proofs.KeptLists.{all_kept}
 
@@ -117,18 +117,18 @@ past_unsupported rs (c ∷ cs) refused =
 past_two_groups : (rs : List Reading) (cs : List Held) → IfSome (two_groups cs) (HasPlaces rs)
 past_two_groups rs [] = tt
 past_two_groups rs (c ∷ cs) =
-    refuses rs (λ (d : Held). TwoGroups c.group.id d.group.id) (λ d. tt) (find (λ (d : Held). not (same_bytes d.group.id c.group.id)) cs)
+    refuses rs (λ (d : Held). TwoGroups c.group.id d.group.id) (λ d. tt) (find (λ (d : Held). not (bytes_eq d.group.id c.group.id)) cs)
 
 abbrev conflict_with : List Held → Held → Option ScanAnswer
 conflict_with cs b =
     option_map (λ (d : Held). Conflict b.disk d.disk b.group.seqno)
-    (find (λ (d : Held). eqb d.group.seqno b.group.seqno && not (same_bytes d.text b.text)) cs)
+    (find (λ (d : Held). eqb d.group.seqno b.group.seqno && not (bytes_eq d.text b.text)) cs)
 
 past_conflict : (rs : List Reading) (cs : List Held) (b : Option Held) → IfSome (option_and_then (conflict_with cs) b) (HasPlaces rs)
 past_conflict rs cs None = tt
 past_conflict rs cs (Some b) =
     refuses rs (λ (d : Held). Conflict b.disk d.disk b.group.seqno) (λ d. tt)
-    (find (λ (d : Held). eqb d.group.seqno b.group.seqno && not (same_bytes d.text b.text)) cs)
+    (find (λ (d : Held). eqb d.group.seqno b.group.seqno && not (bytes_eq d.text b.text)) cs)
 
 well_placed : (rs : List Reading) (b : Held) (o : Option ℕ) → first_misplaced b.group rs ≡ o → (h : Bool)
     → HasPlaces rs (unwrap_or (unwrap_or (option_map (λ (disk : ℕ). Some (PvShape disk)) o) (cond h None (Some (PvShape b.disk))))

@@ -8,6 +8,7 @@ use Rattle.std.specs.Cmp.{nat_cmp_total, unsigned_tied}
 use Rattle.std.specs.Ordering.{nat_cmp}
 use Rattle.std.proofs.lemmas.Bool.{eqb-true, false≢true, or_cases}
 use Rattle.std.proofs.lemmas.List.Elements.{All-nil, All-head, All-tail}
+use Rattle.std.specs.Str.{bytes_eq}
 use Rattle.meta_model.specs.declared.group.Group.{Group}
 use Rattle.meta_model.specs.declared.pv.Pv.{Pv}
 use Rattle.scan_rules.specs.declared.decision.Decided.{Decided}
@@ -15,14 +16,14 @@ use Rattle.scan_rules.specs.declared.readings.GroupCopy.{GroupCopy}
 use Rattle.scan_rules.specs.Answers.{IsDecided}
 use Rattle.scan_rules.specs.Decision.{Conflict, DuplicatePv, Found as PvOf, FoundGroup, NoCopy, NoGroup, PvShape, Reading, SameHeaders}
 use Rattle.scan_rules.specs.Decision.{SamePv, ScanAnswer, TwoGroups, Unsupported, decide_scan, first_duplicate, first_misplaced, has_id}
-use Rattle.scan_rules.specs.Decision.{ids_from, same_bytes}
+use Rattle.scan_rules.specs.Decision.{ids_from}
 use Rattle.scan_rules.specs.Found.{missing_of}
 use Rattle.scan_rules.proofs.SameShape.{find_same, ids_same}
 use Rattle.vg_found.specs.declared.disk.Disk.{Disk}
 use Rattle.vg_found.specs.declared.found.Found.{Found}
 use Rattle.vg_found.specs.Disks.{disks_of, held_areas, shapes}
 use Rattle.vg_found.specs.Laws.{AreasAreShaped}
-use Rattle.vg_found.specs.Shape.{HasShape, IsDisk, IsUnread}
+use Rattle.vg_found.specs.Shape.{HasShape, IsUnread}
 use Rattle.vg_scan.specs.Scanned.{HaveShapes}
 use Rattle.vg_scan.specs.Scans.{IsFoundBy}
 use Rattle.vg_scan.specs.Outcome.{IsOutcome}
@@ -88,12 +89,12 @@ headers_length (a ∷ as') [] same = absurd same
 headers_length (a ∷ as') (b ∷ bs) same = ap suc (headers_length as' bs same.2)
 
 same_id_on : (id : List ℕ) (a b : Option PvOf) → SamePv a b
-    → unwrap_or (option_map (λ (pv : PvOf). same_bytes pv.id id) a) false
-    ≡ unwrap_or (option_map (λ (pv : PvOf). same_bytes pv.id id) b) false
+    → unwrap_or (option_map (λ (pv : PvOf). bytes_eq pv.id id) a) false
+    ≡ unwrap_or (option_map (λ (pv : PvOf). bytes_eq pv.id id) b) false
 same_id_on id None None same = refl
 same_id_on id None (Some b) same = absurd same
 same_id_on id (Some a) None same = absurd same
-same_id_on id (Some a) (Some b) same = ap (λ (l : List ℕ). same_bytes l id) same.0
+same_id_on id (Some a) (Some b) same = ap (λ (l : List ℕ). bytes_eq l id) same.0
 
 any_same_id : (id : List ℕ) (as' bs : List Reading) → SameHeaders as' bs → list_any (has_id id) as' ≡ list_any (has_id id) bs
 any_same_id id [] [] same = refl

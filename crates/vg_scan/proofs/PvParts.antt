@@ -7,7 +7,6 @@ use Rattle.disk_model.specs.Steps.{Record}
 use Rattle.pv_header.specs.declared.extent_list.Extent.{Extent}
 use Rattle.pv_header.specs.declared.header.PvHeader.{PvHeader}
 use Rattle.pv_header.specs.PvHeader.{areas_place}
-use Rattle.pv_header.specs.PvRefusal.{Reads}
 use Rattle.disk_contents.specs.declared.contents.AreaFound.{AreaFound}
 use Rattle.disk_contents.specs.declared.contents.PvFound.TheVariants.{Whole}
 use Rattle.disk_contents.specs.Standing.{CanStand}
@@ -15,7 +14,6 @@ use Rattle.scan_rules.specs.Decision.{Area as AreaOf, SameAreas}
 use Rattle.scan_rules.specs.Readings.{AreasAreOf, area_of}
 use Rattle.scan_rules.specs.declared.readings.AreaRead.{AreaRead}
 use Rattle.scan_rules.specs.declared.readings.GroupCopy.{GroupCopy}
-use Rattle.scan_rules.specs.declared.readings.PvRead.{PvRead}
 use Rattle.vg_found.specs.Disks.{area_shape}
 use Rattle.vg_scan.specs.Disks.{HasItsShape, pv_read}
 use Rattle.vg_scan.specs.Readings.{AreAreaReadings}

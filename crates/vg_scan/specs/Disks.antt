@@ -1,5 +1,5 @@
 -- What one disk gives, and what is read of it.
-use Rattle.std.specs.Prelude.{◌≡◌, ◌≤◌, ℕ, ◌+◌, ◌*◌, List, length, All, Option, Some, None, option_map}
+use Rattle.std.specs.Prelude.{◌≡◌, ◌≤◌, ℕ, ◌+◌, ◌*◌, List, length, All, Option, Some, option_map}
 use Rattle.sector_base.specs.declared.spans.Span.{Span}
 use Rattle.disk_model.specs.Since.{ReadsAlone, spans_read}
 use Rattle.disk_model.specs.Steps.{Step, Record, now_after, steps_on}

@@ -1,5 +1,5 @@
 -- What the readings of disks come to.
-use Rattle.std.specs.Prelude.{◌≡◌, ◌≤◌, List, length}
+use Rattle.std.specs.Prelude.{◌≡◌, List}
 use Rattle.std.specs.FinSet as set
 use Rattle.std.specs.Ordering.{nat_cmp}
 use Rattle.scan_rules.specs.Decision.{Reading, decide_scan}

@@ -1,4 +1,4 @@
-use Rattle.std.proofs.Common.{◌≡◌, ◌≤◌, ℕ, ◌+◌, ◌*◌, ◌++◌, ◌&&◌, [], List, length, drop, find}
+use Rattle.std.proofs.Common.{drop}
 use Rattle.scan_rules.specs.Decision.{best}
 use Rattle.scan_rules.specs.Flat.{IsThat, all_held}
 use Rattle.scan_rules.proofs.best.best_copy.Given as goal

@@ -1,4 +1,4 @@
-use Rattle.std.proofs.Common.{◌≡◌, ◌≤◌, ℕ, ◌+◌, ◌*◌, ◌++◌, ◌&&◌, [], List, length, drop, find}
+use Rattle.std.proofs.Common.{◌≡◌, drop}
 use Rattle.scan_rules.specs.Flat.{all_held, other_among}
 use Rattle.scan_rules.proofs.best.find_other.Given as goal
 

@@ -1,4 +1,4 @@
-use Rattle.std.proofs.Common.{◌≡◌, ◌≤◌, ℕ, ◌+◌, ◌*◌, ◌++◌, ◌&&◌, [], List, length, drop, find}
+use Rattle.std.proofs.Common.{◌≡◌, length}
 use Rattle.scan_rules.specs.Flat.{refused_on}
 use Rattle.scan_rules.proofs.refusals.all_refusals.Given as goal
 

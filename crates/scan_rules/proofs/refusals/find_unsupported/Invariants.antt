@@ -1,4 +1,4 @@
-use Rattle.std.proofs.Common.{◌≡◌, ◌≤◌, ℕ, ◌+◌, ◌*◌, ◌++◌, ◌&&◌, [], List, length, drop, find}
+use Rattle.std.proofs.Common.{◌≡◌, drop}
 use Rattle.scan_rules.specs.Answers.{unsupported_among, unsupported_disk}
 use Rattle.scan_rules.specs.Flat.{refused_on}
 use Rattle.scan_rules.proofs.refusals.find_unsupported.Given as goal

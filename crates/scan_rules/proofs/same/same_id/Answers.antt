@@ -1,10 +1,9 @@
 use Rattle.std.proofs.Common.{ℕ, List, ap, ◌∙◌}
-use Rattle.scan_rules.specs.Decision.{same_bytes}
-use Rattle.scan_rules.proofs.SameLists.{pointwise-same_bytes}
+use Rattle.std.specs.Str.{bytes_eq}
 use Rattle.scan_rules.proofs.same.same_id.Goals as goal
 
 pub returns : goal.returns
 returns c =
-    c.eq.ensures ∙ pointwise-same_bytes c.plain.result c.plain-2.result
-    ∙ ap (λ (l : List ℕ). same_bytes l c.plain-2.result) c.plain.ensures.value
-    ∙ ap (same_bytes c.args.a.now) c.plain-2.ensures.value
+    c.eq.ensures
+    ∙ ap (λ (l : List ℕ). bytes_eq l c.plain-2.result) c.plain.ensures.value
+    ∙ ap (bytes_eq c.args.a.now) c.plain-2.ensures.value

@@ -1,10 +1,9 @@
 use Rattle.std.proofs.Common.{ℕ, List, ap, ◌∙◌}
-use Rattle.scan_rules.specs.Decision.{same_bytes}
-use Rattle.scan_rules.proofs.SameLists.{pointwise-same_bytes}
+use Rattle.std.specs.Str.{bytes_eq}
 use Rattle.scan_rules.proofs.same.same_text.Goals as goal
 
 pub returns : goal.returns
 returns c =
-    c.eq.ensures ∙ pointwise-same_bytes c.as_bytes.result.now c.as_bytes-2.result.now
-    ∙ ap (λ (l : List ℕ). same_bytes l c.as_bytes-2.result.now) c.as_bytes.ensures
-    ∙ ap (same_bytes c.args.a.now) c.as_bytes-2.ensures
+    c.eq.ensures
+    ∙ ap (λ (l : List ℕ). bytes_eq l c.as_bytes-2.result.now) c.as_bytes.ensures
+    ∙ ap (bytes_eq c.args.a.now) c.as_bytes-2.ensures

@@ -1,4 +1,4 @@
-use Rattle.std.proofs.Common.{◌≡◌, ◌≤◌, ℕ, ◌+◌, ◌*◌, ◌++◌, ◌&&◌, [], List, length, drop, find}
+use Rattle.std.proofs.Common.{◌≡◌, drop}
 use Rattle.std.specs.List.{list_any}
 use Rattle.scan_rules.specs.Flat.{holds_something}
 use Rattle.scan_rules.proofs.strays.hold_something.Given as goal

@@ -1,4 +1,4 @@
-use Rattle.std.proofs.Common.{◌≡◌, ◌≤◌, ℕ, ◌+◌, ◌*◌, ◌++◌, ◌&&◌, [], List, length, drop, find}
+use Rattle.std.proofs.Common.{◌≡◌, drop}
 use Rattle.scan_rules.specs.Answers.{denying_disk}
 use Rattle.scan_rules.specs.Flat.{all_held}
 use Rattle.scan_rules.proofs.texts.find_conflict.Given as goal

@@ -3,7 +3,6 @@ use Rattle.std.specs.Prelude.{Option, IfSome, slice_get}
 use Rattle.meta_model.specs.declared.group.Group.{Group}
 use Rattle.scan_rules.specs.Found.{missing_of}
 use Rattle.vg_found.specs.Disks.{disks_of, shapes}
-use Rattle.vg_found.specs.Laws.{HasHeader}
 use Rattle.vg_found.proofs.HeaderDisks.{there}
 use Rattle.vg_found.proofs.laws.whole_has_its_disks.Goals as goal
 

@@ -1,4 +1,4 @@
-use Rattle.std.proofs.Common.{◌≡◌, List, [], length, ap, arith}
+use Rattle.std.proofs.Common.{length, ap, arith}
 use Rattle.std.proofs.lemmas.List.{nil_from_length}
 use Rattle.vg_found.proofs.AllRead.{all_read}
 use Rattle.vg_found.proofs.whole.why_not_whole.Goals as goal

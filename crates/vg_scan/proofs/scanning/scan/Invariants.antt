@@ -1,5 +1,4 @@
 -- The disks so far were scanned.
-use Rattle.std.proofs.Common.{◌≡◌}
 use Rattle.disk_model.specs.Idle.{IsIdleAgain}
 use Rattle.vg_scan.specs.Scanned.{AreScanned}
 use Rattle.vg_scan.proofs.scanning.scan.Given as goal
