@@ -11,7 +11,8 @@ use Rattle.lvm_name.specs.Names.{group_name_refusal, volume_name_refusal}
 use Rattle.command_table.specs.declared.amount.Amount.{Amount}
 use Rattle.command_table.specs.declared.amount.Growth.{Growth}
 use Rattle.command_table.specs.declared.command.Command.{Command}
-use Rattle.command_table.specs.declared.command.Command.TheVariants.{Lvcreate, Lvextend, Lvreduce, Lvremove, Lvrename, Vgrename}
+use Rattle.command_table.specs.declared.command.Command.TheVariants.{Lvcreate, Lvextend, Lvreduce, Lvremove, Lvrename, Vgrename, Pvcreate}
+use Rattle.command_table.specs.declared.command.Command.TheVariants.{Vgcfgrestore, Vgcreate, Vgextend, Vgreduce, Vgremove}
 use Rattle.command_table.specs.declared.command.NewVolume.{NewVolume}
 use Rattle.command_table.specs.declared.command.Path.{Path}
 use Rattle.line_answers.specs.declared.op_refusal.OpRefusal.{OpRefusal}
@@ -88,6 +89,35 @@ abbrev pub zeroes : Command → Bool
 zeroes (Lvcreate new) = true
 zeroes _ = false
 
+-- ---- all kinds
+
+-- what is to be shown of each kind of commands that can be planned, where P is what holds of a command
+pub record ByKind (P : Command → Type 0) : Type 0 where
+  pub next : (command : Command) → is_next command ≡ true → zeroes command ≡ false → P command
+  pub new_volume : (new : NewVolume) → P (Lvcreate new)
+  pub new_pv : (pv : List ℕ) (copies : ℕ) → P (Pvcreate pv copies)
+  pub new_group : (vg : List ℕ) (extent_size : ℕ) (pvs : List (List ℕ)) → P (Vgcreate vg extent_size pvs)
+  pub joining : (vg : List ℕ) (pvs : List (List ℕ)) → P (Vgextend vg pvs)
+  pub leaving : (vg pv : List ℕ) → P (Vgreduce vg pv)
+  pub removal : (vg : List ℕ) → P (Vgremove vg)
+  pub restore : (vg text : List ℕ) → P (Vgcfgrestore vg text)
+
+-- what is shown of each kind holds of each command
+pub by_kind : (P : Command → Type 0) → ByKind P → (id : Option (List ℕ)) (command : Command) → IsPlanned id command → P command
+by_kind P kinds id (Pvcreate pv copies) planned = kinds.new_pv pv copies
+by_kind P kinds id (Vgcreate vg extent_size pvs) planned = kinds.new_group vg extent_size pvs
+by_kind P kinds id (Vgextend vg pvs) planned = kinds.joining vg pvs
+by_kind P kinds id (Vgreduce vg pv) planned = kinds.leaving vg pv
+by_kind P kinds id (Vgremove vg) planned = kinds.removal vg
+by_kind P kinds id (Vgcfgrestore vg text) planned = kinds.restore vg text
+by_kind P kinds id (Lvcreate new) planned = kinds.new_volume new
+by_kind P kinds id (Vgrename vg new) planned = kinds.next (Vgrename vg new) refl refl
+by_kind P kinds id (Lvextend path growth pvs) planned = kinds.next (Lvextend path growth pvs) refl refl
+by_kind P kinds id (Lvreduce path amount) planned = kinds.next (Lvreduce path amount) refl refl
+by_kind P kinds id (Lvremove path) planned = kinds.next (Lvremove path) refl refl
+by_kind P kinds id (Lvrename vg old new) planned = kinds.next (Lvrename vg old new) refl refl
+by_kind P kinds id command planned = absurd planned
+
 -- ---- no label, and no zeros
 
 -- what holds where nothing changes, and of each version that is committed, holds of the change of each other such command
@@ -130,17 +160,17 @@ created_labels state id new now given (Some group) = refl
 pub next_labels : (state : GroupState) (number : ℕ) (id : Option (List ℕ)) (command : Command) (now : ℕ) (given : List Part)
     → is_next command ≡ true → (change_of state (record { number = number; id = id; command = command }) now given).labels ≡ []
 next_labels state number id (Lvcreate new) now given is = created_labels state (unwrap_or id []) new now given state.group
-next_labels state number id (Vgrename vg new) now given is =
-    next_holds state (λ change. change.labels ≡ []) refl (λ next. refl) number id (Vgrename vg new) now given is refl
-next_labels state number id (Lvextend path growth pvs) now given is =
-    next_holds state (λ change. change.labels ≡ []) refl (λ next. refl) number id (Lvextend path growth pvs) now given is refl
-next_labels state number id (Lvreduce path amount) now given is =
-    next_holds state (λ change. change.labels ≡ []) refl (λ next. refl) number id (Lvreduce path amount) now given is refl
-next_labels state number id (Lvremove path) now given is =
-    next_holds state (λ change. change.labels ≡ []) refl (λ next. refl) number id (Lvremove path) now given is refl
-next_labels state number id (Lvrename vg old new) now given is =
-    next_holds state (λ change. change.labels ≡ []) refl (λ next. refl) number id (Lvrename vg old new) now given is refl
-next_labels state number id command now given is = absurd cc
+next_labels state number id command now given is = by (zeroes command) refl
+  where
+    by : (b : Bool) → zeroes command ≡ b
+        → (change_of state (record { number = number; id = id; command = command }) now given).labels ≡ []
+    by false other = next_holds state (λ change. change.labels ≡ []) refl (λ next. refl) number id command now given is other
+    by true other = made command other
+      where
+        made : (command : Command) → zeroes command ≡ true
+            → (change_of state (record { number = number; id = id; command = command }) now given).labels ≡ []
+        made (Lvcreate new) other = created_labels state (unwrap_or id []) new now given state.group
+        made command other = absurd cc
 
 -- the sectors of no other command are to hold zeros
 pub no_zero : (state : GroupState) (number : ℕ) (id : Option (List ℕ)) (command : Command) (now : ℕ) (given : List Part)

@@ -5,8 +5,7 @@ use Rattle.std.specs.FinSet as set
 use Rattle.std.specs.Option.{option_map_or}
 use Rattle.std.proofs.lemmas.Bool.{true≢false}
 use Rattle.command_table.specs.declared.command.Command.{Command}
-use Rattle.command_table.specs.declared.command.Command.TheVariants.{Lvcreate, Lvextend, Lvreduce, Lvremove, Lvrename, Pvcreate}
-use Rattle.command_table.specs.declared.command.Command.TheVariants.{Vgcfgrestore, Vgcreate, Vgextend, Vgreduce, Vgremove, Vgrename}
+use Rattle.command_table.specs.declared.command.Command.TheVariants.{Vgreduce, Vgremove}
 use Rattle.command_table.specs.declared.command.NewVolume.{NewVolume}
 use Rattle.meta_model.specs.declared.group.Group.{Group}
 use Rattle.extent_alloc.specs.declared.part.Part.{Part}
@@ -16,7 +15,7 @@ use Rattle.group_plan.specs.declared.state.GroupState.{GroupState}
 use Rattle.vg_plans.proofs.Restoring.{restore_holds}
 use Rattle.vg_plans.specs.Vgextend.{extend_by}
 use Rattle.lv_plans.specs.Lvcreate.{create_change}
-use Rattle.group_ops.proofs.NextVersions.{next_holds}
+use Rattle.group_ops.proofs.NextVersions.{next_holds, by_kind}
 use Rattle.group_ops.specs.Planning.{IsPlanned, change_of}
 
 -- the commands whose lines clear disks
@@ -42,21 +41,15 @@ create_clears state id new now given (Some group) = refl
 pub none_cleared : (state : GroupState) (number : ℕ) (id : Option (List ℕ)) (command : Command) (now : ℕ) (given : List Part)
     → IsPlanned id command → clears command ≡ false
     → ClearsNone (change_of state (record { number = number; id = id; command = command }) now given)
-none_cleared state number id (Pvcreate pv copies) now given planned other = refl
-none_cleared state number id (Vgcreate vg extent_size pvs) now given planned other = refl
-none_cleared state number id (Vgextend vg pvs) now given planned other = extend_clears state pvs state.group
-none_cleared state number id (Vgreduce vg pv) now given planned other = absurd (true≢false other)
-none_cleared state number id (Vgremove vg) now given planned other = absurd (true≢false other)
-none_cleared state number id (Vgrename vg new) now given planned other =
-    next_holds state ClearsNone refl (λ next. refl) number id (Vgrename vg new) now given refl refl
-none_cleared state number id (Lvcreate new) now given planned other = create_clears state (unwrap_or id []) new now given state.group
-none_cleared state number id (Lvextend path growth pvs) now given planned other =
-    next_holds state ClearsNone refl (λ next. refl) number id (Lvextend path growth pvs) now given refl refl
-none_cleared state number id (Lvreduce path amount) now given planned other =
-    next_holds state ClearsNone refl (λ next. refl) number id (Lvreduce path amount) now given refl refl
-none_cleared state number id (Lvremove path) now given planned other =
-    next_holds state ClearsNone refl (λ next. refl) number id (Lvremove path) now given refl refl
-none_cleared state number id (Lvrename vg old new) now given planned other =
-    next_holds state ClearsNone refl (λ next. refl) number id (Lvrename vg old new) now given refl refl
-none_cleared state number id (Vgcfgrestore vg text) now given planned other = restore_holds state ClearsNone refl (λ disks next. refl)
-none_cleared state number id command now given planned other = absurd planned
+none_cleared state number id command now given planned other =
+    by_kind (λ c. clears c ≡ false → ClearsNone (change_of state (record { number = number; id = id; command = c }) now given))
+    (record {
+      next = λ c is no other. next_holds state ClearsNone refl (λ next. refl) number id c now given is no;
+      new_volume = λ new other. create_clears state (unwrap_or id []) new now given state.group;
+      new_pv = λ pv copies other. refl;
+      new_group = λ vg extent_size pvs other. refl;
+      joining = λ vg pvs other. extend_clears state pvs state.group;
+      leaving = λ vg pv other. absurd (true≢false other);
+      removal = λ vg other. absurd (true≢false other);
+      restore = λ vg text other. restore_holds state ClearsNone refl (λ disks next. refl);
+    }) id command planned other

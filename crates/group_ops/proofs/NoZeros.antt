@@ -4,8 +4,7 @@ use Rattle.std.specs.Prelude.{IfOk}
 use Rattle.std.specs.Option.{option_map_or}
 use Rattle.std.proofs.lemmas.Bool.{true≢false}
 use Rattle.command_table.specs.declared.command.Command.{Command}
-use Rattle.command_table.specs.declared.command.Command.TheVariants.{Lvcreate, Lvextend, Lvreduce, Lvremove, Lvrename, Pvcreate}
-use Rattle.command_table.specs.declared.command.Command.TheVariants.{Vgcfgrestore, Vgcreate, Vgextend, Vgrename, Vgreduce, Vgremove}
+use Rattle.command_table.specs.declared.command.Command.TheVariants.{Lvextend}
 use Rattle.command_table.specs.declared.amount.Growth.{Growth}
 use Rattle.command_table.specs.declared.command.Path.{Path}
 use Rattle.line_answers.specs.declared.op_refusal.OpRefusal.{OpRefusal}
@@ -27,7 +26,7 @@ use Rattle.vg_plans.specs.Vgreduce.{leaving_change, reduce_change}
 use Rattle.lv_plans.specs.Allocating.{Asking, PlansWith}
 use Rattle.lv_plans.specs.Lvextend.{lvextend_asks, lvextend_change, lvextend_rows}
 use Rattle.lv_plans.proofs.GivenParts.{plans_within}
-use Rattle.group_ops.proofs.NextVersions.{no_zero, zeroes}
+use Rattle.group_ops.proofs.NextVersions.{no_zero, zeroes, by_kind}
 use Rattle.group_ops.specs.Planning.{IsPlanned, change_of, rows_of}
 
 pub extend_none : (state : GroupState) (pvs : List (List ℕ)) (o : Option Group) → (extend_by state o pvs).zero ≡ []
@@ -51,22 +50,18 @@ restore_none state = restore_holds state (λ change. change.zero ≡ []) refl (�
 pub none_zeroed : (state : GroupState) (number : ℕ) (id : Option (List ℕ)) (command : Command) (now : ℕ) (given : List Part)
     → IsPlanned id command → zeroes command ≡ false
     → (change_of state (record { number = number; id = id; command = command }) now given).zero ≡ []
-none_zeroed state number id (Pvcreate pv copies) now given planned other = refl
-none_zeroed state number id (Vgcreate vg extent_size pvs) now given planned other = refl
-none_zeroed state number id (Vgextend vg pvs) now given planned other = extend_none state pvs state.group
-none_zeroed state number id (Vgreduce vg pv) now given planned other = leave_none state pv state.group
-none_zeroed state number id (Vgremove vg) now given planned other = refl
-none_zeroed state number id (Vgrename vg new) now given planned other = no_zero state number id (Vgrename vg new) now given refl refl
-none_zeroed state number id (Vgcfgrestore vg text) now given planned other = restore_none state
-none_zeroed state number id (Lvcreate new) now given planned other = absurd (true≢false other)
-none_zeroed state number id (Lvextend path growth pvs) now given planned other =
-    no_zero state number id (Lvextend path growth pvs) now given refl refl
-none_zeroed state number id (Lvreduce path amount) now given planned other =
-    no_zero state number id (Lvreduce path amount) now given refl refl
-none_zeroed state number id (Lvremove path) now given planned other = no_zero state number id (Lvremove path) now given refl refl
-none_zeroed state number id (Lvrename vg old new) now given planned other =
-    no_zero state number id (Lvrename vg old new) now given refl refl
-none_zeroed state number id command now given planned other = absurd planned
+none_zeroed state number id command now given planned other =
+    by_kind (λ c. zeroes c ≡ false → (change_of state (record { number = number; id = id; command = c }) now given).zero ≡ [])
+    (record {
+      next = λ c is no other. no_zero state number id c now given is no;
+      new_volume = λ new other. absurd (true≢false other);
+      new_pv = λ pv copies other. refl;
+      new_group = λ vg extent_size pvs other. refl;
+      joining = λ vg pvs other. extend_none state pvs state.group;
+      leaving = λ vg pv other. leave_none state pv state.group;
+      removal = λ vg other. refl;
+      restore = λ vg text other. restore_none state;
+    }) id command planned other
 
 -- ---- plans
 

@@ -1,5 +1,5 @@
 -- A disk that a group lets go is none of those to which a version is committed.
-use Rattle.std.proofs.Common.{◌≡◌, ◌≢◌, ◌<◌, ℕ, zero, suc, true, false, List, [], ◌∷◌, ◌++◌, length, map, Option, Some, None, ⊎_elim, refl}
+use Rattle.std.proofs.Common.{◌≡◌, ◌≢◌, ◌<◌, ℕ, zero, suc, true, false, List, [], ◌∷◌, ◌++◌, length, map, Option, Some, None, ⊎_elim, refl, Bool}
 use Rattle.std.proofs.Common.{sym, ap, subst, ◌∙◌, arith}
 use Rattle.std.specs.Prelude.{AllPairs, IfSome, slice_get, slice_index}
 use Rattle.std.specs.List.{AllByRecursion as Each, list_any, remove}
@@ -9,9 +9,9 @@ use Rattle.std.proofs.lemmas.Bool.{cases_Bool, false≢true, or_cases, true≢fa
 use Rattle.std.proofs.lemmas.List.{length-map}
 use Rattle.std.proofs.lemmas.List.Elements.{All-cons, All-nil, recursion_from_All}
 use Rattle.std.proofs.lemmas.Option.{same_Some}
+use Rattle.std.specs.Str.{bytes_eq}
 use Rattle.command_table.specs.declared.command.Command.{Command}
-use Rattle.command_table.specs.declared.command.Command.TheVariants.{Lvcreate, Lvextend, Lvreduce, Lvremove, Lvrename, Pvcreate}
-use Rattle.command_table.specs.declared.command.Command.TheVariants.{Vgcfgrestore, Vgcreate, Vgextend, Vgreduce, Vgremove, Vgrename}
+use Rattle.command_table.specs.declared.command.Command.TheVariants.{Vgreduce, Vgremove}
 use Rattle.pv_header.specs.declared.header.PvHeader.{PvHeader}
 use Rattle.meta_model.specs.declared.group.Group.{Group}
 use Rattle.meta_model.specs.declared.lv.Lv.{Lv}
@@ -19,7 +19,7 @@ use Rattle.meta_model.specs.declared.pv.Pv.{Pv}
 use Rattle.volume_rules.specs.Rules.{IdsDiffer}
 use Rattle.volume_rules.specs.declared.rule.Rule.TheVariants.{Ids}
 use Rattle.extent_alloc.specs.declared.part.Part.{Part}
-use Rattle.scan_rules.specs.Decision.{Reading, has_id, lists, same_bytes}
+use Rattle.scan_rules.specs.Decision.{Reading, has_id, lists}
 use Rattle.scan_rules.specs.Found.{is_missing}
 use Rattle.scan_rules.proofs.Scanning.{same_bytes_tells}
 use Rattle.vg_found.specs.declared.disk.Disk.{Disk}
@@ -80,17 +80,17 @@ module _ (more : List (List ℕ)) where
       (λ k d within. pairs 0 (suc k) d (omega arith) (omega (arith, within))))
 
   none_has : (id : List ℕ) (rows : List Row) → Each (λ (other : Row). id ≢ other.1.id) rows
-      → list_any (λ (other : Row). same_bytes other.1.id id) rows ≡ true → ⊥
+      → list_any (λ (other : Row). bytes_eq other.1.id id) rows ≡ true → ⊥
   none_has id [] all any = false≢true any
   none_has id (other ∷ rows) all any =
       ⊎_elim
       (λ here. all.0 (sym (same_bytes_tells other.1.id id here)))
       (λ later. none_has id rows all.1 later)
-      (or_cases (same_bytes other.1.id id) (list_any (λ (o : Row). same_bytes o.1.id id) rows) any)
+      (or_cases (bytes_eq other.1.id id) (list_any (λ (o : Row). bytes_eq o.1.id id) rows) any)
 
   -- no other row has it
   has_left : (rows : List Row) (k : ℕ) (row : Row) → slice_get rows k ≡ Some row → Differ rows
-      → list_any (λ (other : Row). same_bytes other.1.id row.1.id) (remove rows k) ≡ true → ⊥
+      → list_any (λ (other : Row). bytes_eq other.1.id row.1.id) (remove rows k) ≡ true → ⊥
   has_left [] k row there pairs any = absurd cc
   has_left (first ∷ rows) zero row there pairs any =
       none_has row.1.id rows (subst (λ (r : Row). Each (λ (other : Row). r.1.id ≢ other.1.id) rows) (same_Some first row there)
@@ -101,7 +101,7 @@ module _ (more : List (List ℕ)) where
       (same_bytes_tells first.1.id row.1.id here))
       (λ later. has_left rows k row there (λ i j d before within. pairs (suc i) (suc j) d (omega (arith, before)) (omega (arith, within)))
       later)
-      (or_cases (same_bytes first.1.id row.1.id) (list_any (λ (o : Row). same_bytes o.1.id row.1.id) (remove rows k)) any)
+      (or_cases (bytes_eq first.1.id row.1.id) (list_any (λ (o : Row). bytes_eq o.1.id row.1.id) (remove rows k)) any)
 
 -- ---- vgreduce
 
@@ -191,18 +191,17 @@ module _ (found : Found) (names : List (List ℕ)) (backup : Option Backup) (sha
         → refusal_of (state_in found names backup) (record { number = number; id = id; command = command }) now given ≡ None
         → (group : Group)
         → MakesGroup (state_in found names backup) (change_by command) group → ClearsOthers (change_by command)
-    clears_others (Vgreduce vg pv) planned none group makes =
-        leaves_apart found names backup shape whole readings settled (vgreduce_change (state_in found names backup) pv) now
-        (leaves_next (state_in found names backup) vg pv now none) group makes
-    clears_others (Vgremove vg) planned none group makes = absurd (let e : ◌≡◌ {A = Option Group} None (Some group) = makes.made in cc)
-    clears_others (Pvcreate pv copies) planned none group makes = others_by (Pvcreate pv copies) planned refl
-    clears_others (Vgcreate vg extent_size pvs) planned none group makes = others_by (Vgcreate vg extent_size pvs) planned refl
-    clears_others (Vgextend vg pvs) planned none group makes = others_by (Vgextend vg pvs) planned refl
-    clears_others (Vgcfgrestore vg text) planned none group makes = others_by (Vgcfgrestore vg text) planned refl
-    clears_others (Vgrename vg new) planned none group makes = others_by (Vgrename vg new) planned refl
-    clears_others (Lvcreate new) planned none group makes = others_by (Lvcreate new) planned refl
-    clears_others (Lvextend path growth pvs) planned none group makes = others_by (Lvextend path growth pvs) planned refl
-    clears_others (Lvreduce path amount) planned none group makes = others_by (Lvreduce path amount) planned refl
-    clears_others (Lvremove path) planned none group makes = others_by (Lvremove path) planned refl
-    clears_others (Lvrename vg old new) planned none group makes = others_by (Lvrename vg old new) planned refl
-    clears_others command planned none group makes = absurd planned
+    clears_others command planned none group makes = by (clears command) refl
+      where
+        leaves_others : (c : Command) → clears c ≡ true
+            → refusal_of (state_in found names backup) (record { number = number; id = id; command = c }) now given ≡ None
+            → MakesGroup (state_in found names backup) (change_by c) group → ClearsOthers (change_by c)
+        leaves_others (Vgreduce vg pv) one none makes =
+            leaves_apart found names backup shape whole readings settled (vgreduce_change (state_in found names backup) pv) now
+            (leaves_next (state_in found names backup) vg pv now none) group makes
+        leaves_others (Vgremove vg) one none makes = absurd (let e : ◌≡◌ {A = Option Group} None (Some group) = makes.made in cc)
+        leaves_others c one none makes = absurd cc
+
+        by : (b : Bool) → clears command ≡ b → ClearsOthers (change_by command)
+        by true one = leaves_others command one none makes
+        by false other = others_by command planned other

@@ -7,8 +7,7 @@ use Rattle.std.proofs.lemmas.Bool.{ltb-false}
 use Rattle.std.proofs.lemmas.Option.{same_Some}
 use Rattle.command_table.specs.Options.{number_named}
 use Rattle.command_table.specs.declared.command.Command.{Command}
-use Rattle.command_table.specs.declared.command.Command.TheVariants.{Lvcreate, Lvextend, Lvreduce, Lvremove, Lvrename, Pvcreate}
-use Rattle.command_table.specs.declared.command.Command.TheVariants.{Vgcfgrestore, Vgcreate, Vgextend, Vgreduce, Vgremove, Vgrename}
+use Rattle.command_table.specs.declared.command.Command.TheVariants.{Lvcreate}
 use Rattle.line_answers.specs.declared.op_refusal.OpRefusal.{OpRefusal}
 use Rattle.line_answers.specs.declared.op_refusal.OpRefusal.TheVariants.{IdTaken, PvUsed, TooSmall, UnknownGroup, UnknownPv}
 use Rattle.lvm_script.specs.declared.line.Line.{Line}
@@ -36,7 +35,7 @@ use Rattle.vg_plans.specs.Vgreduce.{vgreduce_change}
 use Rattle.vg_plans.proofs.Restoring.{Restores, restores, sound_tree}
 use Rattle.vg_plans.specs.Vgcfgrestore.{vgcfgrestore_change, vgcfgrestore_rows}
 use Rattle.lv_plans.specs.Allocating.{Takes}
-use Rattle.group_ops.proofs.NextVersions.{commits_next, is_next}
+use Rattle.group_ops.proofs.NextVersions.{commits_next, is_next, by_kind}
 use Rattle.group_ops.specs.Laws.{state_in}
 use Rattle.group_ops.specs.Planning.{IsBackupOf, IsPlanned, asks_of, change_of, refusal_of}
 use Rattle.image_scans.specs.Laws.{CanCarryOut}
@@ -140,6 +139,9 @@ restore_line found names backup is readings scan vg text now (Some b) same known
     let sound = sound_tree text made.said (subst (IsBackup text) (same_Some b (Sound made.said) (sym same ∙ made.gives)) known) in
     restores_commits found state is refl readings scan (vgcfgrestore_change state) now made sound.0 sound.1
 
+abbrev line_of : ℕ → Option (List ℕ) → Command → Line
+line_of number id command = record { number = number; id = id; command = command }
+
 by_command : (found : Found) (names : List (List ℕ)) (backup : Option Backup) → HasShape found → IsWhole found
     → IsState (state_in found names backup) → (readings : List Reading) → IsSettledScan readings found
     → (number : ℕ) (id : Option (List ℕ)) (command : Command) (now : ℕ) (given : List Part) → now < 2 ^ 48
@@ -148,33 +150,31 @@ by_command : (found : Found) (names : List (List ℕ)) (backup : Option Backup) 
     → refusal_of (state_in found names backup) (record { number = number; id = id; command = command }) now given ≡ None
     → LineMakes found (state_in found names backup)
     (change_of (state_in found names backup) (record { number = number; id = id; command = command }) now given)
-by_command found names backup shape whole is readings scan number id (Pvcreate pv copies) now given time planned known takes none =
-    by_name found (state_in found names backup) (unwrap_or id []) pv copies (number_named names pv) none
-    (pvcreate_change (state_in found names backup) (unwrap_or id []) pv copies) refl refl
-by_command found names backup shape whole is readings scan number id (Vgcreate vg extent_size pvs) now given time planned known takes none =
-    makes_version (vgcreate_commits found names backup is id vg extent_size pvs now planned none)
-by_command found names backup shape whole is readings scan number id (Vgextend vg pvs) now given time planned known takes none =
-    extend_line found names backup shape whole is readings scan vg pvs now found.group refl none
-by_command found names backup shape whole is readings scan number id (Vgreduce vg pv) now given time planned known takes none =
-    makes_version (leaves_commits found names backup shape whole is readings scan (vgreduce_change (state_in found names backup) pv) now
-    (leaves_next (state_in found names backup) vg pv now none))
-by_command found names backup shape whole is readings scan number id (Vgremove vg) now given time planned known takes none =
-    makes_nothing refl refl
-by_command found names backup shape whole is readings scan number id (Vgcfgrestore vg text) now given time planned known takes none =
-    makes_version (restore_line found names backup is readings scan vg text now backup refl known none)
-by_command found names backup shape whole is readings scan number id (Vgrename vg new) now given time planned known takes none =
-    next_line found names backup shape whole is readings scan number id (Vgrename vg new) now given time planned refl takes none
-by_command found names backup shape whole is readings scan number id (Lvcreate new) now given time planned known takes none =
-    next_line found names backup shape whole is readings scan number id (Lvcreate new) now given time planned refl takes none
-by_command found names backup shape whole is readings scan number id (Lvextend path growth pvs) now given time planned known takes none =
-    next_line found names backup shape whole is readings scan number id (Lvextend path growth pvs) now given time planned refl takes none
-by_command found names backup shape whole is readings scan number id (Lvreduce path amount) now given time planned known takes none =
-    next_line found names backup shape whole is readings scan number id (Lvreduce path amount) now given time planned refl takes none
-by_command found names backup shape whole is readings scan number id (Lvremove path) now given time planned known takes none =
-    next_line found names backup shape whole is readings scan number id (Lvremove path) now given time planned refl takes none
-by_command found names backup shape whole is readings scan number id (Lvrename vg old new) now given time planned known takes none =
-    next_line found names backup shape whole is readings scan number id (Lvrename vg old new) now given time planned refl takes none
-by_command found names backup shape whole is readings scan number id command now given time planned known takes none = absurd planned
+by_command found names backup shape whole is readings scan number id command now given time planned known takes none =
+    by_kind (λ c. IsPlanned id c → IsBackupOf c backup → Takes (asks_of (state_in found names backup) (line_of number id c)) given
+    → refusal_of (state_in found names backup) (line_of number id c) now given ≡ None
+    → LineMakes found (state_in found names backup) (change_of (state_in found names backup) (line_of number id c) now given))
+    (record {
+      next = λ c one no planned known takes none.
+          next_line found names backup shape whole is readings scan number id c now given time planned one takes none;
+      new_volume = λ new planned known takes none.
+          next_line found names backup shape whole is readings scan number id (Lvcreate new) now given time planned refl takes none;
+      new_pv = λ pv copies planned known takes none.
+          by_name found (state_in found names backup) (unwrap_or id []) pv copies (number_named names pv) none
+          (pvcreate_change (state_in found names backup) (unwrap_or id []) pv copies)
+          refl refl;
+      new_group = λ vg extent_size pvs planned known takes none.
+          makes_version (vgcreate_commits found names backup is id vg extent_size pvs now planned none);
+      joining = λ vg pvs planned known takes none.
+          extend_line found names backup shape whole is readings scan vg pvs now found.group refl none;
+      leaving = λ vg pv planned known takes none.
+          makes_version (leaves_commits found names backup shape whole is readings scan (vgreduce_change (state_in found names backup) pv)
+          now
+          (leaves_next (state_in found names backup) vg pv now none));
+      removal = λ vg planned known takes none. makes_nothing refl refl;
+      restore = λ vg text planned known takes none.
+          makes_version (restore_line found names backup is readings scan vg text now backup refl known none);
+    }) id command planned planned known takes none
 
 pub line_makes : (base : Image) (sizes : List ℕ) (found : Found) (names : List (List ℕ)) (backup : Option Backup) (line : Line) (now : ℕ)
     (given : List Part) → CanCarryOut base sizes found names backup line now given

@@ -10,8 +10,7 @@ use Rattle.sector_base.specs.Spans.{covers}
 use Rattle.sector_base.specs.declared.places.At.{At}
 use Rattle.sector_base.specs.declared.spans.Span.{Span}
 use Rattle.command_table.specs.declared.command.Command.{Command}
-use Rattle.command_table.specs.declared.command.Command.TheVariants.{Lvcreate, Lvextend, Lvreduce, Lvremove, Lvrename, Pvcreate}
-use Rattle.command_table.specs.declared.command.Command.TheVariants.{Vgcfgrestore, Vgcreate, Vgextend, Vgreduce, Vgremove, Vgrename}
+use Rattle.command_table.specs.declared.command.Command.TheVariants.{Lvcreate}
 use Rattle.lvm_script.specs.declared.line.Line.{Line}
 use Rattle.disk_model.specs.Steps.{Image, value_at}
 use Rattle.mda_header.specs.declared.header.Locn.{Locn}
@@ -127,21 +126,19 @@ module _ (found : Found) (names : List (List ℕ)) (backup : Option Backup) (lin
       zeroes_by : (command : Command) → IsPlanned line.id command → Takes (asks_of (state_in found names backup) (line_of command)) given
           → refusal_of (state_in found names backup) (line_of command) now given ≡ None
           → ZeroesLie found (change_of (state_in found names backup) (line_of command) now given)
-      zeroes_by (Lvcreate new) planned takes passes =
-          new_lie found names backup (unwrap_or line.id []) new now given on.shape on.whole on.state on.held planned.1 on.time
-          (drawn_is line.id planned.0) takes passes
-      zeroes_by (Pvcreate pv copies) planned takes passes = none_lie (Pvcreate pv copies) planned refl
-      zeroes_by (Vgcreate vg extent_size pvs) planned takes passes = none_lie (Vgcreate vg extent_size pvs) planned refl
-      zeroes_by (Vgextend vg pvs) planned takes passes = none_lie (Vgextend vg pvs) planned refl
-      zeroes_by (Vgreduce vg pv) planned takes passes = none_lie (Vgreduce vg pv) planned refl
-      zeroes_by (Vgremove vg) planned takes passes = none_lie (Vgremove vg) planned refl
-      zeroes_by (Vgcfgrestore vg text) planned takes passes = none_lie (Vgcfgrestore vg text) planned refl
-      zeroes_by (Vgrename vg new) planned takes passes = none_lie (Vgrename vg new) planned refl
-      zeroes_by (Lvextend path growth pvs) planned takes passes = none_lie (Lvextend path growth pvs) planned refl
-      zeroes_by (Lvreduce path amount) planned takes passes = none_lie (Lvreduce path amount) planned refl
-      zeroes_by (Lvremove path) planned takes passes = none_lie (Lvremove path) planned refl
-      zeroes_by (Lvrename vg old new) planned takes passes = none_lie (Lvrename vg old new) planned refl
-      zeroes_by command planned takes passes = absurd planned
+      zeroes_by command planned takes passes = by (zeroes command) refl
+        where
+          new_lies : (c : Command) → zeroes c ≡ true → IsPlanned line.id c → Takes (asks_of (state_in found names backup) (line_of c)) given
+              → refusal_of (state_in found names backup) (line_of c) now given ≡ None
+              → ZeroesLie found (change_of (state_in found names backup) (line_of c) now given)
+          new_lies (Lvcreate new) one planned takes passes =
+              new_lie found names backup (unwrap_or line.id []) new now given on.shape on.whole on.state on.held planned.1 on.time
+              (drawn_is line.id planned.0) takes passes
+          new_lies c one planned takes passes = absurd cc
+
+          by : (b : Bool) → zeroes command ≡ b → ZeroesLie found (change_of (state_in found names backup) (line_of command) now given)
+          by true one = new_lies command one planned takes passes
+          by false other = none_lie command planned other
 
   -- and so behind labels and beside metadata areas
   zeroes_beside : (disk sector : ℕ) → in_spans change.zero disk sector ≡ true → IsPlaceOn found.disks disk sector

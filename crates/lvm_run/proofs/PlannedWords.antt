@@ -2,10 +2,9 @@
 use Rattle.std.proofs.Common.{◌≡◌, ◌∙◌, ℕ, List, Option, Some, None, IfSome, IsSomeAnd, is_some, true, true≢false, refl, ap, sym}
 use Rattle.lvm_id.specs.LvmId.{IsId}
 use Rattle.command_table.specs.declared.command.Command.{Command}
-use Rattle.command_table.specs.declared.command.Command.TheVariants.{Pvcreate, Pvmove, Pvck, Pvs, Vgcreate, Vgextend, Vgreduce, Vgremove}
-use Rattle.command_table.specs.declared.command.Command.TheVariants.{Vgrename, Vgcfgbackup, Vgcfgrestore, Vgck, Vgs, Lvcreate, Lvextend}
-use Rattle.command_table.specs.declared.command.Command.TheVariants.{Lvreduce, Lvremove, Lvrename, Lvs, Read, Fill, Write}
-use Rattle.command_table.specs.declared.command.Command.TheVariants.{List as ListVolumes, Wait, Resync}
+use Rattle.command_table.specs.declared.command.Command.TheVariants.{Pvcreate, Vgcreate, Vgextend, Vgreduce, Vgremove}
+use Rattle.command_table.specs.declared.command.Command.TheVariants.{Vgrename, Vgcfgrestore, Lvcreate, Lvextend}
+use Rattle.command_table.specs.declared.command.Command.TheVariants.{Lvreduce, Lvremove, Lvrename}
 use Rattle.command_table.specs.Commands.{changes, draws}
 use Rattle.command_table.specs.Options.{Word}
 use Rattle.lvm_script.specs.declared.line.Line.{Line}
@@ -35,19 +34,7 @@ by_command (Lvextend path growth pvs) id meant drawn built changing = meant
 by_command (Lvreduce path amount) id meant drawn built changing = meant
 by_command (Lvremove path) id meant drawn built changing = tt
 by_command (Lvrename vg old new) id meant drawn built changing = meant
-by_command (Pvck pv) id meant drawn built changing = absurd (true≢false (sym changing))
-by_command Pvs id meant drawn built changing = absurd (true≢false (sym changing))
-by_command (Vgcfgbackup vg) id meant drawn built changing = absurd (true≢false (sym changing))
-by_command Vgck id meant drawn built changing = absurd (true≢false (sym changing))
-by_command Vgs id meant drawn built changing = absurd (true≢false (sym changing))
-by_command Lvs id meant drawn built changing = absurd (true≢false (sym changing))
-by_command (Pvmove moving) id meant drawn built changing = absurd (true≢false (sym built))
-by_command (Read path start count) id meant drawn built changing = absurd (true≢false (sym built))
-by_command (Fill path start count value) id meant drawn built changing = absurd (true≢false (sym built))
-by_command (Write path start hex) id meant drawn built changing = absurd (true≢false (sym built))
-by_command ListVolumes id meant drawn built changing = absurd (true≢false (sym built))
-by_command Wait id meant drawn built changing = absurd (true≢false (sym built))
-by_command (Resync path) id meant drawn built changing = absurd (true≢false (sym built))
+by_command command id meant drawn built changing = absurd cc
 
 -- an id that is there is one
 some_id : (id : Option (List ℕ)) → is_some id ≡ true → IfSome id IsId → IsSomeAnd id IsId

@@ -6,9 +6,9 @@ use Rattle.std.specs.Bool.{MatchBool}
 use Rattle.command_table.specs.Commands.{changes}
 use Rattle.command_table.specs.Options.{Word}
 use Rattle.command_table.specs.declared.command.Command.{Command}
-use Rattle.command_table.specs.declared.command.Command.TheVariants.{Lvcreate, Lvextend, Lvreduce, Lvremove, Lvrename, Lvs, Pvcreate, Pvck}
-use Rattle.command_table.specs.declared.command.Command.TheVariants.{Pvs, Vgcfgbackup, Vgcfgrestore, Vgck, Vgcreate, Vgextend, Vgreduce}
-use Rattle.command_table.specs.declared.command.Command.TheVariants.{Vgremove, Vgrename, Vgs}
+use Rattle.command_table.specs.declared.command.Command.TheVariants.{Lvs, Pvck}
+use Rattle.command_table.specs.declared.command.Command.TheVariants.{Pvs, Vgcfgbackup, Vgck}
+use Rattle.command_table.specs.declared.command.Command.TheVariants.{Vgs}
 use Rattle.line_answers.specs.declared.answer.Answer.{Answer}
 use Rattle.line_answers.specs.declared.answer.Answer.TheVariants as answer
 use Rattle.line_answers.specs.declared.op_refusal.OpRefusal.{OpRefusal}
@@ -50,18 +50,6 @@ report_is Pvs built reads = record { unflushed = refl; quiet = refl; uncommitted
 report_is Vgs built reads = record { unflushed = refl; quiet = refl; uncommitted = refl; says_fine = refl; says_refused = λ refusal. refl }
 report_is Lvs built reads = record { unflushed = refl; quiet = refl; uncommitted = refl; says_fine = refl; says_refused = λ refusal. refl }
 report_is Vgck built reads = record { unflushed = refl; quiet = refl; uncommitted = refl; says_fine = refl; says_refused = λ refusal. refl }
-report_is (Pvcreate pv copies) built reads = absurd (true≢false reads)
-report_is (Vgcreate vg extent_size pvs) built reads = absurd (true≢false reads)
-report_is (Vgextend vg pvs) built reads = absurd (true≢false reads)
-report_is (Vgreduce vg pv) built reads = absurd (true≢false reads)
-report_is (Vgremove vg) built reads = absurd (true≢false reads)
-report_is (Vgrename vg new) built reads = absurd (true≢false reads)
-report_is (Vgcfgrestore vg text) built reads = absurd (true≢false reads)
-report_is (Lvcreate new) built reads = absurd (true≢false reads)
-report_is (Lvextend path growth pvs) built reads = absurd (true≢false reads)
-report_is (Lvreduce path amount) built reads = absurd (true≢false reads)
-report_is (Lvremove path) built reads = absurd (true≢false reads)
-report_is (Lvrename vg old new) built reads = absurd (true≢false reads)
 report_is _ built reads = absurd (cc)
 
 -- the moment of a report, between the one at which it was begun and its end

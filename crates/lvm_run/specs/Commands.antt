@@ -16,6 +16,7 @@ use Rattle.lvm_run.specs.Commands.Pvs.{pvs}
 use Rattle.lvm_run.specs.Commands.Vgcfgbackup.{vgcfgbackup}
 use Rattle.lvm_run.specs.Commands.Vgck.{vgck}
 use Rattle.lvm_run.specs.Commands.Vgs.{vgs}
+use Rattle.command_table.specs.Commands.{changes}
 
 -- the commands that are built; words that ask for another are refused until it is
 abbrev pub is_built : Command → Bool
@@ -60,24 +61,21 @@ unbuilt = record {
   reports = λ context found image text. ⊥;
 }
 
--- what is said of a command: its row, with its arguments
+-- the rows of the reports
+abbrev report_spec : Command → CommandSpec
+report_spec (command.Pvck pv) = pvck pv
+report_spec (command.Vgcfgbackup vg) = vgcfgbackup vg
+report_spec command.Pvs = pvs
+report_spec command.Vgs = vgs
+report_spec command.Lvs = lvs
+report_spec command.Vgck = vgck
+report_spec _ = unbuilt
+
+-- the row of a command, by whether it changes something
+abbrev pub row_by : Bool → Command → CommandSpec
+row_by true c = changing c
+row_by false c = report_spec c
+
+-- what is said of a command: its row, with its arguments, which is one for all commands that change something
 abbrev pub spec_of : Command → CommandSpec
-spec_of (command.Pvcreate pv metadata_copies) = changing (command.Pvcreate pv metadata_copies)
-spec_of (command.Pvck pv) = pvck pv
-spec_of (command.Vgcreate vg extent_size names) = changing (command.Vgcreate vg extent_size names)
-spec_of (command.Vgextend vg names) = changing (command.Vgextend vg names)
-spec_of (command.Vgreduce vg pv) = changing (command.Vgreduce vg pv)
-spec_of (command.Vgremove vg) = changing (command.Vgremove vg)
-spec_of (command.Vgrename vg new) = changing (command.Vgrename vg new)
-spec_of (command.Lvcreate new) = changing (command.Lvcreate new)
-spec_of (command.Lvextend path growth names) = changing (command.Lvextend path growth names)
-spec_of (command.Lvreduce path amount) = changing (command.Lvreduce path amount)
-spec_of (command.Lvremove path) = changing (command.Lvremove path)
-spec_of (command.Lvrename vg old new) = changing (command.Lvrename vg old new)
-spec_of (command.Vgcfgbackup vg) = vgcfgbackup vg
-spec_of (command.Vgcfgrestore vg text) = changing (command.Vgcfgrestore vg text)
-spec_of command.Pvs = pvs
-spec_of command.Vgs = vgs
-spec_of command.Lvs = lvs
-spec_of command.Vgck = vgck
-spec_of _ = unbuilt
+spec_of c = row_by (changes c) c

@@ -8,8 +8,8 @@ use Rattle.std.proofs.lemmas.Option.{same_Some}
 use Rattle.lvm_id.specs.LvmId.{IsId}
 use Rattle.command_table.specs.Options.{number_named}
 use Rattle.command_table.specs.declared.command.Command.{Command}
-use Rattle.command_table.specs.declared.command.Command.TheVariants.{Lvcreate, Lvextend, Lvreduce, Lvremove, Lvrename, Pvcreate}
-use Rattle.command_table.specs.declared.command.Command.TheVariants.{Vgcfgrestore, Vgcreate, Vgextend, Vgreduce, Vgremove, Vgrename}
+use Rattle.command_table.specs.declared.command.Command.TheVariants.{Lvcreate, Pvcreate}
+use Rattle.command_table.specs.declared.command.Command.TheVariants.{Vgcfgrestore, Vgcreate, Vgextend, Vgreduce}
 use Rattle.lvm_script.specs.declared.line.Line.{Line}
 use Rattle.disk_model.specs.Steps.{Image}
 use Rattle.pv_header.specs.declared.extent_list.Extent.{Extent}
@@ -42,7 +42,7 @@ use Rattle.vg_plans.proofs.Restoring.{restore_holds}
 use Rattle.vg_plans.specs.Vgcfgrestore.{vgcfgrestore_change}
 use Rattle.vg_plans.specs.Vgextend.{extend_by}
 use Rattle.vg_plans.specs.Vgreduce.{leaving_change, reduce_change}
-use Rattle.group_ops.proofs.NextVersions.{is_next, next_labels}
+use Rattle.group_ops.proofs.NextVersions.{is_next, next_labels, by_kind}
 use Rattle.group_ops.specs.Planning.{IsPlanned, change_of}
 use Rattle.change_batches.specs.Batches.{area_puts, batch_if, empty_area, label_put}
 use Rattle.change_batches.specs.Sound.{CanLabel}
@@ -85,22 +85,26 @@ leave_labels state name (Some group) = leaving_labels state group (pv_named stat
 restore_labels : (state : GroupState) → (vgcfgrestore_change state).labels ≡ []
 restore_labels state = restore_holds state (λ change. change.labels ≡ []) refl (λ disks next. refl)
 
+other_new : (state : GroupState) (number : ℕ) (id : Option (List ℕ)) (command : Command) (now : ℕ) (given : List Part)
+    → is_next command ≡ false → (change_of state (record { number = number; id = id; command = command }) now given).group ≡ None
+    → AreNew (change_of state (record { number = number; id = id; command = command }) now given).labels
+other_new state number id (Pvcreate pv copies) now given other none =
+    new_by state.disks (unwrap_or id []) copies (number_named state.names pv)
+other_new state number id (Vgcreate vg extent_size pvs) now given other none = absurd cc
+other_new state number id (Vgextend vg pvs) now given other none = extend_new state state.group pvs none
+other_new state number id (Vgreduce vg pv) now given other none = inl (leave_labels state pv state.group)
+other_new state number id (Vgcfgrestore vg text) now given other none = inl (restore_labels state)
+other_new state number id command now given other none = inl cc
+
 new_of : (state : GroupState) (number : ℕ) (id : Option (List ℕ)) (command : Command) (now : ℕ) (given : List Part)
     → (change_of state (record { number = number; id = id; command = command }) now given).group ≡ None
     → AreNew (change_of state (record { number = number; id = id; command = command }) now given).labels
-new_of state number id (Pvcreate pv copies) now given none = new_by state.disks (unwrap_or id []) copies (number_named state.names pv)
-new_of state number id (Vgcreate vg extent_size pvs) now given none = absurd cc
-new_of state number id (Vgextend vg pvs) now given none = extend_new state state.group pvs none
-new_of state number id (Vgreduce vg pv) now given none = inl (leave_labels state pv state.group)
-new_of state number id (Vgcfgrestore vg text) now given none = inl (restore_labels state)
-new_of state number id (Vgrename vg new) now given none = inl (next_labels state number id (Vgrename vg new) now given refl)
-new_of state number id (Lvcreate new) now given none = inl (next_labels state number id (Lvcreate new) now given refl)
-new_of state number id (Lvextend path growth pvs) now given none =
-    inl (next_labels state number id (Lvextend path growth pvs) now given refl)
-new_of state number id (Lvreduce path amount) now given none = inl (next_labels state number id (Lvreduce path amount) now given refl)
-new_of state number id (Lvremove path) now given none = inl (next_labels state number id (Lvremove path) now given refl)
-new_of state number id (Lvrename vg old new) now given none = inl (next_labels state number id (Lvrename vg old new) now given refl)
-new_of state number id command now given none = inl refl
+new_of state number id command now given none = by (is_next command) refl
+  where
+    by : (b : Bool) → is_next command ≡ b
+        → AreNew (change_of state (record { number = number; id = id; command = command }) now given).labels
+    by true is = inl (next_labels state number id command now given is)
+    by false other = other_new state number id command now given other none
 
 pub new_labels_are : (state : GroupState) (line : Line) (now : ℕ) (given : List Part) → (change_of state line now given).group ≡ None
     → AreNew (change_of state line now given).labels
@@ -284,23 +288,19 @@ none_found state number id command now given is =
 
 found_of : (state : GroupState) → IsState state → (number : ℕ) (id : Option (List ℕ)) (command : Command) (now : ℕ) (given : List Part)
     → IsPlanned id command → All HeaderIsFound (change_of state (record { number = number; id = id; command = command }) now given).labels
-found_of state is number id (Pvcreate pv copies) now given planned =
-    new_found state.disks (unwrap_or id []) copies (number_named state.names pv) (drawn_id id planned)
-found_of state is number id (Vgcreate vg extent_size pvs) now given planned = found_all state is pvs
-found_of state is number id (Vgextend vg pvs) now given planned = found_extend state is state.group pvs
-found_of state is number id (Vgreduce vg pv) now given planned =
-    subst (All HeaderIsFound) (sym (leave_labels state pv state.group)) (All-nil HeaderIsFound)
-found_of state is number id (Vgremove vg) now given planned = All-nil HeaderIsFound
-found_of state is number id (Vgcfgrestore vg text) now given planned =
-    subst (All HeaderIsFound) (sym (restore_labels state)) (All-nil HeaderIsFound)
-found_of state is number id (Vgrename vg new) now given planned = none_found state number id (Vgrename vg new) now given refl
-found_of state is number id (Lvcreate new) now given planned = none_found state number id (Lvcreate new) now given refl
-found_of state is number id (Lvextend path growth pvs) now given planned =
-    none_found state number id (Lvextend path growth pvs) now given refl
-found_of state is number id (Lvreduce path amount) now given planned = none_found state number id (Lvreduce path amount) now given refl
-found_of state is number id (Lvremove path) now given planned = none_found state number id (Lvremove path) now given refl
-found_of state is number id (Lvrename vg old new) now given planned = none_found state number id (Lvrename vg old new) now given refl
-found_of state is number id command now given planned = absurd planned
+found_of state is number id command now given planned =
+    by_kind (λ c. IsPlanned id c → All HeaderIsFound (change_of state (record { number = number; id = id; command = c }) now given).labels)
+    (record {
+      next = λ c one no planned. none_found state number id c now given one;
+      new_volume = λ new planned. none_found state number id (Lvcreate new) now given refl;
+      new_pv = λ pv copies planned.
+          new_found state.disks (unwrap_or id []) copies (number_named state.names pv) (drawn_id id planned);
+      new_group = λ vg extent_size pvs planned. found_all state is pvs;
+      joining = λ vg pvs planned. found_extend state is state.group pvs;
+      leaving = λ vg pv planned. subst (All HeaderIsFound) (sym (leave_labels state pv state.group)) (All-nil HeaderIsFound);
+      removal = λ vg planned. All-nil HeaderIsFound;
+      restore = λ vg text planned. subst (All HeaderIsFound) (sym (restore_labels state)) (All-nil HeaderIsFound);
+    }) id command planned planned
 
 pub headers_found : (state : GroupState) (line : Line) (now : ℕ) (given : List Part) → IsState state → IsPlanned line.id line.command
     → All HeaderIsFound (change_of state line now given).labels

@@ -1,5 +1,5 @@
 -- The change of a line that no row refuses can be made, and lies on the disks.
-use Rattle.std.proofs.Common.{◌≡◌, ◌<◌, ℕ, List, [], ◌∷◌, ◌++◌, length, Option, Some, None, refl, sym, ap, subst, ◌∙◌, arith}
+use Rattle.std.proofs.Common.{◌≡◌, ◌<◌, ℕ, List, [], ◌∷◌, ◌++◌, length, Option, Some, None, refl, sym, ap, subst, ◌∙◌, arith, true}
 use Rattle.std.specs.Prelude.{All, IfSome, is_some, slice_index, unwrap_or}
 use Rattle.std.specs.List.{remove}
 use Rattle.std.specs.Ordering.{nat_cmp}
@@ -9,8 +9,7 @@ use Rattle.std.specs.Option.{option_map_or}
 use Rattle.std.proofs.lemmas.List.Elements.{All-nil}
 use Rattle.sector_base.specs.declared.spans.Span.{Span}
 use Rattle.command_table.specs.declared.command.Command.{Command}
-use Rattle.command_table.specs.declared.command.Command.TheVariants.{Lvcreate, Lvextend, Lvreduce, Lvremove, Lvrename, Pvcreate}
-use Rattle.command_table.specs.declared.command.Command.TheVariants.{Vgcfgrestore, Vgcreate, Vgextend, Vgreduce, Vgremove, Vgrename}
+use Rattle.command_table.specs.declared.command.Command.TheVariants.{Lvcreate}
 use Rattle.line_answers.specs.declared.op_refusal.OpRefusal.TheVariants.{GroupStands, UnknownGroup}
 use Rattle.lvm_script.specs.declared.line.Line.{Line}
 use Rattle.conf_text.specs.Printed.{printed}
@@ -39,7 +38,7 @@ use Rattle.vg_plans.specs.Vgreduce.{vgreduce_change}
 use Rattle.vg_plans.proofs.Restoring.{Restores, restores}
 use Rattle.vg_plans.specs.Vgcfgrestore.{backup_change, vgcfgrestore_change, vgcfgrestore_rows}
 use Rattle.lv_plans.specs.Allocating.{Takes}
-use Rattle.group_ops.proofs.NextVersions.{CommitsNext, append_nil, commits_next, extended_none}
+use Rattle.group_ops.proofs.NextVersions.{CommitsNext, append_nil, commits_next, extended_none, by_kind, is_next}
 use Rattle.group_ops.specs.Planning.{IsPlanned, asks_of, change_of, refusal_of}
 use Rattle.change_batches.specs.Sound.{sizes_of, AreasLie, CanLabel, CanMake, CanTakeText, LabelLies, LiesOn}
 use Rattle.vg_change.proofs.SoundCommit.{commit_can_make, commit_lies_on}
@@ -199,34 +198,30 @@ sound_by : (state : GroupState) → IsState state → (number : ℕ) (id : Optio
     → IsPlanned id command → Takes (asks_of state (record { number = number; id = id; command = command })) given
     → refusal_of state (record { number = number; id = id; command = command }) now given ≡ None
     → IsSound state (change_of state (record { number = number; id = id; command = command }) now given) now
-sound_by state is number id (Pvcreate pv copies) now given planned takes none =
-    (pvcreate_can_make state is (unwrap_or id []) pv copies now, pvcreate_lies_on state is (unwrap_or id []) pv copies none)
-sound_by state is number id (Vgcreate vg extent_size pvs) now given planned takes none =
-    vgcreate_sound state is (empty_group (unwrap_or id []) vg extent_size) pvs now state.group none
-sound_by state is number id (Vgextend vg pvs) now given planned takes none = vgextend_sound state is vg pvs now state.group refl none
-sound_by state is number id (Vgreduce vg pv) now given planned takes none =
-    leaves_sound state is (vgreduce_change state pv) now (leaves_next state vg pv now none)
-sound_by state is number id (Vgremove vg) now given planned takes none = none_sound state (set_of state.disk_of) [] now
-sound_by state is number id (Vgcfgrestore vg text) now given planned takes none = restore_sound state is vg now none
-sound_by state is number id (Vgrename vg new) now given planned takes none =
-    next_sound state is (change_of state (record { number = number; id = id; command = Vgrename vg new }) now given) now
-    (commits_next state number id (Vgrename vg new) now given planned refl takes none)
-sound_by state is number id (Lvcreate new) now given planned takes none =
-    next_sound state is (change_of state (record { number = number; id = id; command = Lvcreate new }) now given) now
-    (commits_next state number id (Lvcreate new) now given planned refl takes none)
-sound_by state is number id (Lvextend path growth pvs) now given planned takes none =
-    next_sound state is (change_of state (record { number = number; id = id; command = Lvextend path growth pvs }) now given) now
-    (commits_next state number id (Lvextend path growth pvs) now given planned refl takes none)
-sound_by state is number id (Lvreduce path amount) now given planned takes none =
-    next_sound state is (change_of state (record { number = number; id = id; command = Lvreduce path amount }) now given) now
-    (commits_next state number id (Lvreduce path amount) now given planned refl takes none)
-sound_by state is number id (Lvremove path) now given planned takes none =
-    next_sound state is (change_of state (record { number = number; id = id; command = Lvremove path }) now given) now
-    (commits_next state number id (Lvremove path) now given planned refl takes none)
-sound_by state is number id (Lvrename vg old new) now given planned takes none =
-    next_sound state is (change_of state (record { number = number; id = id; command = Lvrename vg old new }) now given) now
-    (commits_next state number id (Lvrename vg old new) now given planned refl takes none)
-sound_by state is number id command now given planned takes none = absurd planned
+sound_by state is number id command now given planned takes none =
+    by_kind (λ c. IsPlanned id c → Takes (asks_of state (record { number = number; id = id; command = c })) given
+    → refusal_of state (record { number = number; id = id; command = c }) now given ≡ None
+    → IsSound state (change_of state (record { number = number; id = id; command = c }) now given) now)
+    (record {
+      next = λ c is_one no planned takes none. commits_sound c is_one planned takes none;
+      new_volume = λ new planned takes none. commits_sound (Lvcreate new) refl planned takes none;
+      new_pv = λ pv copies planned takes none.
+          (pvcreate_can_make state is (unwrap_or id []) pv copies now, pvcreate_lies_on state is (unwrap_or id []) pv copies none);
+      new_group = λ vg extent_size pvs planned takes none.
+          vgcreate_sound state is (empty_group (unwrap_or id []) vg extent_size) pvs now state.group none;
+      joining = λ vg pvs planned takes none. vgextend_sound state is vg pvs now state.group refl none;
+      leaving = λ vg pv planned takes none. leaves_sound state is (vgreduce_change state pv) now (leaves_next state vg pv now none);
+      removal = λ vg planned takes none. none_sound state (set_of state.disk_of) [] now;
+      restore = λ vg text planned takes none. restore_sound state is vg now none;
+    }) id command planned planned takes none
+  where
+    commits_sound : (c : Command) → is_next c ≡ true → IsPlanned id c
+        → Takes (asks_of state (record { number = number; id = id; command = c })) given
+        → refusal_of state (record { number = number; id = id; command = c }) now given ≡ None
+        → IsSound state (change_of state (record { number = number; id = id; command = c }) now given) now
+    commits_sound c is_one planned takes none =
+        next_sound state is (change_of state (record { number = number; id = id; command = c }) now given) now
+        (commits_next state number id c now given planned is_one takes none)
 
 pub can_make : (state : GroupState) (line : Line) (now : ℕ) (given : List Part) → IsState state → IsPlanned line.id line.command
     → Takes (asks_of state line) given → refusal_of state line now given ≡ None → CanMake state.areas (change_of state line now given) now

@@ -1,5 +1,5 @@
 -- What commands are that leave the volumes as they are, and those that create no sector.
-use Rattle.std.proofs.Common.{◌≡◌, ℕ, Bool, true, false, List, Option, Some, None, refl, ap}
+use Rattle.std.proofs.Common.{◌≡◌, ℕ, Bool, true, false, List, Option, Some, None, refl, ap, not, ◌||◌, ◌∙◌}
 use Rattle.command_table.specs.Options.{Word}
 use Rattle.command_table.specs.declared.command.Command.{Command}
 use Rattle.command_table.specs.declared.command.Command.TheVariants as command
@@ -9,7 +9,7 @@ use Rattle.line_table.specs.Machine.{PlainState, plain_after}
 use Rattle.group_ops.proofs.NextVersions.{zeroes}
 use Rattle.image_scans.specs.Versions.{Version}
 use Rattle.volume_history.specs.Candidates.{is_born, is_zeroed}
-use Rattle.volume_history.specs.Commands.{commits, created_disk, is_data, may_say, removes, volume_named, writes}
+use Rattle.volume_history.specs.Commands.{commits, created_disk, is_data, may_say, removes, volume_named, writes, is_list, is_pvcreate, is_read, is_resync}
 use Rattle.volume_history.specs.Quiet.{is_quiet}
 use Rattle.volume_history.specs.Replay.{command_step}
 
@@ -54,16 +54,7 @@ quiet_command command.Wait q =
     record { step = λ b a s i. refl; births = λ b a s i k x. refl; writes_is = refl; data_is = refl; unnamed = refl }
 quiet_command (command.Resync path) q =
     record { step = λ b a s i. refl; births = λ b a s i k x. refl; writes_is = refl; data_is = refl; unnamed = refl }
-quiet_command (command.Vgremove vg) q = cc
-quiet_command (command.Vgcfgrestore vg text) q = cc
-quiet_command (command.Lvcreate new) q = cc
-quiet_command (command.Lvextend path growth pvs) q = cc
-quiet_command (command.Lvreduce path amount) q = cc
-quiet_command (command.Lvremove path) q = cc
-quiet_command (command.Lvrename vg old new) q = cc
-quiet_command (command.Read path start count) q = cc
-quiet_command (command.Fill path start count value) q = cc
-quiet_command (command.Write path start hex) q = cc
+quiet_command _ q = cc
 
 -- a command that creates sectors, or may place them anew as new ones
 abbrev pub bears : Command → Bool
@@ -80,31 +71,10 @@ pub record IsBearless (c : Command) : Type 0 where
       → is_born (command_step c before after state i) state key x ≡ false
 
 pub bearless : (c : Command) → bears c ≡ false → IsBearless c
-bearless (command.Pvcreate pv copies) q = record { step = λ b a s i j. refl; births = λ b a s i k x. refl }
-bearless (command.Pvmove moving) q = record { step = λ b a s i j. refl; births = λ b a s i k x. refl }
-bearless (command.Pvck pv) q = record { step = λ b a s i j. refl; births = λ b a s i k x. refl }
-bearless command.Pvs q = record { step = λ b a s i j. refl; births = λ b a s i k x. refl }
-bearless (command.Vgcreate vg extent_size pvs) q = record { step = λ b a s i j. refl; births = λ b a s i k x. refl }
-bearless (command.Vgextend vg pvs) q = record { step = λ b a s i j. refl; births = λ b a s i k x. refl }
-bearless (command.Vgreduce vg pv) q = record { step = λ b a s i j. refl; births = λ b a s i k x. refl }
-bearless (command.Vgrename vg new) q = record { step = λ b a s i j. refl; births = λ b a s i k x. refl }
-bearless (command.Vgcfgbackup vg) q = record { step = λ b a s i j. refl; births = λ b a s i k x. refl }
-bearless command.Vgck q = record { step = λ b a s i j. refl; births = λ b a s i k x. refl }
-bearless command.Vgs q = record { step = λ b a s i j. refl; births = λ b a s i k x. refl }
-bearless command.Lvs q = record { step = λ b a s i j. refl; births = λ b a s i k x. refl }
-bearless command.List q = record { step = λ b a s i j. refl; births = λ b a s i k x. refl }
-bearless command.Wait q = record { step = λ b a s i j. refl; births = λ b a s i k x. refl }
-bearless (command.Resync path) q = record { step = λ b a s i j. refl; births = λ b a s i k x. refl }
-bearless (command.Vgremove vg) q = record { step = λ b a s i j. refl; births = λ b a s i k x. refl }
-bearless (command.Vgcfgrestore vg text) q = cc
 bearless (command.Lvcreate new) q = cc
 bearless (command.Lvextend path growth pvs) q = cc
-bearless (command.Lvreduce path amount) q = record { step = λ b a s i j. refl; births = λ b a s i k x. refl }
-bearless (command.Lvremove path) q = record { step = λ b a s i j. refl; births = λ b a s i k x. refl }
-bearless (command.Lvrename vg old new) q = record { step = λ b a s i j. refl; births = λ b a s i k x. refl }
-bearless (command.Read path start count) q = record { step = λ b a s i j. refl; births = λ b a s i k x. refl }
-bearless (command.Fill path start count value) q = record { step = λ b a s i j. refl; births = λ b a s i k x. refl }
-bearless (command.Write path start hex) q = record { step = λ b a s i j. refl; births = λ b a s i k x. refl }
+bearless (command.Vgcfgrestore vg text) q = cc
+bearless _ q = record { step = λ b a s i j. refl; births = λ b a s i k x. refl }
 
 -- a command that creates a physical volume is a pvcreate
 pub created_is : (names : List Word) (disk : ℕ) (c : Command) → created_disk names c ≡ Some disk
@@ -135,35 +105,27 @@ undata _ q = (refl, refl)
 
 -- and of one that commits a version
 pub commit_kind : (names : List Word) (c : Command) → commits c ≡ true → (is_data c ≡ false) × (created_disk names c ≡ None)
-commit_kind names (command.Vgcreate vg extent_size pvs) q = (refl, refl)
-commit_kind names (command.Vgextend vg pvs) q = (refl, refl)
-commit_kind names (command.Vgreduce vg pv) q = (refl, refl)
-commit_kind names (command.Vgremove vg) q = (refl, refl)
-commit_kind names (command.Vgrename vg new) q = (refl, refl)
-commit_kind names (command.Vgcfgrestore vg text) q = (refl, refl)
-commit_kind names (command.Lvcreate new) q = (refl, refl)
-commit_kind names (command.Lvextend path growth pvs) q = (refl, refl)
-commit_kind names (command.Lvreduce path amount) q = (refl, refl)
-commit_kind names (command.Lvremove path) q = (refl, refl)
-commit_kind names (command.Lvrename vg old new) q = (refl, refl)
-commit_kind names (command.Pvmove moving) q = (refl, refl)
-commit_kind names _ q = cc
+commit_kind names (command.Pvcreate pv copies) q = cc
+commit_kind names (command.Read path start count) q = cc
+commit_kind names (command.Fill path start count value) q = cc
+commit_kind names (command.Write path start hex) q = cc
+commit_kind names _ q = (refl, refl)
+
+no_sectors : (c : Command) → commits c ≡ true → (is_read c || is_list c) ≡ false
+no_sectors (command.Read path start count) q = cc
+no_sectors command.List q = cc
+no_sectors _ q = refl
+
+or_true : (b : Bool) → (b || true) ≡ true
+or_true true = refl
+or_true false = refl
 
 -- which may be answered ok, or fail
 pub commit_says : (c : Command) (pv : ℕ) → commits c ≡ true → (may_say c answer.Fine ≡ true) × (may_say c (answer.PvFailed pv) ≡ true)
-commit_says (command.Vgcreate vg extent_size pvs) pv q = (refl, refl)
-commit_says (command.Vgextend vg pvs) pv q = (refl, refl)
-commit_says (command.Vgreduce vg gone) pv q = (refl, refl)
-commit_says (command.Vgremove vg) pv q = (refl, refl)
-commit_says (command.Vgrename vg new) pv q = (refl, refl)
-commit_says (command.Vgcfgrestore vg text) pv q = (refl, refl)
-commit_says (command.Lvcreate new) pv q = (refl, refl)
-commit_says (command.Lvextend path growth pvs) pv q = (refl, refl)
-commit_says (command.Lvreduce path amount) pv q = (refl, refl)
-commit_says (command.Lvremove path) pv q = (refl, refl)
-commit_says (command.Lvrename vg old new) pv q = (refl, refl)
-commit_says (command.Pvmove moving) pv q = (refl, refl)
-commit_says _ pv q = cc
+commit_says c pv q = (
+  ap not (no_sectors c q),
+  ap (λ (b : Bool). is_data c || (b || (is_pvcreate c || is_resync c))) q ∙ or_true (is_data c),
+)
 
 -- no sector is born as a zero but in lvcreate
 pub none_zeroed : (c : Command) → zeroes c ≡ false → (before after : Option Version) (state : PlainState) (image : Image) (x : ℕ)

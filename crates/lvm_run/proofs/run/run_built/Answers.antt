@@ -15,7 +15,7 @@ returns-then-changes-clause-meets g c =
     let s0 = g.S.Shelf.state c.args.shelf.now in
     subst (λ (spec : CommandSpec). Meets spec (context_with c.args.names.now c.args.line.id c.args.now s0) s0 c.run_change.result.outcome
     (g.S.Shelf.state c.run_change.new.shelf))
-    (sym (spec_of_changing c.args.line.command c.requires.built (sym c.changes.ensures ∙ c.if-changes.true))) c.run_change.ensures.meets
+    (sym (spec_of_changing c.args.line.command (sym c.changes.ensures ∙ c.if-changes.true))) c.run_change.ensures.meets
 
 pub returns-clause-entered : goal.returns-clause-entered
 returns-clause-entered g c =
