@@ -1,5 +1,5 @@
 -- Halving a sorted list of numbers: what is known of its parts, and how many comparisons it takes.
-use Rattle.std.proofs.Common.{◌≡◌, ◌<◌, ◌≤◌, ℕ, zero, suc, ◌+◌, ◌-◌, ◌*◌, ◌/◌, ◌^◌, Bool, true, false, cond, List, length, get_or, nat_eq}
+use Rattle.std.proofs.Common.{◌≡◌, ◌<◌, ◌≤◌, ℕ, zero, suc, ◌+◌, ◌-◌, ◌*◌, ◌/◌, ◌^◌, true, false, cond, List, length, get_or, nat_eq}
 use Rattle.std.proofs.Common.{nat_lt, refl, ap, subst, arith}
 use Rattle.std.specs.List.{list_any}
 use Rattle.std.specs.Ordering.{MatchOrdering, is_lt, nat_cmp}

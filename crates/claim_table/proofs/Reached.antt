@@ -1,6 +1,6 @@
 -- The claims after any calls, and what a conflict is.
-use Rattle.std.proofs.Common.{◌≡◌, ◌<◌, ◌≤◌, ℕ, zero, suc, ◌+◌, max, min, Bool, true, false, not, cond, ◌&&◌, ◌||◌, nat_eq, nat_lt, List}
-use Rattle.std.proofs.Common.{[], ◌∷◌, ◌++◌, length, get_or, take, refl, sym, ap, subst, ◌∙◌, arith}
+use Rattle.std.proofs.Common.{◌≡◌, ◌<◌, ℕ, zero, suc, ◌+◌, max, min, Bool, true, false, cond, ◌&&◌, ◌||◌, nat_eq, nat_lt, List}
+use Rattle.std.proofs.Common.{[], ◌∷◌, ◌++◌, length, get_or, take, refl, sym, subst, ◌∙◌, arith}
 use Rattle.std.specs.Prelude.{Contains, None, Option, Some, remove}
 use Rattle.std.specs.List.{insert, list_any}
 use Rattle.std.specs.Option.{option_map_or}
@@ -11,16 +11,15 @@ use Rattle.std.proofs.lemmas.List.Sorted.{Contains-permutation, IsPermutation-in
 use Rattle.std.proofs.lemmas.List.Sorted.{IsPermutation-to_front}
 use Rattle.sector_base.proofs.Positions.{any_within}
 use Rattle.claim_table.specs.declared.claim.Claim.{Claim}
-use Rattle.claim_table.specs.declared.claim.By.{By}
 use Rattle.claim_table.specs.declared.claim.By.TheVariants.{Piece, Region, Suspended}
 use Rattle.claim_table.specs.declared.claim.Entry.TheVariants.{Started, Deferred}
-use Rattle.claim_table.specs.Claims.{Claims, IsApart, clashes_with, conflicts, is_free, is_shut_out, is_suspended, lies_in, ready_at}
+use Rattle.claim_table.specs.Claims.{Claims, IsApart, clashes_with, conflicts, is_shut_out, is_suspended, lies_in, ready_at}
 use Rattle.claim_table.specs.Conflict.{clash}
 use Rattle.claim_table.specs.Extents.{end_of, overlaps}
 use Rattle.claim_table.specs.Laws.{Call, Reserves, Enters, Relocates, Leaves, Readies, Closes, Opens, Suspends, Resumes}
-use Rattle.claim_table.specs.Laws.{ClashesShareSectors, FreeWithoutConflict, IsCall, AreCalls, NoneStartsSuspended, StartedAreApart}
+use Rattle.claim_table.specs.Laws.{ClashesShareSectors, FreeWithoutConflict, IsCall, NoneStartsSuspended, StartedAreApart}
 use Rattle.claim_table.specs.Laws.{StartsInOrder, after_call, after_calls}
-use Rattle.claim_table.specs.Steps.{after_leave, has_number, no_claim, number_at, place_by_number, without}
+use Rattle.claim_table.specs.Steps.{has_number, no_claim, number_at, place_by_number, without}
 use Rattle.claim_table.proofs.Apart.{apart_by_close, apart_by_enter, apart_by_leave, apart_by_open, apart_by_ready, apart_by_resume}
 use Rattle.claim_table.proofs.Apart.{apart_by_set_region, apart_by_suspend}
 use Rattle.claim_table.proofs.FreePieces.{conflict_blocks, free_earlier, free_running, ready_is_free}

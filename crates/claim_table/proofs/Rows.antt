@@ -1,5 +1,5 @@
 -- Worked rows: writes and reads of one volume that share sectors, and a region and a suspension between them.
-use Rattle.std.specs.Prelude.{◌≡◌, ◌≤◌, ◌<◌, ◌+◌, ◌-◌, ◌*◌, ◌^◌, ℕ, Bool, true, false, [], ◌∷◌, Some, None, nat_lt}
+use Rattle.std.specs.Prelude.{◌≡◌, ◌≤◌, ◌+◌, ◌-◌, ◌*◌, ◌^◌, ℕ, Bool, true, false, [], ◌∷◌, Some, None, nat_lt}
 use Rattle.std.proofs.Common.{refl, ap, ◌∙◌, arith}
 use Rattle.std.proofs.lemmas.Bool.{ltb-true, ltb-false}
 use Rattle.std.proofs.lemmas.Nat.{mul-le, pow-add, pow_pos}

@@ -1,7 +1,6 @@
 -- What the parts of a table keep as pieces enter, start and leave.
-use Rattle.std.proofs.Common.{◌≡◌, ◌<◌, ◌≤◌, ◌*◌, ◌+◌, ◌^◌, ℕ, not, nat_le, List, ◌∷◌, ◌++◌, length, get_or, set, arith}
+use Rattle.std.proofs.Common.{◌≡◌, ◌<◌, ◌≤◌, ℕ, not, nat_le, List, length, get_or, set, arith}
 use Rattle.std.specs.Prelude.{All, AllPairs, Option}
-use Rattle.std.specs.List.{insert}
 use Rattle.std.proofs.lemmas.List.{length-set}
 use Rattle.std.proofs.lemmas.List.Quantifiers.{all_pairs_push}
 use Rattle.std.proofs.lemmas.List.Sums.{prefix_len-le-length}

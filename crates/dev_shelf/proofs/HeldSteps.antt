@@ -1,5 +1,5 @@
 -- What is held, as steps are added: a submission holds nothing more, and neither does a completion.
-use Rattle.std.proofs.Common.{◌≡◌, ◌≢◌, ◌⊎◌, inl, inr, ◌<◌, ℕ, nat_le, nat_lt, Bool, true, false, not, ◌==◌, zero, suc, ◌&&◌, ◌||◌}
+use Rattle.std.proofs.Common.{◌≡◌, ◌≢◌, ◌⊎◌, inl, inr, ℕ, nat_le, nat_lt, Bool, true, false, not, ◌==◌, zero, suc, ◌&&◌, ◌||◌}
 use Rattle.std.proofs.Common.{if◌then◌else◌, cond, List, [], ◌∷◌, filter, Contains, ⊎_elim, refl, sym, ap, subst, ◌∙◌, arith}
 use Rattle.std.specs.List.{list_any}
 use Rattle.std.proofs.lemmas.Bool.Decides.{eqb_tells}

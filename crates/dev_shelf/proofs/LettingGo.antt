@@ -5,7 +5,7 @@ use Rattle.std.specs.List.{list_any}
 use Rattle.std.proofs.lemmas.Bool.Decides.{leb_tells}
 use Rattle.std.proofs.lemmas.List.Elements.{All-head}
 use Rattle.disk_model.specs.Record.{Operation}
-use Rattle.disk_model.specs.State.{State, IsLawful, tags_of}
+use Rattle.disk_model.specs.State.{State, tags_of}
 use Rattle.disk_model.specs.Steps.{Step}
 use Rattle.disk_model.specs.Calls.{MakesReady}
 use Rattle.op_queue.specs.QueueInvariant.{lawful_of as queue_lawful}
@@ -13,7 +13,7 @@ use Rattle.dev_shelf.specs.declared.mem_shelf.disk_row.DiskRow.{DiskRow}
 use Rattle.dev_shelf.specs.declared.mem_shelf.recorded.RecordedOp.{RecordedOp}
 use Rattle.dev_shelf.specs.DiskRow.{operation_at, state_of}
 use Rattle.dev_shelf.specs.DiskRowInvariant.{IsGood}
-use Rattle.dev_shelf.specs.Plan.{PlanLeft, after_vain, before_settling, held_back, is_held, keeps_back, letting_go, steps_told}
+use Rattle.dev_shelf.specs.Plan.{PlanLeft, after_vain, before_settling, held_back, is_held, keeps_back, letting_go}
 use Rattle.dev_shelf.proofs.HeldCalls.{ready_tags}
 
 -- a list isn't empty, or is

@@ -1,6 +1,6 @@
 -- What a row in memory reads off its record about holds is what the contracts say of the record.
-use Rattle.std.proofs.Common.{◌≡◌, ◌≢◌, ◌<◌, ◌↔◌, ℕ, nat_le, nat_lt, IsTrue, Bool, true, false, not, ◌==◌, ◌&&◌, ◌||◌, if◌then◌else◌, cond}
-use Rattle.std.proofs.Common.{List, [], ◌∷◌, length, map, filter, replicate, ⊎_elim, refl, sym, ap, subst, arith, ◌∙◌}
+use Rattle.std.proofs.Common.{◌≡◌, ◌≢◌, ◌<◌, ◌↔◌, ℕ, nat_le, nat_lt, IsTrue, Bool, true, false, not, ◌&&◌, ◌||◌, if◌then◌else◌, cond}
+use Rattle.std.proofs.Common.{List, [], ◌∷◌, length, map, filter, ⊎_elim, refl, sym, ap, subst, arith, ◌∙◌}
 use Rattle.std.specs.List.{list_any}
 use Rattle.std.proofs.Math.Bool.{or-false}
 use Rattle.std.proofs.Math.Path.{fun_ext}
@@ -10,7 +10,7 @@ use Rattle.std.proofs.lemmas.Simd.{map-map}
 use Rattle.disk_model.specs.Brought.{writes}
 use Rattle.disk_model.specs.Record.{Operation}
 use Rattle.disk_model.specs.State.{tags_of}
-use Rattle.disk_model.specs.Steps.{Work, Step, Completed}
+use Rattle.disk_model.specs.Steps.{Work, Step}
 use Rattle.dev_shelf.specs.declared.plan.Hold.{Hold}
 use Rattle.dev_shelf.specs.declared.mem_shelf.disk_row.DiskRow.{DiskRow}
 use Rattle.dev_shelf.specs.declared.mem_shelf.holding.Holding.{Holding}

@@ -3,9 +3,8 @@
 use Rattle.std.specs.Prelude.{◌≡◌, ℕ, true, false, List, [], ◌∷◌, Some}
 use Rattle.std.proofs.Common.{refl}
 use Rattle.disk_model.specs.Record.{Operation, in_flight_after}
-use Rattle.disk_model.specs.State.{State}
 use Rattle.disk_model.specs.Steps.{Work, Writing, Flushing, Step, Submitted, Completed}
-use Rattle.dev_shelf.specs.Plan.{PlanLeft, after_vain, before_settling, has_come, held_back, letting_go}
+use Rattle.dev_shelf.specs.Plan.{PlanLeft, after_vain, before_settling, held_back, letting_go}
 
 -- the write of this sector
 abbrev write_of : ℕ → Work

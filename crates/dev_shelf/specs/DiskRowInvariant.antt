@@ -15,7 +15,7 @@ use Rattle.dev_shelf.specs.declared.mem_shelf.recorded.RecordedStep.{RecordedSte
 use Rattle.dev_shelf.specs.declared.mem_shelf.recorded.RecordedStep.TheVariants.{Began, Ended}
 use Rattle.dev_shelf.specs.declared.mem_shelf.disk_row.DiskRow.{DiskRow}
 use Rattle.disk_model.specs.Steps.{Image, Work, Reading, Writing, Flushing, Step, Submitted, Completed, now_after, value_at}
-use Rattle.disk_model.specs.Record.{Operation, in_flight_after, IsRecord, IsNewTag}
+use Rattle.disk_model.specs.Record.{in_flight_after, IsRecord, IsNewTag}
 use Rattle.disk_model.specs.Operations.{Fills}
 use Rattle.disk_model.specs.State.{IsLawful}
 use Rattle.op_queue.specs.Queue.{state_of as queue_state}

@@ -1,5 +1,5 @@
 -- A lawful state is lawful where operations are held back.
-use Rattle.std.specs.Prelude.{◌≡◌, ◌<◌, ℕ, not, Bool, List, length, map, filter, All, Contains}
+use Rattle.std.specs.Prelude.{ℕ, not, Bool, List, filter, All, Contains}
 use Rattle.std.proofs.Common.{get_or}
 use Rattle.std.proofs.lemmas.List.{length-map, get_or-map}
 use Rattle.std.proofs.lemmas.List.Elements.{All-filter, All-map}

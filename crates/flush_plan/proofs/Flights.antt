@@ -1,13 +1,12 @@
 -- Entries of a map, marks of disks and flushes in flight, as events change them.
-use Rattle.std.proofs.Common.{◌≡◌, ◌<◌, ◌≤◌, ℕ, zero, suc, ◌+◌, Bool, true, false, not, cond, ◌&&◌, ◌||◌, nat_eq, nat_le, nat_lt, List, []}
+use Rattle.std.proofs.Common.{◌≡◌, ◌<◌, ℕ, zero, suc, ◌+◌, Bool, true, false, not, cond, ◌||◌, nat_eq, nat_le, nat_lt, List, []}
 use Rattle.std.proofs.Common.{◌∷◌, length, get_or, set, max, refl, sym, ap, ◌∙◌, arith}
-use Rattle.std.specs.Prelude.{AllPairs, None, Option, Some, remove}
+use Rattle.std.specs.Prelude.{AllPairs, Option, Some, remove}
 use Rattle.std.specs.List.{list_any, position_or_len}
 use Rattle.std.specs.Map.{lookup}
-use Rattle.std.proofs.lemmas.Bool.{and_from, and_left, and_parts, and_right, eqb-true, eqb-false, eq-eqb, le-leb, leb-true, leb-false}
+use Rattle.std.proofs.lemmas.Bool.{and_from, and_parts, eqb-true, eqb-false, eq-eqb, le-leb, leb-true, leb-false}
 use Rattle.std.proofs.lemmas.Bool.{lt-leb, ltb-true, ltb-false, ne_eqb}
 use Rattle.std.proofs.lemmas.List.Edits.{get_or-remove_above, get_or-remove_below, length-remove}
-use Rattle.std.proofs.lemmas.List.Folds.{list_any_at}
 use Rattle.indexmap.specs.IndexMap.{insert_entry}
 use Rattle.flush_plan.specs.declared.records.Marks.{Marks}
 use Rattle.flush_plan.specs.declared.records.Write.{Write}

@@ -1,23 +1,22 @@
 -- What a plan says after any events is what the events say.
-use Rattle.std.proofs.Common.{◌≡◌, ◌<◌, ◌≤◌, ℕ, suc, ◌+◌, Bool, true, false, cond, ◌&&◌, ◌||◌, nat_eq, nat_le, List, [], ◌∷◌, length}
+use Rattle.std.proofs.Common.{◌≡◌, ◌<◌, ◌≤◌, ℕ, ◌+◌, Bool, true, false, cond, ◌&&◌, ◌||◌, nat_eq, nat_le, List, [], ◌∷◌, length}
 use Rattle.std.proofs.Common.{get_or, set, max, refl, sym, ap, subst, ◌∙◌, arith}
-use Rattle.std.specs.Prelude.{All, AllPairs, IsFalse, IsTrue, MatchOption, None, Option, Some, remove, replicate}
+use Rattle.std.specs.Prelude.{All, AllPairs, MatchOption, None, Option, Some, remove}
 use Rattle.std.specs.List.{list_any}
 use Rattle.std.proofs.lemmas.List.Folds.{list_any_at}
 use Rattle.std.specs.Map.{lookup}
 use Rattle.std.specs.Option.{option_map, option_map_or}
 use Rattle.std.proofs.lemmas.Bool.{and_left, and_parts, and_right, eqb-true, eq-eqb, le-leb, lt-leb}
-use Rattle.std.proofs.lemmas.List.{get_or_default, length-set, length-replicate}
+use Rattle.std.proofs.lemmas.List.{length-set, length-replicate}
 use Rattle.std.proofs.lemmas.List.Elements.{All-nil, All-push}
 use Rattle.std.proofs.lemmas.List.Quantifiers.{all_pairs_push, all_pairs_remove}
 use Rattle.sector_base.proofs.Positions.{all_remove, any_within}
 use Rattle.flush_plan.specs.declared.records.Marks.{Marks}
-use Rattle.flush_plan.specs.declared.records.Write.{Write}
 use Rattle.flush_plan.specs.declared.records.Flush.{Flush}
 use Rattle.flush_plan.specs.History.{Event, Reserved, Wrote, Submitted, Flushed, Lost, MayBeTold, MayBeToldAll, StableIsFlushedAfter}
-use Rattle.flush_plan.specs.History.{after_event, flight_of, has_flushed, is_disk, is_flushed_after, is_write, plan_after, since_write}
+use Rattle.flush_plan.specs.History.{after_event, flight_of, has_flushed, is_disk, is_write, plan_after, since_write}
 use Rattle.flush_plan.specs.Plans.{Plan, IsOrderly, flush_at, flush_of, is_in_flight, is_stable, marks_of, no_marks, same_write}
-use Rattle.flush_plan.specs.Steps.{new_plan, after_wrote, after_submitted, after_flushed, after_lost}
+use Rattle.flush_plan.specs.Steps.{after_wrote, after_submitted, after_flushed, after_lost}
 use Rattle.flush_plan.proofs.Flights.{lookup_put, lookup_other, mark_kept, mark_other, mark_written, passes_at, tags_left, tags_swap}
 use Rattle.flush_plan.proofs.Flights.{up_to_greater}
 use Rattle.flush_plan.proofs.Orderly.{marks_within, orderly_new, orderly_by_reserve, orderly_by_wrote, orderly_by_submitted}

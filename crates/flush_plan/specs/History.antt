@@ -1,5 +1,5 @@
 -- What happened to a plan, and which writes that has made stable, by the events alone.
-use Rattle.std.specs.Prelude.{◌≡◌, ◌<◌, ℕ, Bool, true, false, ◌==◌, ◌&&◌, ◌||◌, max, if◌then◌else◌, IsFalse, IsTrue, List, [], ◌∷◌, Option}
+use Rattle.std.specs.Prelude.{◌≡◌, ◌<◌, ℕ, Bool, false, ◌==◌, ◌&&◌, ◌||◌, max, if◌then◌else◌, IsFalse, IsTrue, List, [], ◌∷◌, Option}
 use Rattle.std.specs.Prelude.{None, Some, length}
 use Rattle.std.specs.Option.{option_map, option_map_or}
 use Rattle.flush_plan.specs.Plans.{Plan, is_in_flight, is_stable}

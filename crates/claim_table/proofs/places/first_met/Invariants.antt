@@ -1,4 +1,4 @@
-use Rattle.std.proofs.Common.{◌≡◌, ◌<◌, ◌≤◌, ◌-◌, ℕ, false, length, get_or}
+use Rattle.std.proofs.Common.{◌≡◌, ◌<◌, ◌-◌, ℕ, false, length, get_or}
 use Rattle.claim_table.specs.declared.placed.Placed.{Placed}
 use Rattle.claim_table.specs.Places.{is_met}
 use Rattle.claim_table.proofs.places.first_met.Given as goal

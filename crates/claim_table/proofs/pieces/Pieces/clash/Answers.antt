@@ -1,7 +1,6 @@
-use Rattle.std.proofs.Common.{◌&&◌, nat_eq, List, ap, subst}
+use Rattle.std.proofs.Common.{◌&&◌, nat_eq, List, subst}
 use Rattle.std.specs.Prelude.{IfNone, IfSome, IsFalse, IsTrue}
 use Rattle.std.specs.List.{list_any}
-use Rattle.claim_table.specs.declared.claim.Claim.{Claim}
 use Rattle.claim_table.specs.declared.placed.Placed.{Placed}
 use Rattle.claim_table.specs.Conflict.{clash}
 use Rattle.claim_table.specs.Places.{Kept, is_below, is_met, meets}

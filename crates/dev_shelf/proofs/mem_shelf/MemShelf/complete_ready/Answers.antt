@@ -1,4 +1,4 @@
-use Rattle.std.proofs.Common.{◌≡◌, ◌<◌, ◌%◌, ℕ, Bool, List, length, map, drop, filter, not, slice_index, AllPairs, refl, sym, ap, subst}
+use Rattle.std.proofs.Common.{◌≡◌, ◌<◌, ◌%◌, ℕ, Bool, List, length, drop, filter, not, slice_index, refl, sym, ap, subst}
 use Rattle.std.proofs.Common.{◌∙◌}
 use Rattle.std.proofs.lemmas.Grind.{get_or_default_zero}
 use Rattle.std.proofs.lemmas.Nat.{mod_below}
@@ -7,11 +7,9 @@ use Rattle.disk_model.specs.Record.{Operation}
 use Rattle.op_queue.specs.QueueInvariant.{lawful_of as queue_lawful}
 use Rattle.op_queue.proofs.Removed.{oldest_first}
 use Rattle.dev_shelf.specs.declared.plan.Fail.{Fail}
-use Rattle.dev_shelf.specs.declared.mem_shelf.recorded.RecordedOp.{RecordedOp}
 use Rattle.dev_shelf.specs.DiskRow.{state_of, steps_of}
 use Rattle.dev_shelf.specs.MemShelf.{plan_left, state_of_shelf}
 use Rattle.dev_shelf.specs.Plan.{PlanLeft, is_held}
-use Rattle.dev_shelf.specs.RowHolds.{ready_at}
 use Rattle.dev_shelf.proofs.HeldCalls.{completes_back}
 use Rattle.dev_shelf.proofs.ReadyRecord.{positive, ready_many, ready_same, tags_same}
 use Rattle.dev_shelf.proofs.mem_shelf.MemShelf.complete_ready.Goals as goal

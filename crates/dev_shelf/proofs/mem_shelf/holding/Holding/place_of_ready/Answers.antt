@@ -1,4 +1,4 @@
-use Rattle.std.proofs.Common.{◌≡◌, ◌<◌, ℕ, Bool, true, filter, length, not, take, ap, sym, ◌∙◌, arith}
+use Rattle.std.proofs.Common.{◌≡◌, Bool, true, filter, length, not, take, ap, sym, ◌∙◌, arith}
 use Rattle.dev_shelf.specs.declared.mem_shelf.recorded.RecordedOp.{RecordedOp}
 use Rattle.dev_shelf.specs.RowHolds.{is_held_at}
 use Rattle.dev_shelf.proofs.ReadyPlaces.{tag_of_ready}
