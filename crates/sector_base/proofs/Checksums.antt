@@ -1,14 +1,13 @@
 -- The checksum of bytes, one bit at a time, is that of the state taken as a number.
 use Rattle.std.proofs.Common.{lit≤, ◌≡◌, ◌≤◌, ◌<◌, ℕ, zero, suc, ◌/◌, ◌%◌, ◌^◌, Bool, true, false, ◌==◌, cond, List, [], ◌∷◌, ◌++◌, length}
 use Rattle.std.proofs.Common.{replicate, refl, sym, ap, ◌∙◌, arith}
-use Rattle.std.specs.List.{flat_map}
 use Rattle.std.proofs.lemmas.Nat.{xor_shr, xor_mod}
 use Rattle.std.proofs.lemmas.Bool.Decides.{nat_tests}
 use Rattle.std.specs.Int.RustNames.{bit_xor}
 use Rattle.sector_base.specs.Checksum.{bits_of, number_of, differs, xor_bits, polynomial, with_bit, with_bits}
 
 -- exclusive or of two bits that are numbers
-bit_differs : (a b : ℕ) → a < 2 → b < 2 → (bit_xor a b == 1) ≡ differs (a == 1) (b == 1)
+pub bit_differs : (a b : ℕ) → a < 2 → b < 2 → (bit_xor a b == 1) ≡ differs (a == 1) (b == 1)
 bit_differs zero zero h k = refl
 bit_differs zero (suc zero) h k = refl
 bit_differs (suc zero) zero h k = refl
@@ -135,7 +134,7 @@ with_bits-xor_bits (low ∷ high) (input ∷ inputs) le =
     ap (λ (l : List Bool). with_bits l (replicate (length inputs) false)) (with_bit-xor_bits low input high inputs (omega arith))
     ∙ with_bits-xor_bits (with_bit (low ∷ high) input) inputs (omega (arith, length-with_bit (low ∷ high) input))
 
-with_bits-append : (state xs ys : List Bool) → with_bits state (xs ++ ys) ≡ with_bits (with_bits state xs) ys
+pub with_bits-append : (state xs ys : List Bool) → with_bits state (xs ++ ys) ≡ with_bits (with_bits state xs) ys
 with_bits-append state [] ys = refl
 with_bits-append state (x ∷ xs) ys = with_bits-append (with_bit state x) xs ys
 
@@ -171,13 +170,3 @@ with_bits-byte state byte h =
     ∙ ap (λ (n : ℕ). with_bits (xor_bits (bits_of 32 state) (bits_of 8 byte)) (replicate n false)) (length-bits_of 8 byte)
     ∙ ap (λ (l : List Bool). with_bits l (replicate 8 false))
     (sym (bits_of-xor 32 state byte ∙ xor_bits-bits_of (bits_of 32 state) 8 32 byte h (lit≤ tt)))
-
--- one byte more
-pub with_bits-bytes : (state : List Bool) (bytes : List ℕ) (byte : ℕ)
-    → with_bits state (flat_map (bits_of 8) (bytes ++ byte ∷ []))
-    ≡ with_bits (with_bits state (flat_map (bits_of 8) bytes)) (bits_of 8 byte)
-with_bits-bytes state [] byte = with_bits-append state (bits_of 8 byte) []
-with_bits-bytes state (b ∷ bytes) byte =
-    with_bits-append state (bits_of 8 b) (flat_map (bits_of 8) (bytes ++ byte ∷ []))
-    ∙ with_bits-bytes (with_bits state (bits_of 8 b)) bytes byte
-    ∙ ap (λ (l : List Bool). with_bits l (bits_of 8 byte)) (sym (with_bits-append state (bits_of 8 b) (flat_map (bits_of 8) bytes)))
