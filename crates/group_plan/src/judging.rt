@@ -17,9 +17,6 @@ use sector_base::PvSet;
 use std::alloc::Global;
 use vg_found::Disk;
 
-/// How many physical volumes a group may have.
-pub const MOST_PVS: u64 = 64;
-
 /// The set of these numbers.
 pub fn set_of(numbers: &[u32]) -> PvSet
     requires { All (λ number. number < 64) numbers.now }

@@ -29,9 +29,7 @@ pub use committing::{
 pub use copied::{copied_bytes, copied_disks, copied_text, group_name, volume_name};
 pub use ids::has_id;
 pub use joined_group::{commit, disks_with};
-pub use judging::{
-    MOST_PVS, judge_areas, judge_count, judge_sizes, judge_used, set_of, stands_on_disk,
-};
+pub use judging::{judge_areas, judge_count, judge_sizes, judge_used, set_of, stands_on_disk};
 pub use members::{judge_members, pv_named, pvs_named};
 pub use refusal::PlanRefusal;
 pub use state::{Change, GroupState, Labels, NewLabel, Spans};

@@ -11,10 +11,7 @@ use group_plan::{GroupState, PlanRefusal};
 use line_answers::OpRefusal;
 use meta_model::Group;
 use std::alloc::Global;
-use vg_check::Checked;
-
-// How many segments a group may have.
-const MOST_SEGMENTS: u64 = 16_384;
+use vg_check::{Checked, MOST_SEGMENTS};
 
 /// Free extents of the group for the request.
 ///

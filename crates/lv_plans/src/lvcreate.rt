@@ -28,10 +28,7 @@ use lvm_id::LvmId;
 use meta_model::{Group, Legs, SegKind};
 use sector_base::{PvSet, Span};
 use std::alloc::{AllocError, Global};
-use vg_check::Checked;
-
-// How many logical volumes a group may have.
-const MOST_LVS: u64 = 1_024;
+use vg_check::{Checked, MOST_LVS};
 
 // The sectors of a mirror's regions.
 const REGION_SIZE: u64 = 1_024;

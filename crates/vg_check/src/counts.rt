@@ -3,14 +3,9 @@ ghost use Rattle.std.specs.Prelude.{◌≢◌, ◌+◌, ◌≤◌, ◌↔◌, Is
 ghost use Rattle.volume_rules.specs.Rules.{SegmentsAreFew, VolumesAreFew};
 ghost use Rattle.vg_check.specs.Counts.{HasFewSegments};
 
+use crate::limits::{MOST_LVS, MOST_PVS, MOST_SEGMENTS};
 use crate::open_group::OpenGroup;
 use meta_model::LvRows;
-
-const MOST_PVS: u64 = 64;
-
-const MOST_LVS: u64 = 1_024;
-
-const MOST_SEGMENTS: u64 = 16_384;
 
 // Whether the group has a physical volume, and no more volumes than are allowed.
 pub(crate) fn volumes_are_few(group: &OpenGroup) -> bool

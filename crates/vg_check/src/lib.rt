@@ -33,3 +33,4 @@ mod stripes;
 
 pub use checked::Checked;
 pub use checking::{CheckRefused, check};
+pub use limits::{MOST_LEGS, MOST_LVS, MOST_PVS, MOST_SEGMENTS};

@@ -10,7 +10,7 @@ ghost use Rattle.group_plan.specs.State.{IsState};
 ghost use Rattle.vg_plans.specs.Vgcreate.{IsEmptyGroup, create_rows, empty_group, new_rows, vgcreate_change, vgcreate_rows};
 
 use group_plan::{
-    AddedPv, Change, GroupState, MOST_PVS, PlanRefusal, commit, copied_bytes, disks_with,
+    AddedPv, Change, GroupState, PlanRefusal, commit, copied_bytes, disks_with,
     find_all_added, group_name, judge_areas, judge_count, judge_sizes, judge_used, stands_on_disk,
 };
 use line_answers::OpRefusal;
@@ -18,6 +18,7 @@ use lvm_id::LvmId;
 use meta_model::{Group, LvTable, PvTable, VgStatus};
 use sector_base::Text;
 use std::alloc::{AllocError, Global};
+use vg_check::MOST_PVS;
 
 /// The change of a vgcreate of a group with this id, name and extent size of the physical volumes on the disks with these
 /// names.

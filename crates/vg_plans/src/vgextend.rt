@@ -10,7 +10,7 @@ ghost use Rattle.vg_plans.specs.Vgextend.{extend_by, extend_rows, found_rows, gr
 
 use group_edits::next_version;
 use group_plan::{
-    AddedPv, Change, GroupState, MOST_PVS, PlanRefusal, commit, disks_with, find_all_added,
+    AddedPv, Change, GroupState, PlanRefusal, commit, disks_with, find_all_added,
     judge_areas, judge_count, judge_name, judge_resizeable, judge_seqno, judge_sizes, judge_used,
     judge_write, unknown_group,
 };
@@ -21,7 +21,7 @@ use meta_model::Group;
 use scan_rules::same_id;
 use sector_base::Text;
 use std::alloc::Global;
-use vg_check::Checked;
+use vg_check::{Checked, MOST_PVS};
 
 /// The change of a vgextend of the group of this name by the physical volumes on the disks with these names.
 ///
