@@ -1,5 +1,5 @@
 -- Places and spans in an area of 4,096 bytes, and the bytes of texts, tried on values.
-use Rattle.std.proofs.Common.{◌≡◌, ℕ, true, false, List, [], ◌∷◌, map, Option, Some, None, codes, refl}
+use Rattle.std.proofs.Common.{◌≡◌, ℕ, List, [], ◌∷◌, map, Option, Some, None, codes, refl}
 use Rattle.std.specs.Fmt.{digits}
 use Rattle.sector_base.specs.Checksum.{bits_of, checksum, lvm_crc_start, polynomial}
 use Rattle.sector_base.specs.Shown.{shown_text}
