@@ -61,3 +61,5 @@ pub mod ReducedPlaces
 pub mod RestoredGroup
 mod Placed
 mod NineVolumes
+mod FreeNames
+pub mod JoinedRules

@@ -1,4 +1,5 @@
 pub mod GivenSegments
+pub mod JoinedGroup
 pub mod LongerVolume
 pub mod Marking
 pub mod NewVolume

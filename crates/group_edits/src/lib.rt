@@ -1,6 +1,6 @@
-//! The next version of a group, as a command makes it of the one in force: with another name, without a physical volume, with
-//! another name of a logical volume, with a longer one, with one more, with the first extents of one alone, or without one; or as
-//! a text has it.
+//! The next version of a group, as a command makes it of the one in force: with further physical volumes, with another name,
+//! without a physical volume, with another name of a logical volume, with a longer one, with one more, with the first extents of
+//! one alone, or without one; or as a text has it. A new group is one without volumes, with its physical volumes joined.
 //!
 //! Each keeps all rules of groups, and its text is read again as the same group. Nothing here knows of disks, of lines or of
 //! refusals: callers have seen to it that the change may be made.
@@ -9,8 +9,10 @@
 mod creating;
 mod finding;
 mod given_segments;
+mod join_pvs;
 mod leg_numbers;
 mod lengthen;
+mod naming;
 mod new_numbers;
 mod next;
 mod reduce_group;
@@ -22,6 +24,7 @@ mod shorten_volume;
 
 pub use creating::with_volume;
 pub use finding::find_visible;
+pub use join_pvs::joined_group;
 pub use lengthen::longer_volume;
 pub use next::{checked, next_version};
 pub use reduce_group::{has_leg_on_pv, reduced_group};

@@ -1,35 +1,22 @@
--- A group to which physical volumes are added keeps all rules, and can be printed.
-use Rattle.std.proofs.Common.{◌≡◌, ◌≢◌, ◌≤◌, ◌<◌, ℕ, ◌+◌, ◌-◌, ◌*◌, ◌/◌, ◌^◌, Bool, true, false, ◌||◌, List, [], ◌∷◌, ◌++◌, length, map}
-use Rattle.std.proofs.Common.{refl, sym, subst, ◌∙◌, length-append, arith}
-use Rattle.std.specs.Prelude.{All, nat_eq}
-use Rattle.std.specs.Cmp.Lexicographic.{pointwise}
+-- A group that a line extends keeps all rules, but for the number of its physical volumes, and can be printed.
+use Rattle.std.proofs.Common.{◌≡◌, ◌≢◌, ◌≤◌, ◌<◌, ℕ, ◌+◌, ◌-◌, ◌*◌, ◌/◌, ◌^◌, List, [], ◌∷◌, length, map, ap, ◌∙◌, arith}
+use Rattle.std.specs.Prelude.{All}
 use Rattle.std.specs.List.{AllByRecursion as Each}
 use Rattle.std.proofs.Math.Nat.{div-le_self, div-mul-le_self}
-use Rattle.std.proofs.lemmas.List.Elements.{All-from_recursion, recursion_from_All}
-use Rattle.std.proofs.lemmas.List.Folds.{list_any-append}
+use Rattle.std.proofs.lemmas.List.{length-map}
 use Rattle.lvm_id.specs.LvmId.{IsId}
-use Rattle.lvm_name.specs.Names.{is_among}
 use Rattle.conf_text.specs.Grammar.{IsContent}
 use Rattle.meta_model.specs.declared.group.Group.{Group}
 use Rattle.meta_model.specs.declared.lv.Lv.{Lv}
 use Rattle.meta_model.specs.declared.pv.Pv.{Pv}
-use Rattle.meta_model.specs.Tables.{names_of}
-use Rattle.meta_print.proofs.Printable.{IsPrintable, IsPv}
+use Rattle.meta_print.proofs.Printable.{IsPv}
 use Rattle.volume_rules.specs.Rules.{FitsDevice, PvIsSmall, ids_of}
-use Rattle.group_edits.proofs.Inserted.{each_inserted}
+use Rattle.group_edits.proofs.JoinedRules.{AreApart as PvsApart, Fits as PvFits, IdApart as PvApart, IsFresh as PvIsFresh, IsGood}
+use Rattle.group_edits.proofs.JoinedRules.{count_joined, good_joined}
 use Rattle.group_edits.proofs.PrintedIds.{id_again}
-use Rattle.group_edits.proofs.Pushed.{pushed}
-use Rattle.group_edits.proofs.PushedPrintable.{printable_pushed}
-use Rattle.group_edits.proofs.PushedRules.{IsBase, base_pushed, ids_of-pushed}
-use Rattle.group_plan.proofs.FreeNames.{free, names_length, pv_name-named}
 use Rattle.group_plan.specs.Added.{IsAdded, data_end, data_start, pv_of}
-use Rattle.group_plan.specs.NewGroup.{free_number, names_in, pv_name, with_added}
+use Rattle.group_plan.specs.NewGroup.{with_added}
 use Rattle.group_plan.specs.declared.added.AddedPv.{AddedPv}
-
--- a group that keeps the rules, but for the number of its physical volumes, and can be printed
-pub record IsGood (group : Group) : Type 0 where
-  pub base : IsBase group
-  pub printable : IsPrintable group
 
 -- an extent fits in it, and its name and id can be printed
 pub record Fits (extent_size : ℕ) (added : AddedPv) : Type 0 where
@@ -49,9 +36,6 @@ IdApart a b = a.header.id ≢ b.header.id
 abbrev pub AreApart : List AddedPv → Type 0
 AreApart [] = Unit {0}
 AreApart (added ∷ more) = Each (IdApart added) more × AreApart more
-
-abbrev new_row : Group → AddedPv → List ℕ × Pv
-new_row group added = (pv_name (free_number (names_in group.pvs group.lvs)), pv_of group.extent_size added)
 
 -- ---- one
 
@@ -94,63 +78,42 @@ printable_pv extent_size added some fits =
       count_fits = omega (arith, numbers.2);
     }
 
-both_false : (a b : Bool) → (a || b) ≡ false → (a ≡ false) × (b ≡ false)
-both_false true b none = absurd cc
-both_false false b none = (refl, none)
-
-good_pushed : (group : Group) (added : AddedPv) → 1 ≤ group.extent_size → length group.pvs + length group.lvs < 2 ^ 33 → IsGood group
-    → Fits group.extent_size added → IsFresh group added → IsGood (pushed group (new_row group added))
-good_pushed group added some few good fits fresh =
-    let names : List (List ℕ) = names_in group.pvs group.lvs in
-    let own = free names (omega (arith, names_length group.pvs group.lvs, few)) in
-    let free_both : (is_among (names_of group.pvs) (pv_name (free_number names)) ≡ false)
-    × (is_among (names_of group.lvs) (pv_name (free_number names)) ≡ false) =
-    both_false _ _ (sym (list_any-append (pointwise nat_eq (pv_name (free_number names))) (names_of group.pvs) (names_of group.lvs))
-    ∙ own.1)
-    in
-    record {
-      base =
-          base_pushed group (new_row group added) good.base
-          (record {
-            small = small group.extent_size added some fits;
-            fits = fits_device group.extent_size added some fits;
-            fresh = fresh;
-          });
-      printable =
-          printable_pushed group (new_row group added) good.printable (printable_pv group.extent_size added some fits)
-          (pv_name-named (free_number names) (omega (arith, own.0, names_length group.pvs group.lvs, few))) free_both.0 free_both.1;
-    }
-
-fresh_pushed : (group : Group) (added other : AddedPv) → IsFresh group other → IdApart added other
-    → IsFresh (pushed group (new_row group added)) other
-fresh_pushed group added other fresh apart =
-    subst (All (λ id. id ≢ other.header.id)) (sym (ids_of-pushed group (new_row group added)))
-    (All-from_recursion (λ id. id ≢ other.header.id)
-    (group.id ∷ (map (λ (pv : List ℕ × Pv). pv.1.id) group.pvs ++ added.header.id ∷ map (λ (lv : List ℕ × Lv). lv.1.id) group.lvs))
-    (each_inserted (λ id. id ≢ other.header.id) (group.id ∷ map (λ (pv : List ℕ × Pv). pv.1.id) group.pvs)
-    (map (λ (lv : List ℕ × Lv). lv.1.id) group.lvs) added.header.id
-    (recursion_from_All (λ id. id ≢ other.header.id) (ids_of group) fresh) apart))
-
-all_fresh_pushed : (group : Group) (added : AddedPv) (more : List AddedPv) → Each (IsFresh group) more → Each (IdApart added) more
-    → Each (IsFresh (pushed group (new_row group added))) more
-all_fresh_pushed group added [] fresh apart = tt
-all_fresh_pushed group added (other ∷ more) fresh apart =
-    (fresh_pushed group added other fresh.0 apart.0, all_fresh_pushed group added more fresh.1 apart.1)
+fits_pv : (extent_size : ℕ) (added : AddedPv) → 1 ≤ extent_size → Fits extent_size added → PvFits extent_size (pv_of extent_size added)
+fits_pv extent_size added some fits = record {
+  small = small extent_size added some fits;
+  device = fits_device extent_size added some fits;
+  printable = printable_pv extent_size added some fits;
+}
 
 -- ---- all of them
+
+module _ (group : Group) (extent_size : ℕ) (some : 1 ≤ extent_size) where
+  all_fit : (all : List AddedPv) → Each (Fits extent_size) all → Each (PvFits extent_size) (map (pv_of extent_size) all)
+  all_fit [] fits = tt
+  all_fit (added ∷ more) fits = (fits_pv extent_size added some fits.0, all_fit more fits.1)
+
+  all_fresh : (all : List AddedPv) → Each (IsFresh group) all → Each (PvIsFresh group) (map (pv_of extent_size) all)
+  all_fresh [] fresh = tt
+  all_fresh (added ∷ more) fresh = (fresh.0, all_fresh more fresh.1)
+
+  one_apart : (added : AddedPv) (all : List AddedPv) → Each (IdApart added) all
+      → Each (PvApart (pv_of extent_size added)) (map (pv_of extent_size) all)
+  one_apart added [] apart = tt
+  one_apart added (other ∷ more) apart = (apart.0, one_apart added more apart.1)
+
+  all_apart : (all : List AddedPv) → AreApart all → PvsApart (map (pv_of extent_size) all)
+  all_apart [] apart = tt
+  all_apart (added ∷ more) apart = (one_apart added more apart.0, all_apart more apart.1)
 
 pub good_added : (group : Group) (all : List AddedPv) → 1 ≤ group.extent_size → length group.pvs + length group.lvs + length all < 2 ^ 33
     → IsGood group → Each (Fits group.extent_size) all → Each (IsFresh group) all → AreApart all
     → IsGood (record group { pvs = with_added group.lvs group.extent_size group.pvs all })
-good_added group [] some few good fits fresh apart = good
-good_added group (added ∷ more) some few good fits fresh apart =
-    good_added (pushed group (new_row group added)) more some (omega (arith, few, length-append group.pvs (new_row group added ∷ [])))
-    (good_pushed group added some (omega (arith, few)) good fits.0 fresh.0) fits.1 (all_fresh_pushed group added more fresh.1 apart.0)
-    apart.1
+good_added group all some few good fits fresh apart =
+    let size : ℕ = group.extent_size in
+    good_joined group (map (pv_of size) all) (omega (arith, few, length-map all (pv_of size))) good (all_fit group size some all fits)
+    (all_fresh group size some all fresh) (all_apart group size some all apart)
 
 pub count_added : (lvs : List (List ℕ × Lv)) (extent_size : ℕ) (pvs : List (List ℕ × Pv)) (all : List AddedPv)
     → length (with_added lvs extent_size pvs all) ≡ length pvs + length all
-count_added lvs extent_size pvs [] = omega arith
-count_added lvs extent_size pvs (added ∷ more) =
-    count_added lvs extent_size (pvs ++ (pv_name (free_number (names_in pvs lvs)), pv_of extent_size added) ∷ []) more
-    ∙ omega (arith, length-append pvs ((pv_name (free_number (names_in pvs lvs)), pv_of extent_size added) ∷ []))
+count_added lvs extent_size pvs all =
+    count_joined lvs pvs (map (pv_of extent_size) all) ∙ ap (λ (n : ℕ). length pvs + n) (length-map all (pv_of extent_size))

@@ -9,7 +9,6 @@ pub mod Disks
 pub mod ExtendedGroup
 pub mod FewAdded
 pub mod FoundIds
-mod FreeNames
 mod NamedPvs
 pub mod Passed
 pub mod PlacedGroup

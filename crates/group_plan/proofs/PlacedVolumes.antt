@@ -25,7 +25,8 @@ use Rattle.group_plan.proofs.AddedFacts.{IsFoundOn, all_found}
 use Rattle.group_plan.proofs.DataApart.{IsBesideData, data_beside}
 use Rattle.group_plan.proofs.Disks.{ids_apart}
 use Rattle.group_plan.specs.Added.{added_of, data_end, data_start, pv_of}
-use Rattle.group_plan.specs.NewGroup.{extended, free_number, names_in, pv_name, with_added}
+use Rattle.group_edits.specs.JoinedGroup.{free_number, names_in, pv_name}
+use Rattle.group_plan.specs.NewGroup.{extended, with_added}
 use Rattle.group_plan.specs.State.{IsState}
 use Rattle.group_plan.specs.declared.added.AddedPv.{AddedPv}
 use Rattle.group_plan.specs.declared.state.GroupState.{GroupState}

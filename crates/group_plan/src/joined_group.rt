@@ -3,20 +3,20 @@ ghost use Rattle.std.specs.Prelude.{◌≡◌, ◌≤◌, ◌<◌, ◌+◌, ◌^
 ghost use Rattle.mda_ring.specs.Areas.{CanTake};
 ghost use Rattle.meta_model.specs.Standing.{HasTree};
 ghost use Rattle.volume_rules.specs.Rules.{IsAccepted};
-ghost use Rattle.group_plan.specs.Added.{IsAdded, disks_added, label_of};
+ghost use Rattle.group_plan.specs.Added.{disks_added, label_of, pv_of};
 ghost use Rattle.group_plan.specs.Judging.{stored_size};
-ghost use Rattle.group_plan.specs.NewGroup.{change_with, extended, text_row, with_added};
+ghost use Rattle.group_plan.specs.NewGroup.{change_with, extended, text_row};
 ghost use Rattle.group_plan.specs.Plans.{Plans};
 
 use crate::judging::{judge_text, set_of};
-use crate::naming::free_name;
 use crate::{AddedPv, Change, GroupState, Labels, NewLabel, PlanRefusal, Spans};
-use meta_model::{Group, LvTable, PushRefusal, PvTable};
+use group_edits::joined_group;
+use meta_model::{Group, Pv};
 use meta_print::printed_len;
 use pv_header::PvHeader;
 use sector_base::{ItemList, PvDisks, PvSet};
 use std::alloc::{AllocError, Global};
-use vg_check::{Checked, check};
+use vg_check::Checked;
 
 /// The change that commits this group with these physical volumes too, where their disks follow those that were listed.
 ///
@@ -65,6 +65,7 @@ pub(crate) fn text_size(group: &Checked, now: u64) -> u64
 }
 
 // The group with these physical volumes too, which keeps all rules.
+#[tactic(auto, unfolding(crate::specs::NewGroup::extended))]
 fn with_volumes(alloc: Global, base: Group, all: &[AddedPv]) -> Result<Checked, AllocError>
     requires few { length base.pvs + length base.lvs + length all.now < 2 ^ 32 }
     requires size { 1 ≤ base.extent_size }
@@ -72,70 +73,21 @@ fn with_volumes(alloc: Global, base: Group, all: &[AddedPv]) -> Result<Checked, 
     requires tree { HasTree (extended base all.now) }
     ensures { IfOk result (λ group. group ≡ extended base all.now) }
 {
-    match check(extended(alloc, base, all)?) {
-        Ok(group) => Ok(group),
-        Err(_) => unreachable!(),
-    }
+    let pvs = pvs_of(alloc, base.extent_size, all)?;
+    joined_group(alloc, base, &pvs)
 }
 
-// The group with these physical volumes behind its own.
-#[tactic(auto, unfolding(crate::specs::NewGroup::extended))]
-fn extended(alloc: Global, base: Group, all: &[AddedPv]) -> Result<Group, AllocError>
-    requires few { length base.pvs + length base.lvs + length all.now < 2 ^ 32 }
-    requires size { 1 ≤ base.extent_size }
-    ensures { IfOk result (λ group. group ≡ extended base all.now) }
+// What they are in a group with extents of so many sectors.
+fn pvs_of(alloc: Global, extent_size: u64, all: &[AddedPv]) -> Result<Vec<Pv>, AllocError>
+    requires { 1 ≤ extent_size }
+    ensures { IfOk result (λ pvs. pvs.items ≡ map (pv_of extent_size) all.now) }
 {
-    let Group {
-        name,
-        id,
-        seqno,
-        status,
-        extent_size,
-        max_lv,
-        max_pv,
-        copies,
-        mut pvs,
-        lvs,
-    } = base;
-    push_all(alloc, &mut pvs, &lvs, extent_size, all)?;
-    Ok(Group {
-        name,
-        id,
-        seqno,
-        status,
-        extent_size,
-        max_lv,
-        max_pv,
-        copies,
-        pvs,
-        lvs,
-    })
-}
-
-// Puts these physical volumes behind the others, each with a name that no volume has.
-fn push_all(
-    alloc: Global,
-    pvs: &mut PvTable,
-    lvs: &LvTable,
-    extent_size: u64,
-    all: &[AddedPv],
-) -> Result<(), AllocError>
-    requires few { length pvs.old + length lvs.now + length all.now < 2 ^ 32 }
-    requires size { 1 ≤ extent_size }
-    ensures { IfOk result (λ _. pvs.new ≡ with_added lvs.now extent_size pvs.old all.now) }
-{
-    let mut from = 0;
+    let mut pvs = Vec::new(alloc);
     for added in all {
-        let (name, number) = free_name(alloc, pvs, lvs, from)?;
-        from = number + 1;
         let pv = added.pv(alloc, extent_size)?;
-        match pvs.push(name, pv) {
-            Ok(()) => {}
-            Err(PushRefusal::NoMemory) => return Err(AllocError),
-            Err(PushRefusal::Taken(_)) => unreachable!(),
-        }
+        pvs.push(pv)?;
     }
-    Ok(())
+    Ok(pvs)
 }
 
 /// The disks that were listed, and then those of these physical volumes.

@@ -14,7 +14,6 @@ mod ids;
 mod joined_group;
 mod judging;
 mod members;
-mod naming;
 mod pvs_by_disk;
 mod refusal;
 mod state;

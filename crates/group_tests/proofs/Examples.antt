@@ -19,7 +19,8 @@ use Rattle.vg_found.specs.declared.disk.Disk.{Disk}
 use Rattle.vg_found.specs.Disks.{held_areas}
 use Rattle.group_plan.specs.Added.{added_named, added_of}
 use Rattle.group_plan.specs.Judging.{small_row}
-use Rattle.group_plan.specs.NewGroup.{extended, free_number}
+use Rattle.group_edits.specs.JoinedGroup.{free_number}
+use Rattle.group_plan.specs.NewGroup.{extended}
 use Rattle.group_plan.specs.declared.state.GroupState.{GroupState}
 use Rattle.pv_plans.specs.Pvcreate.{new_header}
 use Rattle.vg_plans.specs.Vgcreate.{empty_group}

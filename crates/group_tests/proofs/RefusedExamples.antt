@@ -28,7 +28,8 @@ use Rattle.vg_found.specs.declared.disk.Disk.{Disk}
 use Rattle.vg_found.specs.Disks.{held_areas}
 use Rattle.group_plan.specs.Added.{added_named, added_of}
 use Rattle.group_plan.specs.Judging.{area_row, first_refusal, many_row, small_row, stored_size, unknown_row, used_row}
-use Rattle.group_plan.specs.NewGroup.{extended, free_number}
+use Rattle.group_edits.specs.JoinedGroup.{free_number}
+use Rattle.group_plan.specs.NewGroup.{extended}
 use Rattle.group_plan.specs.declared.state.GroupState.{GroupState}
 use Rattle.pv_plans.specs.Pvcreate.{new_header}
 use Rattle.vg_plans.specs.Vgcreate.{empty_group, vgcreate_rows}

@@ -24,7 +24,8 @@ use Rattle.vg_found.proofs.KeptLists.{all_kept}
 use Rattle.group_edits.proofs.Whole.{IsWhole}
 use Rattle.group_plan.proofs.Disks.{disk_with_own}
 use Rattle.group_plan.specs.Added.{added_at, added_named, added_of, added_on, disks_added, pv_in, pv_of}
-use Rattle.group_plan.specs.NewGroup.{change_with, extended, free_number, names_in, pv_name, with_added}
+use Rattle.group_edits.specs.JoinedGroup.{free_number, names_in, pv_name}
+use Rattle.group_plan.specs.NewGroup.{change_with, extended, with_added}
 use Rattle.group_plan.specs.State.{IsState}
 use Rattle.group_plan.specs.declared.added.AddedPv.{AddedPv}
 use Rattle.group_plan.specs.declared.state.GroupState.{GroupState}

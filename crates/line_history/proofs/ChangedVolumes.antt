@@ -45,7 +45,8 @@ use Rattle.group_edits.specs.RestoredGroup.{restored_group}
 use Rattle.group_plan.specs.Added.{added_of, disks_added, pv_of}
 use Rattle.group_plan.specs.Committing.{named_rows, no_change, version_change}
 use Rattle.group_plan.specs.Judging.{first_refusal}
-use Rattle.group_plan.specs.NewGroup.{extended, free_number, names_in, pv_name, with_added}
+use Rattle.group_edits.specs.JoinedGroup.{free_number, names_in, pv_name}
+use Rattle.group_plan.specs.NewGroup.{extended, with_added}
 use Rattle.group_plan.specs.declared.added.AddedPv.{AddedPv}
 use Rattle.group_plan.specs.declared.state.Change.{Change}
 use Rattle.group_plan.specs.declared.state.GroupState.{GroupState}

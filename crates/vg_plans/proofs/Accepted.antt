@@ -32,7 +32,8 @@ use Rattle.group_edits.proofs.PushedRules.{accepted_base, base_accepted, base_ve
 use Rattle.group_edits.specs.NextVersion.{next_version}
 use Rattle.group_plan.proofs.AddedFacts.{IsFoundOn, all_found}
 use Rattle.group_plan.proofs.Disks.{disk_with_own, has_own, ids_apart}
-use Rattle.group_plan.proofs.ExtendedGroup.{AreApart, Fits, IdApart, IsFresh, IsGood, count_added, good_added}
+use Rattle.group_edits.proofs.JoinedRules.{IsGood}
+use Rattle.group_plan.proofs.ExtendedGroup.{AreApart, Fits, IdApart, IsFresh, count_added, good_added}
 use Rattle.group_plan.proofs.Passed.{DiskApart, DisksApart, IsUnused, absent, both_false, all_fit, few_enough, all_unused, five_none}
 use Rattle.group_plan.proofs.Passed.{no_map, six_none, not_same, ids_differ, each_both}
 use Rattle.group_plan.proofs.StateFacts.{listed_are}

@@ -1,7 +1,7 @@
 use Rattle.std.proofs.Common.{rules, ◌≡◌, None, sym, subst, ◌∙◌}
 use Rattle.lvm_name.specs.Names.{any_name_refusal}
-use Rattle.group_plan.proofs.FreeNames.{pv_name-named}
-use Rattle.group_plan.proofs.naming.pv_name.Goals as goal
+use Rattle.group_edits.proofs.FreeNames.{pv_name-named}
+use Rattle.group_edits.proofs.naming.pv_name.Goals as goal
 
 pub unreachable-requires : goal.unreachable-requires
 unreachable-requires c =

@@ -1,7 +1,7 @@
 //! The names of physical volumes in the text of their group.
 ghost use Rattle.std.specs.Prelude.{◌≡◌, ◌+◌, ◌≤◌, ◌<◌, ◌^◌, length, not, IfOk};
 ghost use Rattle.lvm_name.specs.Names.{is_among};
-ghost use Rattle.group_plan.specs.NewGroup.{free_number, names_in, pv_name};
+ghost use Rattle.group_edits.specs.JoinedGroup.{free_number, names_in, pv_name};
 
 use lvm_name::{NameRefusal, VolumeName};
 use meta_model::{LvTable, PvTable};

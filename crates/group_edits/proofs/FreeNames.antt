@@ -20,9 +20,7 @@ use Rattle.meta_model.specs.Tables.{names_of}
 use Rattle.meta_model.specs.declared.lv.Lv.{Lv}
 use Rattle.meta_model.specs.declared.pv.Pv.{Pv}
 use Rattle.meta_print.proofs.Numbered.{decimal_digits}
-use Rattle.group_plan.specs.Added.{pv_of}
-use Rattle.group_plan.specs.NewGroup.{free_number, is_free, names_in, pv_name, with_added}
-use Rattle.group_plan.specs.declared.added.AddedPv.{AddedPv}
+use Rattle.group_edits.specs.JoinedGroup.{free_number, is_free, names_in, pv_name, with_pvs}
 
 -- ---- which numbers are free
 
@@ -248,14 +246,13 @@ free_after pvs new lvs name pv number few named last pushed =
     pushed ∙ ap (λ (name : List ℕ). pvs ++ (name, pv) ∷ []) named in
     omega (arith, last, next_after pvs lvs pv few, ap (λ (rows : List (List ℕ × Pv)). free_number (names_in rows lvs)) is)
 
--- a volume that was pushed is one fewer to be added
-pub added_next : (lvs : List (List ℕ × Lv)) (extent_size : ℕ) (pvs new : List (List ℕ × Pv)) (all : List AddedPv) (i : ℕ) (own : AddedPv)
-    (name : List ℕ) (pv : Pv) → i < length all → own ≡ get_or all i own
-    → name ≡ pv_name (free_number (names_in pvs lvs)) → pv ≡ pv_of extent_size own → new ≡ pvs ++ (name, pv) ∷ []
-    → with_added lvs extent_size new (drop (i + 1) all) ≡ with_added lvs extent_size pvs (drop i all)
-added_next lvs extent_size pvs new all i own name pv within is named made pushed =
-    let row : (name, pv) ≡ (pv_name (free_number (names_in pvs lvs)), pv_of extent_size own) = λ j. (named j, made j) in
-    ap (λ (rows : List (List ℕ × Pv)). with_added lvs extent_size rows (drop (i + 1) all))
+-- a volume that was pushed is one fewer to be joined
+pub joined_next : (lvs : List (List ℕ × Lv)) (pvs new : List (List ℕ × Pv)) (all : List Pv) (i : ℕ) (own : Pv) (name : List ℕ) (pv : Pv)
+    → i < length all → own ≡ get_or all i own → name ≡ pv_name (free_number (names_in pvs lvs)) → pv ≡ own → new ≡ pvs ++ (name, pv) ∷ []
+    → with_pvs lvs new (drop (i + 1) all) ≡ with_pvs lvs pvs (drop i all)
+joined_next lvs pvs new all i own name pv within is named made pushed =
+    let row : (name, pv) ≡ (pv_name (free_number (names_in pvs lvs)), own) = λ j. (named j, made j) in
+    ap (λ (rows : List (List ℕ × Pv)). with_pvs lvs rows (drop (i + 1) all))
     (pushed ∙ ap (λ (last : List ℕ × Pv). pvs ++ last ∷ []) row)
-    ∙ ap (λ (first : AddedPv). with_added lvs extent_size pvs (first ∷ drop (i + 1) all)) is
-    ∙ sym (ap (with_added lvs extent_size pvs) (drop_more all i own within))
+    ∙ ap (λ (first : Pv). with_pvs lvs pvs (first ∷ drop (i + 1) all)) is
+    ∙ sym (ap (with_pvs lvs pvs) (drop_more all i own within))

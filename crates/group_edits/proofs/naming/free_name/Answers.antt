@@ -1,7 +1,7 @@
 use Rattle.std.proofs.Common.{◌<◌, ◌+◌, ◌^◌, length, ap, ◌∙◌, arith}
-use Rattle.group_plan.proofs.FreeNames.{free, free_here, free_past, names_length}
-use Rattle.group_plan.specs.NewGroup.{names_in, pv_name}
-use Rattle.group_plan.proofs.naming.free_name.Goals as goal
+use Rattle.group_edits.proofs.FreeNames.{free, free_here, free_past, names_length}
+use Rattle.group_edits.specs.JoinedGroup.{names_in, pv_name}
+use Rattle.group_edits.proofs.naming.free_name.Goals as goal
 
 pub returns-then-is_free-clause-name : goal.returns-then-is_free-clause-name
 returns-then-is_free-clause-name c =

@@ -1,8 +1,8 @@
 use Rattle.std.proofs.Common.{sym, ap, ◌∙◌}
 use Rattle.std.specs.Prelude.{not}
 use Rattle.meta_model.specs.Tables.{names_of}
-use Rattle.group_plan.proofs.FreeNames.{among_first, among_last}
-use Rattle.group_plan.proofs.naming.is_free.Goals as goal
+use Rattle.group_edits.proofs.FreeNames.{among_first, among_last}
+use Rattle.group_edits.proofs.naming.is_free.Goals as goal
 
 pub returns-then-in_pvs : goal.returns-then-in_pvs
 returns-then-in_pvs c =
