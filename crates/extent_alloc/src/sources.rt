@@ -15,7 +15,7 @@ pub(crate) fn sources(lvs: &LvTable) -> PvSet
     let mut sources = PvSet::new();
     for number in 0..lvs.len() {
         let (_, lv) = lvs.get(number);
-        if lv.status.pvmove {
+        if lv.status.is_pvmove() {
             put_segments(&mut sources, lv.segments.as_slice());
         }
     }

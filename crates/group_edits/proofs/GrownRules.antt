@@ -12,7 +12,7 @@ use Rattle.meta_model.specs.declared.group.Group.{Group}
 use Rattle.meta_model.specs.declared.lv.Lv.{Lv}
 use Rattle.meta_model.specs.declared.segment.On.{On}
 use Rattle.meta_model.specs.declared.segment.On.TheVariants as on
-use Rattle.meta_model.specs.declared.status.LvStatus.{LvStatus}
+use Rattle.meta_model.specs.Status.{LvStatus}
 use Rattle.volume_rules.specs.Depths.{load}
 use Rattle.volume_rules.specs.Extents.{extents_of}
 use Rattle.volume_rules.specs.Legs.{IsInRun, IsUsed, IsWayDown, LegRun, LieApart, LiesOn, runs_of}

@@ -8,10 +8,11 @@ ghost use Rattle.group_edits.specs.NewVolume as specs;
 
 use crate::given_segments::add_segments;
 use crate::next::{checked, next_of};
+use bitflags::Flags;
 use extent_alloc::{Given, Part};
 use lvm_id::LvmId;
 use lvm_name::VolumeName;
-use meta_model::{Lv, LvStatus, SegKind, Segments, TryCopy};
+use meta_model::{Lv, LvStatus, LvWords, SegKind, Segments, TryCopy};
 use sector_base::Text;
 use std::alloc::{AllocError, Global};
 use vg_check::Checked;
@@ -62,15 +63,11 @@ fn new_lv(
     add_segments(alloc, &mut segments, kind, 0, given)?;
     Ok(Lv {
         id,
-        status: LvStatus {
-            read: true,
-            write: true,
-            visible: true,
-            fixed_minor: false,
-            pvmove: false,
-            locked: false,
-            notsynced: false,
-        },
+        status: LvStatus::of(
+            LvWords::READ
+                .union(LvWords::WRITE)
+                .union(LvWords::VISIBLE),
+        ),
         created: now,
         host: Text::from_vec(Vec::from_slice(alloc, b"localhost")?),
         segments: Segments::from_vec(segments),

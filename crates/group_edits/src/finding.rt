@@ -17,7 +17,7 @@ pub fn find_visible(group: &Group, name: &Text) -> Option<u32>
 {
     for number in 0..group.lvs.len() {
         let (own, lv) = group.lvs.get(number);
-        if lv.status.visible && is_volume(own, name) {
+        if lv.status.is_visible() && is_volume(own, name) {
             return Some(number as u32);
         }
     }

@@ -60,7 +60,7 @@ pub fn judge_name(alloc: Global, group: &Group, vg: &Text) -> Result<(), PlanRef
 pub fn judge_write(group: &Group) -> Result<(), PlanRefusal>
     ensures { Judges result (refused_if (not group.now.status.write) ReadOnly) }
 {
-    if group.status.write {
+    if group.status.is_writable() {
         return Ok(());
     }
     Err(PlanRefusal::Refused(OpRefusal::ReadOnly))
@@ -86,7 +86,7 @@ pub fn judge_named(alloc: Global, group: &Group, vg: &Text) -> Result<(), PlanRe
 pub fn judge_resizeable(group: &Group) -> Result<(), PlanRefusal>
     ensures { Judges result (refused_if (not group.now.status.resizeable) NotResizeable) }
 {
-    if group.status.resizeable {
+    if group.status.is_resizeable() {
         return Ok(());
     }
     Err(PlanRefusal::Refused(OpRefusal::NotResizeable))

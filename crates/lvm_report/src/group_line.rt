@@ -30,7 +30,7 @@ fn count_visible(group: &Group) -> u64
     let mut count = 0;
     for number in 0..group.lvs.len() {
         let (_, lv) = group.lvs.get(number);
-        count += one_if(lv.status.visible);
+        count += one_if(lv.status.is_visible());
     }
     count
 }

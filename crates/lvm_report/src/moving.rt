@@ -33,7 +33,7 @@ fn pvmove_volumes(alloc: Global, group: &Group) -> Result<Vec<bool>, AllocError>
     let mut moving = Vec::with_capacity(alloc, group.lvs.len())?;
     for number in 0..group.lvs.len() {
         let (_, lv) = group.lvs.get(number);
-        moving.push(lv.status.pvmove)?;
+        moving.push(lv.status.is_pvmove())?;
     }
     Ok(moving)
 }
@@ -54,7 +54,7 @@ fn with_one_step(alloc: Global, group: &Group, below: &[bool]) -> Result<Vec<boo
 fn leads_down(lv: &Lv, marked: &[bool]) -> bool
     ensures { result ≡ (lv.now.status.pvmove || list_any (names_marked marked.now) lv.now.segments) }
 {
-    lv.status.pvmove || names_marked(lv.segments.as_slice(), marked)
+    lv.status.is_pvmove() || names_marked(lv.segments.as_slice(), marked)
 }
 
 // Whether a leg of the segments lies on a volume that is marked.

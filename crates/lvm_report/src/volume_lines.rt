@@ -51,7 +51,7 @@ fn put_if_visible(
     requires few { extents_of lv.now * group.now.extent_size < 2 ^ 48 }
     ensures { IfOk result (λ _. text.new.items ≡ text.old.items ++ (if lv.now.status.visible then volume_line group.now name.now kind.now (extents_of lv.now) else [])) }
 {
-    if lv.status.visible {
+    if lv.status.is_visible() {
         put_volume(text, group, name, lv, kind)
     } else {
         Ok(())

@@ -1,2 +1,3 @@
-pub mod TableLemmas
 mod Rows
+pub mod StatusWords
+pub mod TableLemmas

@@ -20,6 +20,6 @@ pub use lv::Lv;
 pub use pv::Pv;
 pub use refusal::GroupRefusal;
 pub use segment::{Leg, Legs, On, SegKind, Segment, Segments};
-pub use status::{LvStatus, VgStatus};
+pub use status::{LvStatus, LvWords, VgStatus, VgWords};
 pub use table::{PushRefusal, Table};
 pub use tables::{LvRows, LvTable, PvTable};

@@ -14,8 +14,8 @@ use Rattle.meta_model.specs.declared.segment.Leg.{Leg}
 use Rattle.meta_model.specs.declared.segment.SegKind.{SegKind}
 use Rattle.meta_model.specs.declared.segment.SegKind.TheVariants.{Striped, Mirror}
 use Rattle.meta_model.specs.declared.segment.Segment.{Segment}
-use Rattle.meta_model.specs.declared.status.LvStatus.{LvStatus}
-use Rattle.meta_model.specs.declared.status.VgStatus.{VgStatus}
+use Rattle.meta_model.specs.Status.{LvStatus}
+use Rattle.meta_model.specs.Status.{VgStatus}
 use Rattle.meta_print.specs.Layout.{word_if, pair_of, lv_words, vg_words}
 use Rattle.meta_print.proofs.Printable.{IsLeg, IsLegs, FitsIfThere, IsKind, IsSegment, IsPv}
 use Rattle.meta_print.proofs.PvAgain.{pv_body}

@@ -10,7 +10,7 @@ use Rattle.meta_model.specs.declared.pv.Pv.{Pv}
 use Rattle.meta_model.specs.declared.lv.Lv.{Lv}
 use Rattle.meta_model.specs.declared.segment.On.TheVariants as on
 use Rattle.meta_model.specs.declared.segment.SegKind.TheVariants.{Striped, Mirror}
-use Rattle.meta_model.specs.declared.status.LvStatus.{LvStatus}
+use Rattle.meta_model.specs.Status.{LvStatus}
 use Rattle.meta_print.specs.Layout.{pv_entries, segment_entries, segments_entries, lv_words, lvs_entries, tree_of, backup_of}
 
 abbrev lines : List (List ℕ) → List ℕ

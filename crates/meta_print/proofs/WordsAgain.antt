@@ -8,8 +8,8 @@ use Rattle.lvm_name.specs.Names.{is_among}
 use Rattle.conf_text.specs.Entries.{Text}
 use Rattle.meta_model.specs.Keys.{texts_of}
 use Rattle.meta_model.specs.Standing as standing
-use Rattle.meta_model.specs.declared.status.VgStatus.{VgStatus}
-use Rattle.meta_model.specs.declared.status.LvStatus.{LvStatus}
+use Rattle.meta_model.specs.Status.{VgStatus}
+use Rattle.meta_model.specs.Status.{LvStatus}
 use Rattle.meta_print.specs.Layout.{word_if, vg_words, lv_words}
 
 pub texts_again : (words : List (List ℕ)) → texts_of (map Text words) ≡ Some words

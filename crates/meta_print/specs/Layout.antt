@@ -12,8 +12,8 @@ use Rattle.meta_model.specs.declared.segment.Leg.{Leg}
 use Rattle.meta_model.specs.declared.segment.SegKind.{SegKind}
 use Rattle.meta_model.specs.declared.segment.SegKind.TheVariants.{Striped, Mirror}
 use Rattle.meta_model.specs.declared.segment.Segment.{Segment}
-use Rattle.meta_model.specs.declared.status.VgStatus.{VgStatus}
-use Rattle.meta_model.specs.declared.status.LvStatus.{LvStatus}
+use Rattle.meta_model.specs.Status.{VgStatus}
+use Rattle.meta_model.specs.Status.{LvStatus}
 
 -- ---- items
 

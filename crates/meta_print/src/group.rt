@@ -70,9 +70,9 @@ fn write_vg_status<S: TextSink>(sink: &mut S, status: VgStatus) -> Result<(), Al
     ensures failed { OnErr result S.MayFail }
 {
     let words: [(bool, &[u8]); 3] = [
-        (status.resizeable, b"RESIZEABLE"),
-        (status.read, b"READ"),
-        (status.write, b"WRITE"),
+        (status.is_resizeable(), b"RESIZEABLE"),
+        (status.is_readable(), b"READ"),
+        (status.is_writable(), b"WRITE"),
     ];
     write_words_set(sink, b"status", &words)
 }

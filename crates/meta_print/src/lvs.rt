@@ -60,13 +60,13 @@ fn write_lv_status<S: TextSink>(sink: &mut S, status: LvStatus) -> Result<(), Al
     ensures failed { OnErr result S.MayFail }
 {
     let words: [(bool, &[u8]); 7] = [
-        (status.read, b"READ"),
-        (status.write, b"WRITE"),
-        (status.visible, b"VISIBLE"),
-        (status.fixed_minor, b"FIXED_MINOR"),
-        (status.pvmove, b"PVMOVE"),
-        (status.locked, b"LOCKED"),
-        (status.notsynced, b"NOTSYNCED"),
+        (status.is_readable(), b"READ"),
+        (status.is_writable(), b"WRITE"),
+        (status.is_visible(), b"VISIBLE"),
+        (status.is_fixed_minor(), b"FIXED_MINOR"),
+        (status.is_pvmove(), b"PVMOVE"),
+        (status.is_locked(), b"LOCKED"),
+        (status.is_notsynced(), b"NOTSYNCED"),
     ];
     write_words_set(sink, b"status", &words)
 }

@@ -15,10 +15,11 @@ use crate::refusals::foreign;
 use crate::rows::{read_lvs, read_pvs};
 use crate::sections::{NamedSection, sections_in};
 use crate::words::{has_word, required_status, words_if_any};
+use bitflags::Flags;
 use conf_text::Section;
 use lvm_id::LvmId;
 use lvm_name::GroupName;
-use meta_model::{Group, GroupRefusal, LvTable, PvTable, VgStatus};
+use meta_model::{Group, GroupRefusal, LvTable, PvTable, VgStatus, VgWords};
 use std::alloc::Global;
 
 // The status words of a group. The last one decides nothing.
@@ -143,9 +144,9 @@ fn own_text(
 fn status_of(words: &[&[u8]]) -> VgStatus
     ensures { result ≡ vg_status (map as_bytes words.now) }
 {
-    VgStatus {
-        resizeable: has_word(words, b"RESIZEABLE"),
-        read: has_word(words, b"READ"),
-        write: has_word(words, b"WRITE"),
-    }
+    let mut set = VgWords::empty();
+    set.set(VgWords::RESIZEABLE, has_word(words, b"RESIZEABLE"));
+    set.set(VgWords::READ, has_word(words, b"READ"));
+    set.set(VgWords::WRITE, has_word(words, b"WRITE"));
+    VgStatus::of(set)
 }

@@ -12,8 +12,9 @@ use crate::refusals::text_of;
 use crate::sections::{NamedSection, is_segment, sections_in, segment_count};
 use crate::segment::read_segment;
 use crate::words::{has_word, required_status, words_if_any};
+use bitflags::Flags;
 use conf_text::Section;
-use meta_model::{GroupRefusal, Lv, LvStatus, Segments};
+use meta_model::{GroupRefusal, Lv, LvStatus, LvWords, Segments};
 use sector_base::ItemList;
 use std::alloc::Global;
 
@@ -100,13 +101,13 @@ fn all_segments(
 fn status_of(words: &[&[u8]]) -> LvStatus
     ensures { result ≡ lv_status (map as_bytes words.now) }
 {
-    LvStatus {
-        read: has_word(words, b"READ"),
-        write: has_word(words, b"WRITE"),
-        visible: has_word(words, b"VISIBLE"),
-        fixed_minor: has_word(words, b"FIXED_MINOR"),
-        pvmove: has_word(words, b"PVMOVE"),
-        locked: has_word(words, b"LOCKED"),
-        notsynced: has_word(words, b"NOTSYNCED"),
-    }
+    let mut set = LvWords::empty();
+    set.set(LvWords::READ, has_word(words, b"READ"));
+    set.set(LvWords::WRITE, has_word(words, b"WRITE"));
+    set.set(LvWords::VISIBLE, has_word(words, b"VISIBLE"));
+    set.set(LvWords::FIXED_MINOR, has_word(words, b"FIXED_MINOR"));
+    set.set(LvWords::PVMOVE, has_word(words, b"PVMOVE"));
+    set.set(LvWords::LOCKED, has_word(words, b"LOCKED"));
+    set.set(LvWords::NOTSYNCED, has_word(words, b"NOTSYNCED"));
+    LvStatus::of(set)
 }

@@ -39,7 +39,7 @@ fn has_pvmove(group: &Group, lv: u32) -> bool
     ensures { result ≡ has_pvmove group.now lv }
 {
     let (_, volume) = group.lvs.get(lv as usize);
-    volume.status.pvmove
+    volume.status.is_pvmove()
 }
 
 fn is_mirror(kind: &SegKind) -> bool

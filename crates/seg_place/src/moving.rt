@@ -31,7 +31,7 @@ pub fn has_move(group: &Group) -> bool
 {
     for number in 0..group.lvs.len() {
         let (_, volume) = group.lvs.get(number);
-        if volume.status.pvmove {
+        if volume.status.is_pvmove() {
             return true;
         }
     }
@@ -54,7 +54,7 @@ fn marks_above(group: &Group, marks: &Marks) -> Marks
 fn is_above(volume: &Lv, marks: &Marks) -> bool
     ensures { result ≡ (volume.now.status.pvmove || segments_on_marked marks.now volume.now.segments) }
 {
-    volume.status.pvmove || segments_on_marked(volume.segments.as_slice(), marks)
+    volume.status.is_pvmove() || segments_on_marked(volume.segments.as_slice(), marks)
 }
 
 // Whether a leg of one of the segments lies on a marked volume.

@@ -1,8 +1,10 @@
 //! A group of one physical volume and one logical one, whose segment is a mirror that moves.
+use bitflags::Flags;
 use lvm_id::{LvmId, parse_plain};
 use lvm_name::{GroupName, VolumeName};
 use meta_model::{
-    Group, Leg, Legs, Lv, LvStatus, LvTable, On, Pv, PvTable, SegKind, Segment, Segments, VgStatus,
+    Group, Leg, Legs, Lv, LvStatus, LvTable, LvWords, On, Pv, PvTable, SegKind, Segment, Segments, VgStatus,
+    VgWords,
 };
 use sector_base::Text;
 use std::alloc::{AllocError, Global};
@@ -11,22 +13,6 @@ use std::process::Abort;
 const LEG: Leg = Leg {
     on: On::Pv(0),
     first: 4,
-};
-
-const LV_STATUS: LvStatus = LvStatus {
-    read: true,
-    write: false,
-    visible: true,
-    fixed_minor: false,
-    pvmove: false,
-    locked: false,
-    notsynced: true,
-};
-
-const VG_STATUS: VgStatus = VgStatus {
-    resizeable: true,
-    read: true,
-    write: false,
 };
 
 fn id(rt: &impl Abort) -> LvmId {
@@ -59,7 +45,11 @@ fn pv(rt: &impl Abort, alloc: Global) -> Pv {
 fn lv(rt: &impl Abort, alloc: Global) -> Lv {
     Lv {
         id: id(rt),
-        status: LV_STATUS,
+        status: LvStatus::of(
+            LvWords::READ
+                .union(LvWords::VISIBLE)
+                .union(LvWords::NOTSYNCED),
+        ),
         created: 5,
         host: text(alloc, b"h").expect(rt, "memory"),
         segments: segments(alloc).expect(rt, "memory"),
@@ -108,7 +98,7 @@ pub fn group(rt: &impl Abort, alloc: Global) -> Group {
         name: GroupName::new(alloc, b"vg0").expect(rt, "a name"),
         id: id(rt),
         seqno: 7,
-        status: VG_STATUS,
+        status: VgStatus::of(VgWords::RESIZEABLE.union(VgWords::READ)),
         extent_size: 8_192,
         max_lv: 3,
         max_pv: 9,

@@ -71,7 +71,7 @@ fn grown_number(group: &OpenGroup, climb: Climb, number: usize, below: u64) -> u
     match climb {
         Climb::Length => 1 + below,
         Climb::Load(light) => weight(light, number) + below,
-        Climb::Moves => flag(group.lv(number).status.pvmove).max(below),
+        Climb::Moves => flag(group.lv(number).status.is_pvmove()).max(below),
     }
 }
 

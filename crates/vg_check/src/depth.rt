@@ -60,7 +60,7 @@ pub(crate) fn pvmove(group: &OpenGroup) -> usize
     ensures { result ≡ pvmove_number group.now.lvs }
 {
     for number in 0..group.lv_count() {
-        if group.lv(number).status.pvmove {
+        if group.lv(number).status.is_pvmove() {
             return number;
         }
     }
@@ -117,5 +117,5 @@ fn is_hidden(group: &OpenGroup, on: On) -> bool
 fn lv_is_hidden(group: &OpenGroup, number: usize) -> bool
     ensures { IsTrue result ↔ OnIsHidden group.now (On.Lv number) }
 {
-    number >= group.lv_count() || !group.lv(number).status.visible
+    number >= group.lv_count() || !group.lv(number).status.is_visible()
 }

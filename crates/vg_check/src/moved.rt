@@ -14,7 +14,7 @@ pub(crate) fn stray_moved(group: &OpenGroup) -> Option<(u64, u64)>
 {
     for number in 0..group.lvs.len() {
         let (_, lv) = group.lvs.get(number);
-        if let Some(segment) = stray_segment(lv.status.pvmove, &lv.segments) {
+        if let Some(segment) = stray_segment(lv.status.is_pvmove(), &lv.segments) {
             return Some((number as u64, segment));
         }
     }

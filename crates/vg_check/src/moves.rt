@@ -32,7 +32,7 @@ fn none_moves(group: &OpenGroup, from: usize) -> bool
     ensures { IsTrue result ↔ ((number : ℕ) → from ≤ number → IsPvmove group.now number → ⊥) }
 {
     for number in from..group.lv_count() {
-        if group.lv(number).status.pvmove {
+        if group.lv(number).status.is_pvmove() {
             return false;
         }
     }
@@ -56,7 +56,7 @@ fn is_move(group: &OpenGroup, number: usize, runs: &mut [ExtentSpan]) -> bool
 fn looks_like_move(name: &VolumeName, lv: &Lv) -> bool
     ensures { IsTrue result ↔ LooksLikeMove name.now lv.now }
 {
-    !lv.status.visible && lv.status.locked && name.as_bytes().starts_with(b"pvmove")
+    !lv.status.is_visible() && lv.status.is_locked() && name.as_bytes().starts_with(b"pvmove")
 }
 
 // Whether each extent of the volume lies in a leg.

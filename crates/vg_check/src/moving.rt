@@ -34,7 +34,7 @@ fn locked_are_marked(group: &OpenGroup, numbers: &[ExtentSpan]) -> bool
     ensures { IsTrue result ↔ LockedAreMarked group.now numbers.now (length numbers.now) }
 {
     for number in 0..numbers.len() {
-        if group.lv(number).status.locked && numbers[number].first == 0 {
+        if group.lv(number).status.is_locked() && numbers[number].first == 0 {
             return false;
         }
     }

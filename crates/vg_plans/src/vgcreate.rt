@@ -9,13 +9,14 @@ ghost use Rattle.group_plan.specs.Plans.{Plans};
 ghost use Rattle.group_plan.specs.State.{IsState};
 ghost use Rattle.vg_plans.specs.Vgcreate.{IsEmptyGroup, create_rows, empty_group, new_rows, vgcreate_change, vgcreate_rows};
 
+use bitflags::Flags;
 use group_plan::{
     AddedPv, Change, GroupState, PlanRefusal, commit, copied_bytes, disks_with,
     find_all_added, group_name, judge_areas, judge_count, judge_sizes, judge_used, stands_on_disk,
 };
 use line_answers::OpRefusal;
 use lvm_id::LvmId;
-use meta_model::{Group, LvTable, PvTable, VgStatus};
+use meta_model::{Group, LvTable, PvTable, VgStatus, VgWords};
 use sector_base::Text;
 use std::alloc::{AllocError, Global};
 use vg_check::MOST_PVS;
@@ -81,11 +82,11 @@ fn empty_group(alloc: Global, id: &LvmId, vg: &Text, extent_size: u64) -> Result
         name: group_name(alloc, vg)?,
         id: *id,
         seqno: 1,
-        status: VgStatus {
-            resizeable: true,
-            read: true,
-            write: true,
-        },
+        status: VgStatus::of(
+            VgWords::RESIZEABLE
+                .union(VgWords::READ)
+                .union(VgWords::WRITE),
+        ),
         extent_size,
         max_lv: 0,
         max_pv: 0,
