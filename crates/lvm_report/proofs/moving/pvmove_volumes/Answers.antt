@@ -1,5 +1,5 @@
 -- One volume more.
-use Rattle.std.proofs.Common.{sym, arith, length, map, refl}
+use Rattle.std.proofs.Common.{sym, ◌∙◌, arith, length, map, refl}
 use Rattle.volume_rules.specs.Moving.{has_pvmove}
 use Rattle.lvm_report.specs.Volumes.{leading_down}
 use Rattle.lvm_report.proofs.MarkedVolumes.{one_mark, pvmove_of_row}
@@ -9,9 +9,9 @@ use Rattle.lvm_report.proofs.moving.pvmove_volumes.Goals as goal
 pub loop-number-preserved : goal.loop-number-preserved
 loop-number-preserved c =
     let group = c.args.group.now in
-    one_mark (has_pvmove group) (length group.lvs) c.loop-number.number c.get.result.1.now.status.pvmove c.loop-number.moving.items
+    one_mark (has_pvmove group) (length group.lvs) c.loop-number.number c.is_pvmove.result c.loop-number.moving.items
     c.push.new.self.items (leading_down group 0) (omega arith)
-    (sym (pvmove_of_row group c.loop-number.number (c.get.result.0.now, c.get.result.1.now) c.get.ensures)) c.in_ok-push.ensures.items
+    (c.is_pvmove.ensures ∙ sym (pvmove_of_row group c.loop-number.number (c.get.result.0.now, c.get.result.1.now) c.get.ensures)) c.in_ok-push.ensures.items
     c.loop-number.invariant
 
 pub returns : goal.returns

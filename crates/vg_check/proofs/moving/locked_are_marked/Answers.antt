@@ -3,7 +3,7 @@ use Rattle.std.proofs.lemmas.Bool.{false≢true}
 use Rattle.meta_model.specs.declared.extent_span.ExtentSpan.{ExtentSpan}
 use Rattle.vg_check.proofs.MarkedVolumes.{marked_more, told_at}
 use Rattle.vg_check.proofs.moving.locked_are_marked.Goals as goal
-use Rattle.vg_check.proofs.moving.locked_are_marked.Goals.{else-lv-via-then-lv+else-numbers-number-eq0, else-lv-via-else-lv}
+use Rattle.vg_check.proofs.moving.locked_are_marked.Goals.{else-is_locked-via-then-is_locked+else-numbers-number-eq0, else-is_locked-via-else-is_locked}
 
 pub returns-then-numbers-number-eq0 : goal.returns-then-numbers-number-eq0
 returns-then-numbers-number-eq0 c =
@@ -12,7 +12,7 @@ returns-then-numbers-number-eq0 c =
       λ marked. absurd
           (omega (
             arith,
-            marked c.loop-number.number c.lv.result.now c.loop-number-test.true c.lv.ensures c.if-lv.true,
+            marked c.loop-number.number c.lv.result.now c.loop-number-test.true c.lv.ensures (sym c.is_locked.ensures ∙ c.if-is_locked.true),
             told_at c.args.numbers.now c.loop-number.number none c.loop-number-test.true,
           )),
     )
@@ -21,10 +21,10 @@ pub loop-number-preserved : goal.loop-number-preserved
 loop-number-preserved c =
     let none : ExtentSpan = record { on = 0; first = 0; count = 0 } in
     marked_more c.args.group.now c.args.numbers.now c.loop-number.number c.lv.result.now c.lv.ensures
-    (λ locked. elim c.else-lv.branch [
-      | else-lv-via-then-lv+else-numbers-number-eq0 w ↦ omega
+    (λ locked. elim c.else-is_locked.branch [
+      | else-is_locked-via-then-is_locked+else-numbers-number-eq0 w ↦ omega
           (arith, told_at c.args.numbers.now c.loop-number.number none c.loop-number-test.true)
-      | else-lv-via-else-lv w ↦ absurd (false≢true (sym w.if-lv.false ∙ locked))
+      | else-is_locked-via-else-is_locked w ↦ absurd (false≢true (sym w.if-is_locked.false ∙ c.is_locked.ensures ∙ locked))
     ])
     c.loop-number.invariant
 
