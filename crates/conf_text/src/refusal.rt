@@ -6,11 +6,11 @@ ghost use Rattle.conf_text.specs.ShownConf.{shown_conf};
 
 use sector_base::{Shown, write_shown};
 use std::alloc::{AllocError, AllocFailed};
-use std::error::Error;
 use std::fmt;
+use thiserror::Error;
 
 /// Why a text has no tree, and where. Places count bytes from 0.
-#[derive(Clone, Copy, Debug, PartialEq, Eq)]
+#[derive(Clone, Copy, Debug, PartialEq, Eq, Error)]
 pub enum ConfRefusal {
     /// Memory is wanting.
     NoMemory,
@@ -67,8 +67,6 @@ impl fmt::Display for ConfRefusal {
         }
     }
 }
-
-impl Error for ConfRefusal {}
 
 impl From<AllocError> for ConfRefusal {
     ghost from_gives = { λ _ e. e ≡ NoMemory };

@@ -4,11 +4,11 @@ ghost use Rattle.sector_base.specs.Shown.{shown_text};
 ghost use Rattle.lvm_id.specs.ShownId.{shown_id};
 
 use sector_base::{Shown, write_shown};
-use std::error::Error;
 use std::fmt;
+use thiserror::Error;
 
 /// Why a text is no id. Places count from 0.
-#[derive(Clone, Copy, Debug, PartialEq, Eq)]
+#[derive(Clone, Copy, Debug, PartialEq, Eq, Error)]
 pub enum IdRefusal {
     /// The text has so many bytes.
     BadLength(usize),
@@ -38,5 +38,3 @@ impl fmt::Display for IdRefusal {
         }
     }
 }
-
-impl Error for IdRefusal {}

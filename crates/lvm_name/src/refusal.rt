@@ -6,11 +6,11 @@ ghost use Rattle.lvm_name.specs.declared.refusal.NameRefusal.TheVariants.{NoMemo
 
 use sector_base::{Shown, write_shown};
 use std::alloc::AllocError;
-use std::error::Error;
 use std::fmt;
+use thiserror::Error;
 
 /// Why a text is no name, tested in this order.
-#[derive(Clone, Copy, Debug, PartialEq, Eq)]
+#[derive(Clone, Copy, Debug, PartialEq, Eq, Error)]
 pub enum NameRefusal {
     /// Memory was wanting.
     NoMemory,
@@ -49,8 +49,6 @@ impl fmt::Display for NameRefusal {
         }
     }
 }
-
-impl Error for NameRefusal {}
 
 impl From<AllocError> for NameRefusal {
     ghost from_gives = { λ _ refusal. refusal ≡ NoMemory };

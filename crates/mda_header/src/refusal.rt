@@ -4,11 +4,11 @@ ghost use Rattle.sector_base.specs.Shown.{shown_text};
 ghost use Rattle.mda_header.specs.ShownMda.{shown_mda};
 
 use sector_base::{Shown, write_shown};
-use std::error::Error;
 use std::fmt;
+use thiserror::Error;
 
 /// Why a sector isn't the header of the area at hand: the first test that it fails.
-#[derive(Clone, Copy, Debug, Drop, PartialEq, Eq)]
+#[derive(Clone, Copy, Debug, Drop, PartialEq, Eq, Error)]
 pub enum MdaRefusal {
     /// The header says the first checksum, and its bytes have the second.
     BadSum(u32, u32),
@@ -76,5 +76,3 @@ impl fmt::Display for MdaRefusal {
         }
     }
 }
-
-impl Error for MdaRefusal {}

@@ -6,11 +6,11 @@ ghost use Rattle.mda_ring.specs.ShownRing.{shown_ring};
 
 use sector_base::{Shown, write_shown};
 use std::alloc::{AllocError, AllocFailed};
-use std::error::Error;
 use std::fmt;
+use thiserror::Error;
 
 /// Why a text isn't placed or isn't read.
-#[derive(Clone, Copy, Debug, PartialEq, Eq)]
+#[derive(Clone, Copy, Debug, PartialEq, Eq, Error)]
 pub enum RingRefusal {
     /// Memory is wanting.
     NoMemory,
@@ -40,8 +40,6 @@ impl fmt::Display for RingRefusal {
         }
     }
 }
-
-impl Error for RingRefusal {}
 
 impl From<AllocError> for RingRefusal {
     ghost from_gives = { λ _ e. e ≡ NoMemory };

@@ -7,11 +7,11 @@ ghost use Rattle.meta_model.specs.declared.refusal.GroupRefusal.TheVariants.{NoM
 use crate::printable::write_kind_and_text;
 use sector_base::{Shown, Text, write_shown};
 use std::alloc::{AllocError, AllocFailed};
-use std::error::Error;
 use std::fmt;
+use thiserror::Error;
 
 /// Why a tree stands for no group: the first of its keys that is refused.
-#[derive(Debug, Drop)]
+#[derive(Debug, Drop, Error)]
 pub enum GroupRefusal {
     /// Memory was wanting.
     NoMemory,
@@ -80,8 +80,6 @@ impl fmt::Display for GroupRefusal {
         }
     }
 }
-
-impl Error for GroupRefusal {}
 
 impl From<AllocError> for GroupRefusal {
     ghost from_gives = { λ _ refusal. refusal ≡ NoMemory };

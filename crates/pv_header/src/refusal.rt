@@ -6,11 +6,11 @@ ghost use Rattle.pv_header.specs.ShownPv.{shown_pv};
 
 use sector_base::{Shown, write_shown};
 use std::alloc::{AllocError, AllocFailed};
-use std::error::Error;
 use std::fmt;
+use thiserror::Error;
 
 /// Why a sector isn't read as a header, in the order of the tests.
-#[derive(Clone, Copy, Debug, PartialEq, Eq)]
+#[derive(Clone, Copy, Debug, PartialEq, Eq, Error)]
 pub enum PvRefusal {
     /// Memory is wanting.
     NoMemory,
@@ -78,8 +78,6 @@ impl fmt::Display for PvRefusal {
         }
     }
 }
-
-impl Error for PvRefusal {}
 
 impl From<AllocError> for PvRefusal {
     ghost from_gives = { λ _ e. e ≡ NoMemory };

@@ -4,11 +4,11 @@ ghost use Rattle.sector_base.specs.Shown.{shown_text};
 ghost use Rattle.pv_label.specs.ShownLabel.{shown_label};
 
 use sector_base::{Shown, write_shown};
-use std::error::Error;
 use std::fmt;
+use thiserror::Error;
 
 /// Why no sector is a label. Numbers of sectors count from the start of the disk.
-#[derive(Clone, Copy, Debug, Drop, PartialEq, Eq)]
+#[derive(Clone, Copy, Debug, Drop, PartialEq, Eq, Error)]
 pub enum LabelRefusal {
     /// No sector begins with `LABELONE`.
     NoLabel,
@@ -48,5 +48,3 @@ impl fmt::Display for LabelRefusal {
         }
     }
 }
-
-impl Error for LabelRefusal {}

@@ -4,8 +4,8 @@ ghost use Rattle.sector_base.specs.Shown.{shown_text};
 ghost use Rattle.sector_base.specs.ShownSpan.{shown_span};
 
 use crate::{Shown, write_shown};
-use std::error::Error;
 use std::fmt;
+use thiserror::Error;
 
 /// A run of `count` sectors of the disk `pv`, from the sector `first` on.
 #[derive(Clone, Copy, Debug, Drop, PartialEq, Eq)]
@@ -16,7 +16,7 @@ pub struct Span {
 }
 
 /// Why there is no such span.
-#[derive(Clone, Copy, Debug, PartialEq, Eq)]
+#[derive(Clone, Copy, Debug, PartialEq, Eq, Error)]
 pub enum SpanRefusal {
     Empty,
     /// Its end, in sectors, is past the disk's. An end past 2^64 - 1 is given as 2^64 - 1.
@@ -38,5 +38,3 @@ impl fmt::Display for SpanRefusal {
         }
     }
 }
-
-impl Error for SpanRefusal {}

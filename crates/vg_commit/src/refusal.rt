@@ -6,11 +6,11 @@ ghost use Rattle.vg_commit.specs.ShownRefusal.{shown_refusal};
 
 use sector_base::{Shown, write_shown};
 use std::alloc::{AllocError, AllocFailed};
-use std::error::Error;
 use std::fmt;
+use thiserror::Error;
 
 /// Why a text isn't committed.
-#[derive(Clone, Copy, Debug, Drop, PartialEq, Eq)]
+#[derive(Clone, Copy, Debug, Drop, PartialEq, Eq, Error)]
 pub enum CommitRefusal {
     /// Memory is wanting.
     NoMemory,
@@ -33,8 +33,6 @@ impl fmt::Display for CommitRefusal {
         }
     }
 }
-
-impl Error for CommitRefusal {}
 
 impl From<AllocError> for CommitRefusal {
     ghost from_gives = { λ _ e. e ≡ NoMemory };

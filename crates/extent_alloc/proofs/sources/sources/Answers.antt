@@ -28,6 +28,7 @@ loop-number-preserved c pv lt =
       | else-is_pvmove w ↦
           some_more (moves_from pv) c.args.lvs.now c.loop-number.number row has (set.contains c.if-is_pvmove.sources pv) c.get.ensures
           (ap (λ s. set.contains s pv) w.sources-is
-          ∙ none_more has (moves_from pv row) (and_left _ (list_any (begins_on pv) row.1.segments) (sym c.is_pvmove.ensures ∙ w.if-is_pvmove.false)))
+          ∙ none_more has (moves_from pv row) (and_left _ (list_any (begins_on pv) row.1.segments)
+          (sym c.is_pvmove.ensures ∙ w.if-is_pvmove.false)))
           ∙ c.loop-number.invariant pv lt
     ]

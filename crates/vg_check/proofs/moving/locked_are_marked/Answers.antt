@@ -3,7 +3,8 @@ use Rattle.std.proofs.lemmas.Bool.{false≢true}
 use Rattle.meta_model.specs.declared.extent_span.ExtentSpan.{ExtentSpan}
 use Rattle.vg_check.proofs.MarkedVolumes.{marked_more, told_at}
 use Rattle.vg_check.proofs.moving.locked_are_marked.Goals as goal
-use Rattle.vg_check.proofs.moving.locked_are_marked.Goals.{else-is_locked-via-then-is_locked+else-numbers-number-eq0, else-is_locked-via-else-is_locked}
+use Rattle.vg_check.proofs.moving.locked_are_marked.Goals.{else-is_locked-via-then-is_locked+else-numbers-number-eq0}
+use Rattle.vg_check.proofs.moving.locked_are_marked.Goals.{else-is_locked-via-else-is_locked}
 
 pub returns-then-numbers-number-eq0 : goal.returns-then-numbers-number-eq0
 returns-then-numbers-number-eq0 c =
@@ -12,7 +13,8 @@ returns-then-numbers-number-eq0 c =
       λ marked. absurd
           (omega (
             arith,
-            marked c.loop-number.number c.lv.result.now c.loop-number-test.true c.lv.ensures (sym c.is_locked.ensures ∙ c.if-is_locked.true),
+            marked c.loop-number.number c.lv.result.now c.loop-number-test.true c.lv.ensures
+                (sym c.is_locked.ensures ∙ c.if-is_locked.true),
             told_at c.args.numbers.now c.loop-number.number none c.loop-number-test.true,
           )),
     )
