@@ -63,11 +63,7 @@ fn new_lv(
     add_segments(alloc, &mut segments, kind, 0, given)?;
     Ok(Lv {
         id,
-        status: LvStatus::of(
-            LvWords::READ
-                .union(LvWords::WRITE)
-                .union(LvWords::VISIBLE),
-        ),
+        status: LvStatus::of(LvWords::READ.union(LvWords::WRITE).union(LvWords::VISIBLE)),
         created: now,
         host: Text::from_vec(Vec::from_slice(alloc, b"localhost")?),
         segments: Segments::from_vec(segments),

@@ -41,9 +41,9 @@ vg_words_set resizeable read write =
 -- the words of a logical volume, each set or cleared
 pub lv_words_set : (read write visible fixed_minor pvmove locked notsynced : Bool)
     → lv_status_of
-      (bit_set
-        (bit_set (bit_set (bit_set (bit_set (bit_set (bit_set 0 1 read) 2 write) 4 visible) 8 fixed_minor) 16 pvmove) 32 locked) 64
-        notsynced)
+    (bit_set
+    (bit_set (bit_set (bit_set (bit_set (bit_set (bit_set 0 1 read) 2 write) 4 visible) 8 fixed_minor) 16 pvmove) 32 locked) 64
+    notsynced)
     ≡ record {
       read = read;
       write = write;

@@ -3,8 +3,8 @@ use bitflags::Flags;
 use lvm_id::{LvmId, parse_plain};
 use lvm_name::{GroupName, VolumeName};
 use meta_model::{
-    Group, Leg, Legs, Lv, LvStatus, LvTable, LvWords, On, Pv, PvTable, SegKind, Segment, Segments, VgStatus,
-    VgWords,
+    Group, Leg, Legs, Lv, LvStatus, LvTable, LvWords, On, Pv, PvTable, SegKind, Segment, Segments,
+    VgStatus, VgWords,
 };
 use sector_base::Text;
 use std::alloc::{AllocError, Global};

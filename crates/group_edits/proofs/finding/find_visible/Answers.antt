@@ -11,7 +11,7 @@ unfolding visible_named
 returns-then-is_volume-clause-found c =
     sym (ap (option_map (λ (v : ℕ × Lv). v.0))
     (sym c.loop-number.invariant ∙ found_here c.args.name.now c.args.group.now.lvs c.loop-number.number _ c.get.ensures
-        (sym c.is_visible.ensures ∙ c.if-is_visible.true)
+    (sym c.is_visible.ensures ∙ c.if-is_visible.true)
     (sym c.is_volume.ensures ∙ c.if-is_volume.true)))
 
 pub returns-then-is_volume-clause-visible : goal.returns-then-is_volume-clause-visible

@@ -12,7 +12,7 @@ loop-number-preserved c =
     one_mark (has_pvmove group) (length group.lvs) c.loop-number.number c.is_pvmove.result c.loop-number.moving.items
     c.push.new.self.items (leading_down group 0) (omega arith)
     (c.is_pvmove.ensures ∙ sym (pvmove_of_row group c.loop-number.number (c.get.result.0.now, c.get.result.1.now) c.get.ensures))
-        c.in_ok-push.ensures.items
+    c.in_ok-push.ensures.items
     c.loop-number.invariant
 
 pub returns : goal.returns

@@ -14,7 +14,7 @@ returns-then-is_pvmove c = (
 pub loop-number-preserved : goal.loop-number-preserved
 loop-number-preserved c =
     none_more c.args.group.now c.args.from c.loop-number.number c.lv.result.now c.lv.ensures
-        (sym c.is_pvmove.ensures ∙ c.if-is_pvmove.false) c.loop-number.invariant
+    (sym c.is_pvmove.ensures ∙ c.if-is_pvmove.false) c.loop-number.invariant
 
 pub returns : goal.returns
 returns c = (
