@@ -28,8 +28,7 @@ use Rattle.volume_rules.specs.Extents.{leg_share}
 use Rattle.volume_rules.specs.Legs.{LegRun, LieApart, runs_of_legs, runs_of_segments}
 use Rattle.volume_rules.specs.Rules.{IsWholeMirror, IsWholeStriped, LiesWithin}
 use Rattle.volume_rules.specs.Sorting.{NoExtentInBoth, on_number, run_to_sort}
-use Rattle.group_edits.proofs.OtherNames.{contains_at}
-use Rattle.group_edits.proofs.StayingRules.{map_pairs}
+use Rattle.group_edits.proofs.Selections.{contains_at, map_pairs}
 use Rattle.group_edits.specs.GivenSegments.{extents_in}
 
 -- how many extents these runs have

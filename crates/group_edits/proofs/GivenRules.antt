@@ -16,7 +16,7 @@ use Rattle.extent_alloc.specs.declared.part.PvRun.{PvRun}
 use Rattle.volume_rules.specs.Rules.{Follow, IsPowerOfTwo, IsSmall, IsWholeMirror, IsWholeStriped, KindIsSmall, MovedIsAllowed, PvIsSmall}
 use Rattle.volume_rules.specs.Rules.{SegmentIsSmall}
 use Rattle.group_edits.proofs.GivenRuns.{each_free, free_within, legs_by, legs_count}
-use Rattle.group_edits.proofs.OtherNames.{contains_at}
+use Rattle.group_edits.proofs.Selections.{contains_at}
 use Rattle.group_edits.specs.GivenSegments.{IsFreeRun, MayBeLaid, MayHaveLegs, extents_by, extents_in, kind_on, legs_in, segment_of}
 use Rattle.group_edits.specs.GivenSegments.{segments_of}
 

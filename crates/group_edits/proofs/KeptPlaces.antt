@@ -10,6 +10,7 @@ use Rattle.meta_model.specs.declared.segment.On.TheVariants as on
 use Rattle.volume_view.specs.InSegments.{Met, Spot, met, primary_spot}
 use Rattle.volume_view.specs.Places.{down, primary}
 use Rattle.volume_view.proofs.GoingDown.{GoesDown, goes_down, step_down}
+use Rattle.group_edits.proofs.Edits.{Any, OnStays, any_stays}
 use Rattle.group_edits.proofs.Renumbered.{unchanged}
 
 -- ---- numbers
@@ -28,19 +29,6 @@ abbrev pub at_by : (ℕ → ℕ) → At → At
 at_by pv_number at = record { pv = pv_number at.pv; sector = at.sector }
 
 -- ---- what stays
-
--- it is a physical volume or a logical one that stays
-abbrev pub OnStays : (ℕ → Type 0) → (ℕ → Type 0) → On → Type 0
-OnStays PvStays Stays (on.Pv pv) = PvStays pv
-OnStays PvStays Stays (on.Lv lv) = Stays lv
-
--- each does
-abbrev pub Any : ℕ → Type 0
-Any number = Unit {0}
-
-pub any_stays : (o : On) → OnStays Any Any o
-any_stays (on.Pv pv) = tt
-any_stays (on.Lv lv) = tt
 
 -- each physical volume of the group that stays is one of the other, by its other number
 abbrev pub KeepsPvs : Group → Group → (ℕ → ℕ) → (ℕ → Type 0) → Type 0

@@ -1,18 +1,22 @@
 pub mod Inserted
+pub mod Selections
 pub mod Pushed
 pub mod PushedRules
 pub mod PushedPrintable
 pub mod Whole
-pub mod OtherNames
 mod RenamedPrintable
 pub mod Renamed
 mod RenamedRows
 pub mod Visible
 pub mod Renumbered
 mod RenumberedPrintable
+mod LegPlaces
+mod Edits
+mod EditedLegs
+mod EditedRows
+mod PrintedNames
+mod EditedPrintable
 pub mod Staying
-mod StayingRows
-mod StayingLegs
 mod StayingRules
 mod StayingPrintable
 pub mod Removed
@@ -28,7 +32,6 @@ pub mod RenamedGroup
 pub mod OneNamed
 mod KeptExtents
 pub mod ShortFront
-mod ShortRuns
 mod ShortRows
 mod ShortRules
 mod ShortPrintable

@@ -1,6 +1,6 @@
 -- A group in which a visible volume has more segments on free extents keeps all rules, and a tree stands for it.
 use Rattle.std.proofs.Common.{◌≡◌, ◌≢◌, ◌<◌, ℕ, ◌^◌, true, false, List, [], ◌∷◌, ◌++◌, length, map, Option, Some, None, refl, sym, ap}
-use Rattle.std.proofs.Common.{subst, ◌∙◌, append-nil, true≢false, arith}
+use Rattle.std.proofs.Common.{subst, ◌∙◌, true≢false, arith}
 use Rattle.std.specs.Prelude.{All, IsSomeAnd}
 use Rattle.std.specs.List.{AllByRecursion as Each}
 use Rattle.std.proofs.lemmas.List.Elements.{All-from_recursion}
@@ -18,10 +18,14 @@ use Rattle.volume_rules.proofs.LegRuns.{join_all}
 use Rattle.volume_rules.specs.Extents.{extents_of}
 use Rattle.volume_rules.specs.Rules.{IsAccepted, LvIsSmall}
 use Rattle.volume_rules.specs.declared.rule.Rule.TheVariants.{Numbers, Segments}
-use Rattle.group_edits.proofs.GrownPrintable.{again_more, version_printable}
-use Rattle.group_edits.proofs.LongerRules.{below_sectors, ends, follows, its, its_some, legs_may, longer_accepted}
+use Rattle.group_edits.proofs.EditedLegs.{legs_allowed}
+use Rattle.group_edits.proofs.EditedPrintable.{rows_print}
+use Rattle.group_edits.proofs.Edits.{AnySegments}
+use Rattle.group_edits.proofs.GrownPrintable.{version_printable}
+use Rattle.group_edits.proofs.GrownRules.{grown_volumes}
+use Rattle.group_edits.proofs.LongerRules.{below_sectors, ends, follows, is_grown, its, its_some, legs_may, longer_accepted}
 use Rattle.group_edits.proofs.MadePrintable.{parts_print}
-use Rattle.group_edits.proofs.PushedPrintable.{each_lv, lv_names}
+use Rattle.group_edits.proofs.PrintedNames.{lv_names}
 use Rattle.group_edits.proofs.Split.{IsSplit, change_between, each_between, each_replaced, map_replaced, split}
 use Rattle.group_edits.proofs.Whole.{IsWhole, seqno_below}
 use Rattle.group_edits.specs.GivenSegments.{segments_of}
@@ -62,7 +66,9 @@ module _ (group : Group) (before after : List Row) (row : Row) (given : List Par
         olds : Each (λ (r : Row). IsLv next r.1) (before ++ row ∷ after)
         olds =
             subst (Each (λ (r : Row). IsLv next r.1)) rows
-            (each_lv group next (again_more group next [] refl (names_same ∙ sym (append-nil (lv_names group)))) group.lvs can.each_lv)
+            (rows_print group next AnySegments
+            (grown_volumes group (before ++ longer_row given row ∷ after) (is_grown group before after row rows accepted given seen may))
+            (legs_allowed group accepted) can.pv_names (subst (AreNames []) (sym names_same) can.lv_names) (λ own none. none) can.each_lv)
 
         longer_lv : IsLv next row.1 → IsLv next (longer given row.1)
         longer_lv is = record {

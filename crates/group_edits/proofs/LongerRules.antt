@@ -17,10 +17,12 @@ use Rattle.volume_rules.specs.Legs.{LegRun, runs_of, runs_of_legs, runs_of_segme
 use Rattle.volume_rules.specs.Rules.{Follow, IsAccepted, IsWholeMirror, IsWholeStriped, Keeps, KindIsSmall, LvIsSmall, MovedIsAllowed}
 use Rattle.volume_rules.specs.Rules.{SegmentIsSmall, pvmove_number}
 use Rattle.volume_rules.specs.declared.rule.Rule.TheVariants.{Numbers, Ids, Volumes, Segments, Follows, Stripes, Mirrors, Moved}
+use Rattle.group_edits.proofs.EditedLegs.{legs_allowed}
+use Rattle.group_edits.proofs.EditedRows.{KeepsOwn, fewer_volumes, keep_own, next_accepted}
 use Rattle.group_edits.proofs.GivenRules.{extents_both, follow_both, legs_some, parts_follow, parts_mirror, parts_moved, parts_small}
 use Rattle.group_edits.proofs.GivenRules.{parts_striped, segments_count}
 use Rattle.group_edits.proofs.GivenRuns.{runs_apart, runs_new}
-use Rattle.group_edits.proofs.GrownRules.{GrowsTo, IsGrown, grown_accepted}
+use Rattle.group_edits.proofs.GrownRules.{IsGrown, Stays, grown_legs, stays_same}
 use Rattle.group_edits.proofs.Split.{at_replaced, each_between, each_replaced, length_replaced, map_replaced, sum_replaced}
 use Rattle.group_edits.specs.GivenSegments.{MayHaveLegs, extents_in, segments_in, segments_of}
 use Rattle.group_edits.specs.LongerVolume.{MayGrow, last_kind, longer, longer_row}
@@ -139,14 +141,35 @@ module _ (group : Group) (before after : List Row) (row : Row) (rows : group.lvs
       pub ends : extents_of row.1 + extents_in added < 2 ^ 48
       ends = subst (λ (n : ℕ). n < 2 ^ 48) longer_extents (below_sectors group accepted (extents_of (longer given row.1)) may.sectors)
 
-      small_kept : All (λ (r : Row). LvIsSmall r.1) lvs
-      small_kept =
-          let small : LvIsSmall row.1 = its (λ (r : Row). LvIsSmall r.1) (accepted Numbers).lvs in
-          all_next (λ (r : Row). LvIsSmall r.1) (accepted Numbers).lvs (
-            small.0,
-            All-append SegmentIsSmall row.1.segments added small.1
-                (parts_small kind group count given legs_may may.laid (accepted Numbers).pvs (extents_of row.1) ends),
-          )
+      longer_own : KeepsOwn group.extent_size (longer given row.1)
+      longer_own =
+          let own : KeepsOwn group.extent_size row.1 =
+          its (λ (r : Row). KeepsOwn group.extent_size r.1) (keep_own group accepted) in
+          record {
+            small = (
+              own.small.0,
+              All-append SegmentIsSmall row.1.segments added own.small.1
+                  (parts_small kind group count given legs_may may.laid (accepted Numbers).pvs (extents_of row.1) ends),
+            );
+            some =
+                (let more : length (row.1.segments ++ added) ≡ length row.1.segments + length added =
+                length-append row.1.segments added in let some = own.some in omega (arith, more, some));
+            follow = (
+              follow_both 0 row.1.segments added own.follow.0
+                  (subst (λ (n : ℕ). Follow n added) (let e : extents_of row.1 ≡ 0 + extents_of row.1 = omega arith in e)
+                  (parts_follow kind group count given legs_may may.laid (extents_of row.1))),
+              may.sectors,
+            );
+            striped =
+                All-append (λ (s : Segment). IsWholeStriped group.extent_size s.count s.kind) row.1.segments added own.striped
+                (parts_striped kind group count given legs_may may.laid (extents_of row.1));
+            mirrors =
+                All-append (λ (s : Segment). IsWholeMirror s.kind) row.1.segments added own.mirrors
+                (parts_mirror kind group count given legs_may may.laid (extents_of row.1));
+            moved =
+                All-append (λ (s : Segment). MovedIsAllowed row.1.status.pvmove s.count s.kind) row.1.segments added own.moved
+                (parts_moved kind row.1.status.pvmove (extents_of row.1) given);
+          }
 
       ids_kept : Keeps next Ids
       ids_kept =
@@ -158,66 +181,21 @@ module _ (group : Group) (before after : List Row) (row : Row) (rows : group.lvs
       count_same : length lvs ≡ length group.lvs
       count_same = sym (ap (λ (rs : List Row). length rs) rows ∙ length_replaced before after row (longer_row given row))
 
-      volumes_kept : Keeps next Volumes
-      volumes_kept = record {
-        pvs = (accepted Volumes).pvs;
-        lvs = let few = (accepted Volumes).lvs in omega (arith, count_same, few);
-        max_pv = (accepted Volumes).max_pv;
-        max_lv = λ limit. let most = (accepted Volumes).max_lv limit in omega (arith, count_same, most);
-      }
-
       abbrev segments_of_row : Row → ℕ
       segments_of_row r = length r.1.segments
 
-      segments_kept : Keeps next Segments
-      segments_kept = record {
-        few =
-            let more : length (row.1.segments ++ added) ≡ length row.1.segments + length given =
-            length-append row.1.segments added ∙ ap (λ (n : ℕ). length row.1.segments + n)
-            (segments_count kind (extents_of row.1) given) in
-            let replaced : sum_by segments_of_row lvs + length row.1.segments
-            ≡ sum_by segments_of_row (before ++ row ∷ after) + length (row.1.segments ++ added) =
-            sum_replaced segments_of_row before after row (longer_row given row)
-            in
-            let was : segments_in group ≡ sum_by segments_of_row (before ++ row ∷ after) = ap (sum_by segments_of_row) rows in
-            let most = may.segments in
-            omega (arith, more, replaced, was, most);
-        some = all_next (λ (r : Row). 1 ≤ length r.1.segments) (accepted Segments).some
-            (let more : length (row.1.segments ++ added)
-            ≡ length row.1.segments + length added = length-append row.1.segments added in let some = its_some in omega
-            (arith, more, some));
-      }
-
-      follows_kept : Keeps next Follows
-      follows_kept =
-          all_next (λ (r : Row). Follow 0 r.1.segments × (extents_of r.1 * group.extent_size < 2 ^ 48)) (accepted Follows) (
-            follow_both 0 row.1.segments added follows.0
-                (subst (λ (n : ℕ). Follow n added) (let e : extents_of row.1 ≡ 0 + extents_of row.1 = omega arith in e)
-                (parts_follow kind group count given legs_may may.laid (extents_of row.1))),
-            may.sectors,
-          )
-
-      stripes_kept : Keeps next Stripes
-      stripes_kept =
-          all_next (λ (r : Row). All (λ segment. IsWholeStriped group.extent_size segment.count segment.kind) r.1.segments)
-          (accepted Stripes)
-          (All-append (λ (s : Segment). IsWholeStriped group.extent_size s.count s.kind) row.1.segments added
-          (its (λ (r : Row). All (λ segment. IsWholeStriped group.extent_size segment.count segment.kind) r.1.segments) (accepted Stripes))
-          (parts_striped kind group count given legs_may may.laid (extents_of row.1)))
-
-      mirrors_kept : Keeps next Mirrors
-      mirrors_kept =
-          all_next (λ (r : Row). All (λ segment. IsWholeMirror segment.kind) r.1.segments) (accepted Mirrors)
-          (All-append (λ (s : Segment). IsWholeMirror s.kind) row.1.segments added
-          (its (λ (r : Row). All (λ segment. IsWholeMirror segment.kind) r.1.segments) (accepted Mirrors))
-          (parts_mirror kind group count given legs_may may.laid (extents_of row.1)))
-
-      moved_kept : Keeps next Moved
-      moved_kept =
-          all_next (λ (r : Row). All (λ segment. MovedIsAllowed r.1.status.pvmove segment.count segment.kind) r.1.segments) (accepted Moved)
-          (All-append (λ (s : Segment). MovedIsAllowed row.1.status.pvmove s.count s.kind) row.1.segments added
-          (its (λ (r : Row). All (λ segment. MovedIsAllowed r.1.status.pvmove segment.count segment.kind) r.1.segments) (accepted Moved))
-          (parts_moved kind row.1.status.pvmove (extents_of row.1) given))
+      segments_few : sum_by segments_of_row lvs ≤ 16384
+      segments_few =
+          let more : length (row.1.segments ++ added) ≡ length row.1.segments + length given =
+          length-append row.1.segments added ∙ ap (λ (n : ℕ). length row.1.segments + n)
+          (segments_count kind (extents_of row.1) given) in
+          let replaced : sum_by segments_of_row lvs + length row.1.segments
+          ≡ sum_by segments_of_row (before ++ row ∷ after) + length (row.1.segments ++ added) =
+          sum_replaced segments_of_row before after row (longer_row given row)
+          in
+          let was : segments_in group ≡ sum_by segments_of_row (before ++ row ∷ after) = ap (sum_by segments_of_row) rows in
+          let most = may.segments in
+          omega (arith, more, replaced, was, most)
 
       -- ---- the rules on legs
 
@@ -233,19 +211,10 @@ module _ (group : Group) (before after : List Row) (row : Row) (rows : group.lvs
       abbrev more : List LegRun
       more = runs_of_segments number (0 + length row.1.segments) added
 
-      grows : GrowsTo row (longer_row given row)
-      grows =
-          record {
-            status = refl;
-            extents = (let e = longer_extents in omega (arith, e));
-            hidden = λ none. absurd (true≢false (sym seen ∙ none));
-          }
+      grows : Stays row (longer_row given row)
+      grows = record { status = refl; hidden = λ none. absurd (true≢false (sym seen ∙ none)); segments = tt }
 
-      pvmove_same : (rows : List Row) → pvmove_number (rows ++ longer_row given row ∷ after) ≡ pvmove_number (rows ++ row ∷ after)
-      pvmove_same [] = refl
-      pvmove_same (r ∷ rows) = ap (λ (n : ℕ). cond r.1.status.pvmove 0 (n + 1)) (pvmove_same rows)
-
-      is_grown : IsGrown group lvs
+      pub is_grown : IsGrown group lvs
       unfolding runs_of
       is_grown = record {
         front = front;
@@ -262,26 +231,18 @@ module _ (group : Group) (before after : List Row) (row : Row) (rows : group.lvs
         new = runs_new group count given may.laid some_legs kind number (0 + length row.1.segments) (extents_of row.1);
         apart = runs_apart group count given may.laid some_legs kind number (0 + length row.1.segments) (extents_of row.1);
         stays =
-            λ n r there. at_replaced GrowsTo (λ r. record { status = refl; extents = omega arith; hidden = λ none. refl }) before after row
+            λ n r there. at_replaced Stays stays_same before after row
             (longer_row given row) grows n r (ap (λ (rs : List Row). slice_get rs n) (sym rows) ∙ there);
         came = λ n later there.
             let found =
-            at_replaced (λ (r s : Row). GrowsTo s r) (λ r. record { status = refl; extents = omega arith; hidden = λ none. refl }) before
+            at_replaced (λ (r s : Row). Stays s r) stays_same before
             after (longer_row given row) row grows n later there in
             inl (found.0, ap (λ (rs : List Row). slice_get rs n) rows ∙ found.1, found.2);
-        pvmove_is = λ n r there. ap (nat_eq n) (pvmove_same before) ∙ ap (λ (rs : List Row). nat_eq n (pvmove_number rs)) (sym rows);
       }
 
       pub longer_accepted : group.seqno < 4294967295 → IsAccepted next
       longer_accepted below =
-          grown_accepted group lvs is_grown accepted below
-          (record {
-            small = small_kept;
-            ids = ids_kept;
-            volumes = volumes_kept;
-            segments = segments_kept;
-            follows = follows_kept;
-            stripes = stripes_kept;
-            mirrors = mirrors_kept;
-            moved = moved_kept;
-          })
+          next_accepted group lvs accepted below ids_kept
+          (fewer_volumes group lvs accepted (let same = count_same in omega (arith, same))) segments_few
+          (all_next (λ (r : Row). KeepsOwn group.extent_size r.1) (keep_own group accepted) longer_own)
+          (grown_legs group lvs is_grown (legs_allowed group accepted))

@@ -17,7 +17,7 @@ use Rattle.volume_rules.specs.Rules.{IsSmall, KindIsSmall, PvIsSmall, SegmentIsS
 use Rattle.group_edits.proofs.GivenRules.{each_part, first_small, legs_few, legs_some, parts_small}
 use Rattle.group_edits.proofs.GivenRuns.{each_free, free_within, legs_by, legs_count, legs_on}
 use Rattle.group_edits.proofs.GrownPrintable.{new_leg}
-use Rattle.group_edits.proofs.PushedPrintable.{pv_names}
+use Rattle.group_edits.proofs.PrintedNames.{pv_names}
 use Rattle.group_edits.specs.GivenSegments.{IsFreeRun, MayBeLaid, MayHaveLegs, extents_in, leg_at, legs_in, segment_of, segments_of}
 
 -- a segment whose numbers are small and whose legs can be printed

@@ -17,14 +17,18 @@ use Rattle.meta_print.proofs.ReadAgain.{has_tree}
 use Rattle.extent_alloc.specs.declared.part.Part.{Part}
 use Rattle.volume_rules.specs.Rules.{IsAccepted}
 use Rattle.volume_rules.specs.declared.rule.Rule.TheVariants.{Numbers}
+use Rattle.group_edits.proofs.EditedLegs.{legs_allowed}
+use Rattle.group_edits.proofs.EditedPrintable.{rows_print}
+use Rattle.group_edits.proofs.Edits.{AnySegments}
 use Rattle.group_edits.proofs.GivenRules.{segments_count}
-use Rattle.group_edits.proofs.GrownPrintable.{again_more, version_printable}
+use Rattle.group_edits.proofs.GrownPrintable.{version_printable}
+use Rattle.group_edits.proofs.GrownRules.{grown_volumes}
 use Rattle.group_edits.proofs.Inserted.{each_pushed}
 use Rattle.group_edits.proofs.LongerRules.{below_sectors}
 use Rattle.group_edits.proofs.MadePrintable.{parts_print}
-use Rattle.group_edits.proofs.NewRules.{ends, new_accepted}
+use Rattle.group_edits.proofs.NewRules.{ends, is_grown, new_accepted}
 use Rattle.group_edits.proofs.PrintedIds.{id_again}
-use Rattle.group_edits.proofs.PushedPrintable.{each_lv, lv_names, names_pushed}
+use Rattle.group_edits.proofs.PrintedNames.{lv_names, names_pushed}
 use Rattle.group_edits.proofs.Renamed.{given_named}
 use Rattle.group_edits.proofs.Whole.{IsWhole, seqno_below}
 use Rattle.group_edits.specs.GivenSegments.{extents_in, segments_of}
@@ -46,16 +50,18 @@ module _ (group : Group) (name id : List ℕ) (made : SegKind) (given : List Par
   abbrev next : Group
   next = with_volume row group
 
-  names_more : lv_names next ≡ lv_names group ++ name ∷ []
-  names_more = map-append (λ (lv : Row). lv.0) group.lvs (row ∷ [])
-
   printable_new : is_among (names_of group.lvs) name ≡ false → volume_name_refusal name ≡ None → IsId id → group.seqno < 4294967295
       → IsPrintable group → IsPrintable next
   printable_new free valid is_id below can =
-      version_printable group (group.lvs ++ row ∷ []) below can
-      (subst (AreNames []) (sym names_more) (names_pushed [] (lv_names group) name (given_named name valid) refl free can.lv_names))
+      version_printable group (group.lvs ++ row ∷ []) below can names
       (each_pushed (λ (r : Row). IsLv next r.1) group.lvs row
-      (each_lv group next (again_more group next (name ∷ []) refl names_more) group.lvs can.each_lv) is_new) where
+      (rows_print group next AnySegments (grown_volumes group (group.lvs ++ row ∷ []) (is_grown group name id made given now may accepted))
+      (legs_allowed group accepted) can.pv_names names (λ own none. none) can.each_lv) is_new) where
+        names : AreNames [] (lv_names next)
+        names =
+            subst (AreNames []) (sym (map-append (λ (lv : Row). lv.0) group.lvs (row ∷ [])))
+            (names_pushed [] (lv_names group) name (given_named name valid) refl free can.lv_names)
+
         is_new : IsLv next (new_lv id made given now)
         is_new = record {
           id_again = id_again id is_id;

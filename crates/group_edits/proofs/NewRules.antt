@@ -18,9 +18,12 @@ use Rattle.volume_rules.specs.Legs.{runs_of, runs_of_segments, runs_of_volumes}
 use Rattle.volume_rules.specs.Rules.{Follow, IsAccepted, IsWholeMirror, IsWholeStriped, Keeps, LvIsSmall, MovedIsAllowed, ids_of}
 use Rattle.volume_rules.specs.Rules.{pvmove_number}
 use Rattle.volume_rules.specs.declared.rule.Rule.TheVariants.{Numbers, Ids, Volumes, Segments, Follows, Stripes, Mirrors, Moved}
+use Rattle.group_edits.proofs.EditedLegs.{legs_allowed}
+use Rattle.group_edits.proofs.EditedRows.{KeepsOwn, keep_own, next_accepted}
+use Rattle.group_edits.proofs.Edits.{IsPlain}
 use Rattle.group_edits.proofs.GivenRules.{legs_some, parts_follow, parts_mirror, parts_moved, parts_small, parts_striped, segments_count}
 use Rattle.group_edits.proofs.GivenRuns.{runs_apart, runs_new}
-use Rattle.group_edits.proofs.GrownRules.{IsGrown, IsPlain, grown_accepted}
+use Rattle.group_edits.proofs.GrownRules.{IsGrown, grown_legs, stays_same}
 use Rattle.group_edits.proofs.Inserted.{all_pushed, slice_get-pushed}
 use Rattle.group_edits.proofs.LongerRules.{below_sectors, volumes_both}
 use Rattle.group_edits.specs.GivenSegments.{extents_in, segments_in, segments_of}
@@ -37,40 +40,6 @@ pushed_at [] y (suc n) z is = absurd cc
 pushed_at (x ∷ xs) y zero z is = inl is
 pushed_at (x ∷ xs) y (suc n) z is = pushed_at xs y n z is
 
-same_bool : (a b : Bool) → (a ≡ true → b ≡ true) → (b ≡ true → a ≡ true) → a ≡ b
-same_bool true b there back = sym (there refl)
-same_bool false true there back = absurd (false≢true (back refl))
-same_bool false false there back = refl
-
-tells : (a b : ℕ) → nat_eq a b ≡ true → a ≡ b
-tells a b is = grind (arith, nat_tests)
-
-one_more : (n m : ℕ) → nat_eq (suc n) (m + 1) ≡ nat_eq n m
-one_more n m =
-    same_bool (nat_eq (suc n) (m + 1)) (nat_eq n m)
-    (λ is. let e = tells (suc n) (m + 1) is in eq-eqb n m (omega (arith, e)))
-    (λ is. let e = tells n m is in eq-eqb (suc n) (m + 1) (omega (arith, e)))
-
-none_more : (m k : ℕ) → nat_eq 0 (m + 1) ≡ nat_eq 0 (k + 1)
-none_more m k =
-    same_bool (nat_eq 0 (m + 1)) (nat_eq 0 (k + 1))
-    (λ is. let e = tells 0 (m + 1) is in absurd (omega (arith, e)))
-    (λ is. let e = tells 0 (k + 1) is in absurd (omega (arith, e)))
-
--- the first volume with PVMOVE, seen from a volume of the list
-pvmove_pushed : (rows : List Row) (row : Row) → (n : ℕ) (r : Row) → slice_get rows n ≡ Some r
-    → nat_eq n (pvmove_number (rows ++ row ∷ [])) ≡ nat_eq n (pvmove_number rows)
-pvmove_pushed [] row n r is = absurd cc
-pvmove_pushed (x ∷ rows) row zero r is = by x.1.status.pvmove where
-  by : (b : Bool) → nat_eq 0 (cond b 0 (pvmove_number (rows ++ row ∷ []) + 1)) ≡ nat_eq 0 (cond b 0 (pvmove_number rows + 1))
-  by true = refl
-  by false = none_more (pvmove_number (rows ++ row ∷ [])) (pvmove_number rows)
-pvmove_pushed (x ∷ rows) row (suc n) r is = by x.1.status.pvmove (pvmove_pushed rows row n r is) where
-  by : (b : Bool) → nat_eq n (pvmove_number (rows ++ row ∷ [])) ≡ nat_eq n (pvmove_number rows)
-      → nat_eq (suc n) (cond b 0 (pvmove_number (rows ++ row ∷ []) + 1)) ≡ nat_eq (suc n) (cond b 0 (pvmove_number rows + 1))
-  by true later = refl
-  by false later = one_more n (pvmove_number (rows ++ row ∷ [])) ∙ later ∙ sym (one_more n (pvmove_number rows))
-
 -- ---- the group
 
 module _ (group : Group) (name id : List ℕ) (kind : SegKind) (given : List Part) (now : ℕ) (may : MayHave group id kind given now)
@@ -86,11 +55,6 @@ module _ (group : Group) (name id : List ℕ) (kind : SegKind) (given : List Par
 
   pub ends : 0 + extents_in (segments_of kind 0 given) < 2 ^ 48
   ends = let few = below_sectors group accepted (extents_in (segments_of kind 0 given)) may.sectors in omega (arith, few)
-
-  small_kept : All (λ (r : Row). LvIsSmall r.1) lvs
-  small_kept =
-      all_pushed (λ (r : Row). LvIsSmall r.1) group.lvs row (accepted Numbers).lvs
-      (may.created, parts_small kind group may.count given may.legs may.laid (accepted Numbers).pvs 0 ends)
 
   abbrev Differ : List ℕ → List ℕ → Type 0
   Differ a b = a ≢ b
@@ -118,45 +82,29 @@ module _ (group : Group) (name id : List ℕ) (kind : SegKind) (given : List Par
   made : length (segments_of kind 0 given) ≡ length given
   made = segments_count kind 0 given
 
-  segments_kept : Keeps next Segments
-  segments_kept = record {
-    few =
-        let whole : sum_by (λ (r : Row). length r.1.segments) lvs ≡ segments_in group + length (segments_of kind 0 given) =
-        sum_by_push (λ (r : Row). length r.1.segments) group.lvs row in
-        let most = may.segments in
-        omega (arith, whole, made, most);
-    some =
-        all_pushed (λ (r : Row). 1 ≤ length r.1.segments) group.lvs row (accepted Segments).some
-        (let some = may.some in omega (arith, some, made));
+  new_own : KeepsOwn group.extent_size row.1
+  new_own = record {
+    small = (may.created, parts_small kind group may.count given may.legs may.laid (accepted Numbers).pvs 0 ends);
+    some = (let some = may.some in omega (arith, some, made));
+    follow = (parts_follow kind group may.count given may.legs may.laid 0, may.sectors);
+    striped = parts_striped kind group may.count given may.legs may.laid 0;
+    mirrors = parts_mirror kind group may.count given may.legs may.laid 0;
+    moved = parts_moved kind false 0 given;
   }
 
-  follows_kept : Keeps next Follows
-  follows_kept =
-      all_pushed (λ (r : Row). Follow 0 r.1.segments × (extents_of r.1 * group.extent_size < 2 ^ 48)) group.lvs row (accepted Follows)
-      (parts_follow kind group may.count given may.legs may.laid 0, may.sectors)
-
-  stripes_kept : Keeps next Stripes
-  stripes_kept =
-      all_pushed (λ (r : Row). All (λ segment. IsWholeStriped group.extent_size segment.count segment.kind) r.1.segments) group.lvs row
-      (accepted Stripes)
-      (parts_striped kind group may.count given may.legs may.laid 0)
-
-  mirrors_kept : Keeps next Mirrors
-  mirrors_kept =
-      all_pushed (λ (r : Row). All (λ segment. IsWholeMirror segment.kind) r.1.segments) group.lvs row (accepted Mirrors)
-      (parts_mirror kind group may.count given may.legs may.laid 0)
-
-  moved_kept : Keeps next Moved
-  moved_kept =
-      all_pushed (λ (r : Row). All (λ segment. MovedIsAllowed r.1.status.pvmove segment.count segment.kind) r.1.segments) group.lvs row
-      (accepted Moved) (parts_moved kind false 0 given)
+  segments_few : sum_by (λ (r : Row). length r.1.segments) lvs ≤ 16384
+  segments_few =
+      let whole : sum_by (λ (r : Row). length r.1.segments) lvs ≡ segments_in group + length (segments_of kind 0 given) =
+      sum_by_push (λ (r : Row). length r.1.segments) group.lvs row in
+      let most = may.segments in
+      omega (arith, whole, made, most)
 
   -- ---- the rules on legs
 
   abbrev number : ℕ
   number = 0 + length group.lvs
 
-  is_grown : IsGrown group lvs
+  pub is_grown : IsGrown group lvs
   unfolding runs_of
   is_grown = record {
     front = runs_of_volumes 0 group.lvs;
@@ -170,26 +118,17 @@ module _ (group : Group) (name id : List ℕ) (kind : SegKind) (given : List Par
         λ n r there. (
           r,
           slice_get-pushed group.lvs (row ∷ []) n r there,
-          record { status = refl; extents = omega arith; hidden = λ none. refl },
+          stays_same r,
         );
     came = λ n later there.
         elim (pushed_at group.lvs row n later there) [
-          | inl old ↦ inl (later, old, record { status = refl; extents = omega arith; hidden = λ none. refl })
+          | inl old ↦ inl (later, old, stays_same later)
           | inr new ↦ inr (subst IsPlain (sym new) (record { pvmove = refl; locked = refl }))
         ];
-    pvmove_is = pvmove_pushed group.lvs row;
   }
 
   pub new_accepted : group.seqno < 4294967295 → IsAccepted next
   new_accepted below =
-      grown_accepted group lvs is_grown accepted below
-      (record {
-        small = small_kept;
-        ids = ids_kept;
-        volumes = volumes_kept;
-        segments = segments_kept;
-        follows = follows_kept;
-        stripes = stripes_kept;
-        mirrors = mirrors_kept;
-        moved = moved_kept;
-      })
+      next_accepted group lvs accepted below ids_kept volumes_kept segments_few
+      (all_pushed (λ (r : Row). KeepsOwn group.extent_size r.1) group.lvs row (keep_own group accepted) new_own)
+      (grown_legs group lvs is_grown (legs_allowed group accepted))

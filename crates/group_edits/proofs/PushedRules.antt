@@ -3,19 +3,18 @@ use Rattle.std.proofs.Common.{◌≡◌, ◌≢◌, ◌≤◌, ℕ, suc, ◌+◌
 use Rattle.std.proofs.Common.{arith}
 use Rattle.std.specs.Prelude.{slice_get, All, AllPairs}
 use Rattle.std.specs.List.{AllByRecursion as Each}
-use Rattle.std.proofs.lemmas.List.{map-append}
+use Rattle.std.proofs.lemmas.List.{map-append, map-id}
 use Rattle.std.proofs.lemmas.List.Elements.{All-weaker, recursion_from_All}
 use Rattle.meta_model.specs.declared.group.Group.{Group}
 use Rattle.meta_model.specs.declared.lv.Lv.{Lv}
 use Rattle.meta_model.specs.declared.pv.Pv.{Pv}
-use Rattle.meta_model.specs.declared.segment.On.{On}
-use Rattle.meta_model.specs.declared.segment.On.TheVariants as on
-use Rattle.volume_rules.specs.Legs.{IsWayDown, LegRun, runs_of}
-use Rattle.volume_rules.specs.Rules.{FitsDevice, IsAccepted, IsMove, IsMoving, Keeps, LiesWithin, PvIsSmall, VolumesAreFew, ids_of}
+use Rattle.volume_rules.specs.Rules.{FitsDevice, IsAccepted, Keeps, PvIsSmall, VolumesAreFew, ids_of}
 use Rattle.volume_rules.specs.Rules.{number_of}
 use Rattle.volume_rules.specs.declared.rule.Rule.{Rule}
 use Rattle.volume_rules.specs.declared.rule.Rule.TheVariants.{Numbers, Ids, Volumes, Segments, Extents, Follows, Stripes, Mirrors, Within}
 use Rattle.volume_rules.specs.declared.rule.Rule.TheVariants.{Apart, Depth, Moved, Pvmove, Locked}
+use Rattle.group_edits.proofs.EditedLegs.{LegsAreAllowed}
+use Rattle.group_edits.proofs.EditedRows.{mapped_legs, same_stays}
 use Rattle.group_edits.proofs.Inserted.{all_pushed, pairs_inserted, slice_get-pushed}
 use Rattle.group_edits.proofs.Pushed.{pushed}
 
@@ -86,93 +85,48 @@ ids_kept group row differ fresh =
     (ids_pushed group.id row.1.id (map (λ (pv : List ℕ × Pv). pv.1.id) group.pvs) (map (λ (lv : List ℕ × Lv). lv.1.id) group.lvs) differ
     fresh)
 
--- ---- legs
+-- ---- another version of a group, with this name and these physical volumes
 
--- another version of a group, with this name and these physical volumes
 abbrev changed : Group → List ℕ → ℕ → List (List ℕ × Pv) → Group
 changed group name seqno pvs = record group { name = name; seqno = seqno; pvs = pvs }
 
+base_legs : (group : Group) → IsBase group → LegsAreAllowed group
+base_legs group base = record {
+  within = base.kept Within (λ e. omega (arith, e));
+  apart = base.kept Apart (λ e. omega (arith, e));
+  depth = base.kept Depth (λ e. omega (arith, e));
+  pvmove = base.kept Pvmove (λ e. omega (arith, e));
+  locked = base.kept Locked (λ e. omega (arith, e));
+}
+
 module _ (group : Group) (new : List ℕ) (seqno : ℕ) (pvs : List (List ℕ × Pv))
     (stay : (k : ℕ) (pv : List ℕ × Pv) → slice_get group.pvs k ≡ Some pv
-    → (row : List ℕ × Pv) × (slice_get pvs k ≡ Some row) × (row.1.pe_count ≡ pv.1.pe_count)) where
+    → (row : List ℕ × Pv) × (slice_get pvs k ≡ Some row) × (row.0 ≡ pv.0) × (row.1.pe_count ≡ pv.1.pe_count)) where
   abbrev other : Group
   other = changed group new seqno pvs
 
-  lies_within : (is : On) (end : ℕ) → LiesWithin group is end → LiesWithin other is end
-  lies_within (on.Pv number) end lies =
-      let row = stay number (lies.0, lies.1) lies.2 in
-      (row.0.0, row.0.1, row.1, subst (λ (n : ℕ). end ≤ n) (sym row.2) lies.3)
-  lies_within (on.Lv number) end lies = lies
+  -- keeps all rules, where it keeps those on numbers, ids and physical volumes
+  pub base_changed : Keeps other Numbers → Keeps other Ids → Keeps other Extents → IsBase group → IsBase other
+  base_changed numbers ids extents base = record { kept = keeps; lvs = base.lvs; max_lv = base.max_lv } where
+    legs : LegsAreAllowed other
+    legs =
+        mapped_legs group other (λ row. row) (sym (map-id group.lvs)) stay (λ row within. same_stays row) (base_legs group base)
 
-  within_kept : Keeps group Within → Keeps other Within
-  unfolding runs_of
-  within_kept within =
-      All-weaker (λ (run : LegRun). LiesWithin group run.on (run.first + run.count))
-      (λ (run : LegRun). LiesWithin other run.on (run.first + run.count))
-      (λ (run : LegRun) lies. lies_within run.on (run.first + run.count) lies) (runs_of group) within
-
-  apart_kept : Keeps group Apart → Keeps other Apart
-  unfolding runs_of
-  apart_kept apart = apart
-
-  ways_kept : (way : List ℕ) → IsWayDown other way → IsWayDown group way
-  unfolding runs_of
-  ways_kept [] is = is
-  ways_kept (lv ∷ []) is = is
-  ways_kept (lv ∷ below ∷ more) is = (is.0, ways_kept (below ∷ more) is.1)
-
-  ways_stay : (way : List ℕ) → IsWayDown group way → IsWayDown other way
-  unfolding runs_of
-  ways_stay [] is = is
-  ways_stay (lv ∷ []) is = is
-  ways_stay (lv ∷ below ∷ more) is = (is.0, ways_stay (below ∷ more) is.1)
-
-  depth_kept : Keeps group Depth → Keeps other Depth
-  unfolding runs_of
-  depth_kept depth = record {
-    hidden = λ lv below volume lies is. depth.hidden lv below volume lies is;
-    ends = λ lv way is. depth.ends lv way (ways_kept (lv ∷ way) is);
-    few = λ lv way is. depth.few lv way (ways_kept (lv ∷ way) is);
-  }
-
-  -- ---- the move
-
-  move_kept : (number : ℕ) (name : List ℕ) (lv : Lv) → IsMove group number name lv → IsMove other number name lv
-  unfolding runs_of
-  move_kept number name lv move = record {
-    hidden = move.hidden;
-    locked = move.locked;
-    named = move.named;
-    from_one = move.from_one;
-    stands_in_legs = λ extent below. move.stands_in_legs extent below;
-  }
-
-  pvmove_kept : Keeps group Pvmove → Keeps other Pvmove
-  pvmove_kept allowed =
-      record { one = allowed.one; whole = λ number name lv is has. move_kept number name lv (allowed.whole number name lv is has) }
-
-  locked_kept : Keeps group Locked → Keeps other Locked
-  locked_kept locked number lv is has =
-      let moving : IsMoving group number = locked number lv is has in
-      (moving.0, ways_stay (number ∷ moving.0) moving.1, moving.2)
-
-  -- the rules but those on numbers, ids, the number of volumes and physical volumes
-  pub legs_kept : Keeps other Numbers → Keeps other Ids → Keeps other Extents → (rule : Rule) → number_of rule ≢ 3 → Keeps group rule
-      → Keeps other rule
-  legs_kept numbers ids extents Numbers apart kept = numbers
-  legs_kept numbers ids extents Ids apart kept = ids
-  legs_kept numbers ids extents Volumes apart kept = absurd (apart refl)
-  legs_kept numbers ids extents Segments apart kept = record { few = kept.few; some = kept.some }
-  legs_kept numbers ids extents Extents apart kept = extents
-  legs_kept numbers ids extents Follows apart kept = kept
-  legs_kept numbers ids extents Stripes apart kept = kept
-  legs_kept numbers ids extents Mirrors apart kept = kept
-  legs_kept numbers ids extents Within apart kept = within_kept kept
-  legs_kept numbers ids extents Apart apart kept = apart_kept kept
-  legs_kept numbers ids extents Depth apart kept = depth_kept kept
-  legs_kept numbers ids extents Moved apart kept = kept
-  legs_kept numbers ids extents Pvmove apart kept = pvmove_kept kept
-  legs_kept numbers ids extents Locked apart kept = locked_kept kept
+    keeps : (rule : Rule) → number_of rule ≢ 3 → Keeps other rule
+    keeps Numbers apart = numbers
+    keeps Ids apart = ids
+    keeps Volumes apart = absurd (apart refl)
+    keeps Segments apart = record { few = (base.kept Segments apart).few; some = (base.kept Segments apart).some }
+    keeps Extents apart = extents
+    keeps Follows apart = base.kept Follows apart
+    keeps Stripes apart = base.kept Stripes apart
+    keeps Mirrors apart = base.kept Mirrors apart
+    keeps Within apart = legs.within
+    keeps Apart apart = legs.apart
+    keeps Depth apart = legs.depth
+    keeps Moved apart = base.kept Moved apart
+    keeps Pvmove apart = legs.pvmove
+    keeps Locked apart = legs.locked
 
 -- ---- all of them
 
@@ -186,17 +140,13 @@ numbers_kept group row small numbers = record {
 }
 
 pub base_pushed : (group : Group) (row : List ℕ × Pv) → IsBase group → MayJoin group row.1 → IsBase (pushed group row)
-base_pushed group row base may = record {
-  kept = λ rule apart.
-      legs_kept group group.name group.seqno (group.pvs ++ row ∷ []) (λ k pv is. (pv, slice_get-pushed group.pvs (row ∷ []) k pv is, refl))
-      (numbers_kept group row may.small (base.kept Numbers (λ e. omega (arith, e))))
-      (ids_kept group row (base.kept Ids (λ e. omega (arith, e))) may.fresh)
-      (all_pushed (λ (pv : List ℕ × Pv). FitsDevice group.extent_size pv.1) group.pvs row (base.kept Extents (λ e. omega (arith, e)))
-      may.fits)
-      rule apart (base.kept rule apart);
-  lvs = base.lvs;
-  max_lv = base.max_lv;
-}
+base_pushed group row base may =
+    base_changed group group.name group.seqno (group.pvs ++ row ∷ [])
+    (λ k pv is. (pv, slice_get-pushed group.pvs (row ∷ []) k pv is, refl, refl))
+    (numbers_kept group row may.small (base.kept Numbers (λ e. omega (arith, e))))
+    (ids_kept group row (base.kept Ids (λ e. omega (arith, e))) may.fresh)
+    (all_pushed (λ (pv : List ℕ × Pv). FitsDevice group.extent_size pv.1) group.pvs row (base.kept Extents (λ e. omega (arith, e)))
+    may.fits) base
 
 version_numbers : (group : Group) (new : List ℕ) (seqno : ℕ) → 1 ≤ seqno → seqno ≤ 4294967295 → Keeps group Numbers
     → Keeps (record group { name = new; seqno = seqno }) Numbers
@@ -206,14 +156,10 @@ version_numbers group new seqno some most numbers =
 -- another version, with another name, keeps them too
 pub base_renamed : (group : Group) (new : List ℕ) (seqno : ℕ) → 1 ≤ seqno → seqno ≤ 4294967295 → IsBase group
     → IsBase (record group { name = new; seqno = seqno })
-base_renamed group new seqno some most base = record {
-  kept = λ rule apart.
-      legs_kept group new seqno group.pvs (λ k pv is. (pv, is, refl))
-      (version_numbers group new seqno some most (base.kept Numbers (λ e. omega (arith, e))))
-      (base.kept Ids (λ e. omega (arith, e))) (base.kept Extents (λ e. omega (arith, e))) rule apart (base.kept rule apart);
-  lvs = base.lvs;
-  max_lv = base.max_lv;
-}
+base_renamed group new seqno some most base =
+    base_changed group new seqno group.pvs (λ k pv is. (pv, is, refl, refl))
+    (version_numbers group new seqno some most (base.kept Numbers (λ e. omega (arith, e))))
+    (base.kept Ids (λ e. omega (arith, e))) (base.kept Extents (λ e. omega (arith, e))) base
 
 -- so does one with its own name
 pub base_version : (group : Group) (seqno : ℕ) → 1 ≤ seqno → seqno ≤ 4294967295 → IsBase group → IsBase (record group { seqno = seqno })

@@ -20,8 +20,9 @@ pub reduced_whole : (group : Group) (number : ℕ) → number < length group.pvs
 reduced_whole group number within unused more other accepted tree =
     let below : group.seqno < 4294967295 = seqno_below group accepted other in
     record {
-      accepted = reduced_accepted group number within unused more below accepted;
-      tree = has_tree (reduced_group group number) (reduced_printable group number (omega (arith, below)) unused (printable group tree));
+      accepted = reduced_accepted group number unused within more below accepted;
+      tree = has_tree (reduced_group group number) (reduced_printable group number unused (omega (arith, below)) accepted
+          (printable group tree));
     }
 
 -- as it is made

@@ -12,7 +12,9 @@ use Rattle.meta_model.specs.declared.segment.On.TheVariants as on
 use Rattle.volume_view.specs.InSegments.{Met, Spot, met, primary_leg, primary_spot, segment_from}
 use Rattle.volume_view.specs.Places.{primary}
 use Rattle.volume_view.proofs.MetSegments.{ByLeg, Meets, by_leg, make, meets_is}
-use Rattle.group_edits.proofs.KeptPlaces.{Any, IsTaken, OnStays, at_by, on_by, primary_by}
+use Rattle.group_edits.proofs.Edits.{Any, OnStays}
+use Rattle.group_edits.proofs.KeptPlaces.{IsTaken, at_by, on_by, primary_by}
+use Rattle.group_edits.proofs.ReducedRules.{IsOther, on_other}
 use Rattle.group_edits.proofs.ReducedRuns.{get_without, leg_elsewhere}
 use Rattle.group_edits.proofs.Renumbered.{unchanged}
 use Rattle.group_edits.proofs.RenumberedPlaces.{met_by, met_renumbered, spot_renumbered}
@@ -27,11 +29,7 @@ module _ (group : Group) (removed : ℕ) (unused : has_leg_on_pv group removed �
   abbrev rest : Group
   rest = reduced_group group removed
 
-  -- it is another physical volume
-  abbrev IsOther : ℕ → Type 0
-  IsOther pv = pv ≢ removed
-
-  pv_there : (k : ℕ) (pv : List ℕ × Pv) → IsOther k → slice_get group.pvs k ≡ Some pv
+  pv_there : (k : ℕ) (pv : List ℕ × Pv) → IsOther removed k → slice_get group.pvs k ≡ Some pv
       → slice_get rest.pvs (number_without removed k) ≡ Some pv
   pv_there k pv other is = get_without group.pvs removed k other ∙ is
 
@@ -43,12 +41,8 @@ module _ (group : Group) (removed : ℕ) (unused : has_leg_on_pv group removed �
       ∙ ap (option_map (renumbered_row (on_without_pv removed))) meets.is_volume)
       ∙ met_renumbered (on_without_pv removed) rest lv group lv sector m refl meets
 
-  on_other : (o : On) → o ≢ on.Pv removed → OnStays IsOther Any o
-  on_other (on.Pv pv) other = λ same. other (ap on.Pv same)
-  on_other (on.Lv lv) other = tt
-
   taken : (lv sector : ℕ) (m : Met) (spot : Spot) → Any lv → met group lv sector ≡ Some m → primary_spot group.extent_size m ≡ Some spot
-      → IsTaken rest (number_without removed) unchanged IsOther Any lv sector spot
+      → IsTaken rest (number_without removed) unchanged (IsOther removed) Any lv sector spot
   taken lv sector m spot stays is is_spot =
       let meets : Meets group lv sector m = meets_is group lv sector m is in
       let j : ℕ = primary_leg m.segment.count m.segment.kind m.at in
@@ -60,11 +54,11 @@ module _ (group : Group) (removed : ℕ) (unused : has_leg_on_pv group removed �
             spot_renumbered (on_without_pv removed) group.extent_size lv m spot is_spot
             ∙ ap (λ (o : On). Some (record { on = o; sector = spot.sector })) (on_new removed spot.on);
         stays =
-            subst (OnStays IsOther Any) leg.on (on_other leg.it.on
+            subst (OnStays (IsOther removed) Any) leg.on (on_other removed leg.it.on
             (leg_elsewhere removed group unused lv meets.volume m.number m.segment j leg.it meets.is_volume meets.is_segment
             leg.is_leg));
       }
 
   pub primary_reduced : (lv sector : ℕ) (at : At) → primary group lv sector ≡ Some at
       → primary rest lv sector ≡ Some (at_by (number_without removed) at)
-  primary_reduced lv sector at is = primary_by group rest (number_without removed) unchanged IsOther Any pv_there taken lv sector at tt is
+  primary_reduced lv sector at is = primary_by group rest (number_without removed) unchanged (IsOther removed) Any pv_there taken lv sector at tt is

@@ -1,10 +1,9 @@
--- What legs cover once a physical volume on which none of them lies was taken out.
+-- A physical volume on which no leg lies, and the numbers of the others once it was taken out.
 use Rattle.std.proofs.Common.{◌≡◌, ◌≢◌, ◌≤◌, ◌<◌, ℕ, zero, suc, ◌+◌, ◌-◌, Bool, true, false, ◌||◌, cond, List, [], ◌∷◌, ◌++◌, get_or, map}
 use Rattle.std.proofs.Common.{Some, refl, sym, ap, subst, ◌∙◌, arith}
 use Rattle.std.specs.Prelude.{nat_lt, slice_get, All}
 use Rattle.std.specs.List.{list_any, remove}
 use Rattle.std.proofs.lemmas.Bool.{eq-eqb, ltb-false, ltb-true, true≢false}
-use Rattle.std.proofs.lemmas.List.{map-append}
 use Rattle.std.proofs.lemmas.List.Elements.{All-contains_itself}
 use Rattle.std.proofs.lemmas.Option.{get_or_from_slice_get, slice_get_within}
 use Rattle.meta_model.specs.Runs.{legs_of}
@@ -15,30 +14,10 @@ use Rattle.meta_model.specs.declared.segment.On.{On}
 use Rattle.meta_model.specs.declared.segment.On.TheVariants as on
 use Rattle.meta_model.specs.declared.segment.Segment.{Segment}
 use Rattle.volume_rules.proofs.LegRuns.{IsRunOf, run_is}
-use Rattle.volume_rules.specs.Legs.{LegRun, runs_of, runs_of_segments, runs_of_volumes}
+use Rattle.volume_rules.specs.Legs.{LegRun, runs_of}
 use Rattle.group_edits.proofs.Inserted.{none_at, none_by}
-use Rattle.group_edits.proofs.Renumbered.{run_by, segments_by, unchanged}
-use Rattle.group_edits.specs.ReducedGroup.{has_leg_on_pv, is_on_pv, leg_is_on_pv, lies_on_pv, number_without, on_without_pv}
+use Rattle.group_edits.specs.ReducedGroup.{has_leg_on_pv, is_on_pv, leg_is_on_pv, lies_on_pv, number_without}
 use Rattle.group_edits.specs.ReducedGroup.{segment_is_on_pv}
-use Rattle.group_edits.specs.Renumbered.{renumbered_row}
-
--- a run on what has another number then
-abbrev pub reduced_run : ℕ → LegRun → LegRun
-reduced_run removed run = run_by (on_without_pv removed) unchanged run
-
-module _ (removed : ℕ) where
-  volumes_runs : (at : ℕ) (lvs : List (List ℕ × Lv))
-      → runs_of_volumes at (map (renumbered_row (on_without_pv removed)) lvs) ≡ map (reduced_run removed) (runs_of_volumes at lvs)
-  volumes_runs at [] = refl
-  volumes_runs at (lv ∷ lvs) =
-      (λ i. sym (segments_by (on_without_pv removed) unchanged at 0 lv.1.segments) i ++ volumes_runs (at + 1) lvs i)
-      ∙ sym (map-append (reduced_run removed) (runs_of_segments at 0 lv.1.segments) (runs_of_volumes (at + 1) lvs))
-
--- the runs of a group whose legs are renumbered
-pub runs_reduced : (removed : ℕ) (group other : Group) → other.lvs ≡ map (renumbered_row (on_without_pv removed)) group.lvs
-    → runs_of other ≡ map (reduced_run removed) (runs_of group)
-unfolding runs_of
-runs_reduced removed group other same = ap (runs_of_volumes 0) same ∙ volumes_runs removed 0 group.lvs
 
 -- ---- no leg lies on it
 
@@ -114,6 +93,21 @@ get_without (x ∷ xs) zero (suc n) other = ap (slice_get xs) (number_above n)
 get_without (x ∷ xs) (suc removed) zero other = ap (slice_get (remove (x ∷ xs) (suc removed))) (number_below removed)
 get_without (x ∷ xs) (suc removed) (suc n) other =
     ap (slice_get (remove (x ∷ xs) (suc removed))) (number_suc removed n) ∙ get_without xs removed n (λ same. other (ap suc same))
+
+-- two others have different new numbers
+pub number_apart : (removed m n : ℕ) → m ≢ removed → n ≢ removed → number_without removed m ≡ number_without removed n → m ≡ n
+number_apart zero zero n other other' same = absurd (other refl)
+number_apart zero (suc m) zero other other' same = absurd (other' refl)
+number_apart zero (suc m) (suc n) other other' same = ap suc (sym (number_above m) ∙ same ∙ number_above n)
+number_apart (suc removed) zero zero other other' same = refl
+number_apart (suc removed) zero (suc n) other other' same =
+    let e : 0 ≡ suc (number_without removed n) = sym (number_below removed) ∙ same ∙ number_suc removed n in absurd (omega (arith, e))
+number_apart (suc removed) (suc m) zero other other' same =
+    let e : suc (number_without removed m) ≡ 0 = sym (number_suc removed m) ∙ same ∙ number_below removed in absurd (omega (arith, e))
+number_apart (suc removed) (suc m) (suc n) other other' same =
+    let e : suc (number_without removed m) ≡ suc (number_without removed n) =
+    sym (number_suc removed m) ∙ same ∙ number_suc removed n in
+    ap suc (number_apart removed m n (λ equal. other (ap suc equal)) (λ equal. other' (ap suc equal)) (omega (arith, e)))
 
 -- what none of a list passes, none of the others passes
 pub none_without : {X : Type 0} (p : X → Bool) (xs : List X) (removed : ℕ) → list_any p xs ≡ false → list_any p (remove xs removed) ≡ false

@@ -25,7 +25,7 @@ use Rattle.volume_rules.specs.Moving.{leads_to_pvmove, named_by}
 use Rattle.volume_rules.specs.Rules.{IsAccepted, IsMoving, IsPvmove, LiesWithin}
 use Rattle.volume_rules.specs.declared.rule.Rule.TheVariants as rule
 use Rattle.group_edits.proofs.OneNamed.{both_true}
-use Rattle.group_edits.proofs.StayingPrintable.{IsStaying, staying_printable}
+use Rattle.group_edits.proofs.StayingPrintable.{staying_printable}
 use Rattle.group_edits.proofs.StayingRules.{staying_accepted}
 use Rattle.group_edits.proofs.Whole.{IsWhole, seqno_below}
 use Rattle.group_edits.specs.Removing.{goes_with, has_leg_on, lv_numbers, stays, without_volume}
@@ -211,29 +211,12 @@ module _ (group : Group) (removed : ℕ) where
           in
           absurd (true≢false (sym ((moving_is group removed (accepted rule.Depth)).1 moving) ∙ still))
 
-    legs_stay : (k : ℕ) (lv : List ℕ × Lv) (s : ℕ) (segment : Segment) (j : ℕ) (leg : Leg) → slice_get group.lvs k ≡ Some lv
-        → stays group removed (0 + k) ≡ true → slice_get lv.1.segments s ≡ Some segment → slice_get (legs_of segment.kind) j ≡ Some leg
-        → IsStaying group (stays group removed) leg.on
-    legs_stay k lv s segment j leg is stayed there' at = by leg.on refl where
-      by : (o : On) → leg.on ≡ o → IsStaying group (stays group removed) o
-      by (on.Pv pv) on_is = tt
-      by (on.Lv m) on_is =
-          let r = run_of group k lv s segment j leg is there' at in
-          let run_on : r.0.on ≡ on.Lv m = r.5 ∙ on_is in
-          let inside : LiesWithin group (on.Lv m) (r.0.first + r.0.count) =
-          subst (λ (o : On). LiesWithin group o (r.0.first + r.0.count)) run_on
-          (All-contains (λ (run : LegRun). LiesWithin group run.on (run.first + run.count)) (runs_of group) r.0 (accepted rule.Within)
-          r.1)
-          in (
-            closed k m (ap (stays group removed) (let e : k ≡ 0 + k = omega arith in e) ∙ stayed) (r.0, r.1, r.2, run_on),
-            ((inside.1.0, inside.0), inside.1.1),
-          )
-
     without_whole : HasTree group → leads_to_pvmove group 4 removed ≡ false → group.seqno < 4294967295
         → IsWhole (without_volume group removed)
     without_whole tree still below = record {
-      accepted = staying_accepted group (stays group removed) closed accepted (upper_stays still) below;
-      tree = has_tree (without_volume group removed) (staying_printable group (stays group removed) legs_stay below (printable group tree));
+      accepted = staying_accepted group (stays group removed) closed (upper_stays still) accepted below;
+      tree = has_tree (without_volume group removed) (staying_printable group (stays group removed) closed (upper_stays still) accepted below
+          (printable group tree));
     }
 
 -- where the volume is visible

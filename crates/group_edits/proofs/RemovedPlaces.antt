@@ -8,19 +8,19 @@ use Rattle.meta_model.specs.declared.lv.Lv.{Lv}
 use Rattle.meta_model.specs.declared.segment.On.{On}
 use Rattle.meta_model.specs.declared.segment.On.TheVariants as on
 use Rattle.volume_rules.specs.Legs.{LiesOn}
-use Rattle.volume_rules.specs.Rules.{IsAccepted, IsLv}
+use Rattle.volume_rules.specs.Rules.{IsAccepted}
 use Rattle.volume_view.specs.InSegments.{Met, Spot, met, offset_in, primary_leg, primary_spot, segment_from, spot_in}
 use Rattle.volume_view.specs.Places.{primary}
 use Rattle.volume_view.proofs.MetSegments.{ByLeg, Meets, by_leg, make, meets_is}
 use Rattle.volume_view.proofs.PrimariesStand.{LeadsOn, ToLv, ToPv, leads_on}
-use Rattle.group_edits.proofs.KeptPlaces.{Any, IsTaken, OnStays, on_by, primary_by}
+use Rattle.group_edits.proofs.Edits.{Any, OnStays}
+use Rattle.group_edits.proofs.KeptPlaces.{IsTaken, on_by, primary_by}
 use Rattle.group_edits.proofs.Removed.{closed}
 use Rattle.group_edits.proofs.Renumbered.{unchanged}
 use Rattle.group_edits.proofs.RenumberedPlaces.{met_by, met_renumbered, spot_renumbered}
 use Rattle.group_edits.proofs.Staying.{new}
-use Rattle.group_edits.proofs.StayingLegs.{lv_there, other}
+use Rattle.group_edits.proofs.StayingRules.{row_there}
 use Rattle.group_edits.specs.Removing.{on_after, stays, with_staying, without_volume}
-use Rattle.group_edits.specs.Renumbered.{renumbered_lv}
 
 on_new : (stays : ℕ → Bool) (o : On) → on_after stays o ≡ on_by unchanged (new stays) o
 on_new stays (on.Pv pv) = refl
@@ -45,10 +45,8 @@ module _ (group : Group) (stays : ℕ → Bool) (closed : (n m : ℕ) → stays 
       → met (with_staying stays group) (new stays lv) sector ≡ Some (met_new lv m)
   unfolding met
   met_there lv sector m stayed meets =
-      let row : IsLv (other group stays) (new stays lv) (renumbered_lv (on_after stays) meets.volume.1) =
-      lv_there group stays lv meets.volume.1 (meets.volume.0, meets.is_volume) stayed in
       ap (option_and_then (λ (r : List ℕ × Lv). option_map (make (with_staying stays group) (new stays lv) sector)
-      (segment_from group.extent_size sector 0 r.1.segments))) row.1
+      (segment_from group.extent_size sector 0 r.1.segments))) (row_there group stays lv meets.volume meets.is_volume stayed)
       ∙ met_renumbered (on_after stays) (with_staying stays group) (new stays lv) group lv sector m refl meets
 
   taken : (lv sector : ℕ) (m : Met) (spot : Spot) → stays lv ≡ true → met group lv sector ≡ Some m

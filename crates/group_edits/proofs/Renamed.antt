@@ -1,34 +1,30 @@
 -- A group in which a visible volume has a new name keeps all rules, and a tree stands for it.
-use Rattle.std.proofs.Common.{◌≡◌, ◌<◌, ℕ, ◌+◌, Bool, true, false, cond, List, [], get_or, map, Option, Some, None, refl, sym, ap, subst}
-use Rattle.std.proofs.Common.{◌∙◌}
-use Rattle.std.specs.Prelude.{◌≢◌, is_none, is_some, option_map, slice_get, Contains}
+use Rattle.std.proofs.Common.{◌≡◌, ◌<◌, ℕ, ◌+◌, Bool, true, false, cond, List, [], ◌∷◌, length, map, Option, Some, None, refl, sym, ap, subst}
+use Rattle.std.proofs.Common.{◌∙◌, arith}
+use Rattle.std.specs.Prelude.{◌≢◌, is_none, is_some, Contains}
+use Rattle.std.specs.List.{AllByRecursion as Each}
 use Rattle.std.proofs.lemmas.Bool.{false≢true, true≢false}
-use Rattle.std.proofs.lemmas.List.Elements.{All-contains}
-use Rattle.std.proofs.lemmas.Option.{get_or_from_slice_get, slice_get-map}
 use Rattle.std.specs.Str.{bytes_eq}
 use Rattle.lvm_name.specs.Names.{any_name_refusal, is_among, volume_name_refusal, is_reserved}
-use Rattle.meta_model.specs.Runs.{legs_of}
 use Rattle.meta_model.specs.Standing.{HasTree}
 use Rattle.meta_model.specs.Tables.{names_of}
 use Rattle.meta_model.specs.declared.group.Group.{Group}
 use Rattle.meta_model.specs.declared.lv.Lv.{Lv}
-use Rattle.meta_model.specs.declared.segment.Leg.{Leg}
-use Rattle.meta_model.specs.declared.segment.On.{On}
-use Rattle.meta_model.specs.declared.segment.On.TheVariants as on
-use Rattle.meta_model.specs.declared.segment.Segment.{Segment}
 use Rattle.meta_print.proofs.GroupFrom.{printable}
 use Rattle.meta_print.proofs.NamesOfText.{Passes, passes_by}
-use Rattle.meta_print.proofs.Printable.{IsPrintable}
+use Rattle.meta_print.proofs.Printable.{AreNames, IsLv, IsPrintable}
 use Rattle.meta_print.proofs.ReadAgain.{has_tree}
-use Rattle.volume_rules.proofs.LegRuns.{run_of}
-use Rattle.volume_rules.specs.Legs.{LegRun, runs_of}
-use Rattle.volume_rules.specs.Rules.{IsAccepted, LiesWithin}
-use Rattle.volume_rules.specs.declared.rule.Rule.TheVariants.{Depth, Within}
-use Rattle.group_edits.proofs.Whole.{IsWhole, seqno_below}
+use Rattle.volume_rules.specs.Rules.{IsAccepted}
+use Rattle.group_edits.proofs.EditedLegs.{legs_allowed}
+use Rattle.group_edits.proofs.EditedPrintable.{rows_print}
+use Rattle.group_edits.proofs.EditedRows.{KeepsOwn, mapped_accepted, mapped_volumes, same_keeps}
+use Rattle.group_edits.proofs.Edits.{KeepsSegments, StaysAs}
+use Rattle.group_edits.proofs.GrownPrintable.{version_printable}
 use Rattle.group_edits.proofs.OneNamed.{IsVisibleAt, is_this, visible_at}
-use Rattle.group_edits.proofs.OtherNames.{contains_at, other_accepted}
-use Rattle.group_edits.proofs.PushedPrintable.{lv_names}
-use Rattle.group_edits.proofs.RenamedPrintable.{IsOther, printable_renamed}
+use Rattle.group_edits.proofs.PrintedNames.{lv_names}
+use Rattle.group_edits.proofs.RenamedPrintable.{names_after}
+use Rattle.group_edits.proofs.Renumbered.{row_is_same, same_on}
+use Rattle.group_edits.proofs.Whole.{IsWhole, seqno_below}
 use Rattle.group_edits.specs.NextVersion.{changed_if, with_lvs}
 use Rattle.group_edits.specs.Visible.{visible_named}
 use Rattle.group_edits.specs.RenamedVolume.{renamed_volume}
@@ -64,38 +60,43 @@ module _ (group : Group) (old new : List ℕ) (v : ℕ × Lv) (accepted : IsAcce
     by true = refl
     by false = refl
 
-  not_named : (m : ℕ) (row : List ℕ × Lv) → slice_get group.lvs m ≡ Some row → row.1.status.visible ≡ false
-      → bytes_eq (get_or (lv_names group) m []) old ≡ false
-  not_named m row there hidden = by (bytes_eq (get_or (lv_names group) m []) old) refl where
-    named : get_or (lv_names group) m [] ≡ row.0
-    named =
-        get_or_from_slice_get (lv_names group) m row.0 []
-        (slice_get-map (λ (x : List ℕ × Lv). x.0) group.lvs m ∙ ap (option_map (λ (x : List ℕ × Lv). x.0)) there)
+  stays : (row : List ℕ × Lv) → Contains group.lvs row
+      → StaysAs same_on (KeepsSegments same_on) row (changed_if old (λ (r : List ℕ × Lv). (new, r.1)) row)
+  stays row within = record {
+    status = ap (λ (lv : Lv). lv.status) (volume_same row);
+    hidden = λ hidden. (λ i. (name_kept row within hidden i, volume_same row i)) ∙ sym (row_is_same row);
+    segments = subst (λ (lv : Lv). KeepsSegments same_on row.1.segments lv.segments) (sym (volume_same row)) (same_keeps row.1.segments);
+  }
 
-    by : (b : Bool) → bytes_eq (get_or (lv_names group) m []) old ≡ b → b ≡ false
-    by true same =
-        sym (seen row (contains_at group.lvs m row there) (ap (λ (name : List ℕ). bytes_eq name old) (sym named) ∙ same)) ∙ hidden
-    by false same = refl
+  renamed_accepted : group.seqno < 4294967295 → IsAccepted (renamed_volume old new group)
+  renamed_accepted below =
+      mapped_accepted group (changed_if old (λ (r : List ℕ × Lv). (new, r.1))) (λ row. ap (λ (lv : Lv). lv.id) (volume_same row))
+      (λ row. let same = ap (λ (lv : Lv). length lv.segments) (volume_same row) in omega (arith, same))
+      stays
+      (λ row within own. subst (KeepsOwn group.extent_size) (sym (volume_same row)) own) below accepted
 
-  legs_lie : (n : ℕ) (lv : List ℕ × Lv) (k : ℕ) (segment : Segment) (j : ℕ) (leg : Leg) → slice_get group.lvs n ≡ Some lv
-      → slice_get lv.1.segments k ≡ Some segment → slice_get (legs_of segment.kind) j ≡ Some leg → IsOther old group leg.on
-  legs_lie n lv k segment j leg is there at = by leg.on refl where
-    by : (is : On) → leg.on ≡ is → IsOther old group is
-    by (on.Pv m) on_is = tt
-    by (on.Lv m) on_is =
-        let r = run_of group n lv k segment j leg is there at in
-        let run_on : r.0.on ≡ on.Lv m = r.5 ∙ on_is in
-        let inside : LiesWithin group (on.Lv m) (r.0.first + r.0.count) =
-        subst (λ (o : On). LiesWithin group o (r.0.first + r.0.count)) run_on
-        (All-contains (λ (run : LegRun). LiesWithin group run.on (run.first + run.count)) (runs_of group) r.0 (accepted Within) r.1)
-        in
-        not_named m (inside.1.0, inside.0) inside.1.1 ((accepted Depth).hidden n m inside.0 (r.0, r.1, r.2, run_on) inside.1)
+  each_row : (rows : List (List ℕ × Lv)) → Each (λ (lv : List ℕ × Lv). IsLv (renamed_volume old new group) lv.1) rows
+      → Each (λ (lv : List ℕ × Lv). IsLv (renamed_volume old new group) lv.1)
+      (map (changed_if old (λ (r : List ℕ × Lv). (new, r.1))) rows)
+  each_row [] are = tt
+  each_row (row ∷ rows) are = (subst (IsLv (renamed_volume old new group)) (sym (volume_same row)) are.0, each_row rows are.1)
+
+  renamed_printable : AreNames [] (lv_names (renamed_volume old new group)) → group.seqno < 4294967295
+      → IsPrintable (renamed_volume old new group)
+  renamed_printable names below =
+      version_printable group (map (changed_if old (λ (r : List ℕ × Lv). (new, r.1))) group.lvs) below can names
+      (each_row group.lvs (rows_print group (renamed_volume old new group) (KeepsSegments same_on)
+      (mapped_volumes group (renamed_volume old new group) (changed_if old (λ (r : List ℕ × Lv). (new, r.1))) refl
+      (λ n pv is. (pv, is, refl, refl)) stays)
+      (legs_allowed group accepted) can.pv_names names (λ own none. none) can.each_lv))
 
   pub volume_whole : is_among (names_of group.lvs) new ≡ false → volume_name_refusal new ≡ None → group.seqno < 4294967295
       → IsWhole (renamed_volume old new group)
   volume_whole free valid below = record {
-    accepted = other_accepted (changed_if old (λ (r : List ℕ × Lv). (new, r.1))) volume_same group name_kept below accepted;
-    tree = has_tree (renamed_volume old new group) (printable_renamed old new group free (given_named new valid) legs_lie below can);
+    accepted = renamed_accepted below;
+    tree =
+        has_tree (renamed_volume old new group)
+        (renamed_printable (names_after old new group.lvs (given_named new valid) free can.lv_names) below);
   }
 
 -- where there is a visible volume of the old name

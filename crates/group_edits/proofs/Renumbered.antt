@@ -16,11 +16,33 @@ use Rattle.volume_rules.specs.Extents.{extents_of, leg_share}
 use Rattle.volume_rules.specs.Legs.{LegRun, runs_of_legs, runs_of_segments}
 use Rattle.volume_rules.specs.Rules.{Follow, IsPowerOfTwo, IsSmall, IsWholeMirror, IsWholeStriped, KindIsSmall, LvIsSmall, MovedIsAllowed}
 use Rattle.volume_rules.specs.Rules.{SegmentIsSmall}
-use Rattle.group_edits.specs.Renumbered.{renumbered_kind, renumbered_leg, renumbered_legs, renumbered_lv, renumbered_segment}
+use Rattle.group_edits.specs.Renumbered.{renumbered_kind, renumbered_leg, renumbered_legs, renumbered_lv, renumbered_row, renumbered_segment}
 
 -- a number that stays the same
 abbrev pub unchanged : ℕ → ℕ
 unchanged number = number
+
+-- what a leg lies on stays the same
+abbrev pub same_on : On → On
+same_on is = is
+
+legs_are_same : (legs : List Leg) → renumbered_legs same_on legs ≡ legs
+legs_are_same [] = refl
+legs_are_same (leg ∷ legs) = ap (λ (others : List Leg). leg ∷ others) (legs_are_same legs)
+
+pub kind_is_same : (kind : SegKind) → renumbered_kind same_on kind ≡ kind
+kind_is_same (Striped stripe legs) = ap (Striped stripe) (legs_are_same legs)
+kind_is_same (Mirror region moved legs) = ap (Mirror region moved) (legs_are_same legs)
+
+pub segment_is_same : (segment : Segment) → renumbered_segment same_on segment ≡ segment
+segment_is_same segment = ap (λ (kind : SegKind). record segment { kind = kind }) (kind_is_same segment.kind)
+
+segments_are_same : (segments : List Segment) → map (renumbered_segment same_on) segments ≡ segments
+segments_are_same [] = refl
+segments_are_same (segment ∷ segments) = λ i. segment_is_same segment i ∷ segments_are_same segments i
+
+pub row_is_same : (row : List ℕ × Lv) → renumbered_row same_on row ≡ row
+row_is_same row = ap (λ (segments : List Segment). (row.0, record row.1 { segments = segments })) (segments_are_same row.1.segments)
 
 -- ---- what a volume's segments keep
 
@@ -53,7 +75,7 @@ module _ (number : On → On) where
   legs_same (Striped stripe legs) = refl
   legs_same (Mirror region moved legs) = refl
 
-  share_same : (count : ℕ) (kind : SegKind) → leg_share count (renumbered_kind number kind) ≡ leg_share count kind
+  pub share_same : (count : ℕ) (kind : SegKind) → leg_share count (renumbered_kind number kind) ≡ leg_share count kind
   share_same count (Striped stripe legs) = ap (λ (n : ℕ). count / n) (legs_count legs)
   share_same count (Mirror region moved legs) = refl
 

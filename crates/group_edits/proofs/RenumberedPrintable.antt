@@ -4,7 +4,6 @@ use Rattle.std.specs.Prelude.{slice_get}
 use Rattle.std.specs.List.{AllByRecursion as Each}
 use Rattle.conf_text.specs.Grammar.{IsContent}
 use Rattle.meta_model.specs.Runs.{legs_of}
-use Rattle.meta_model.specs.Standing.{on_named}
 use Rattle.meta_model.specs.declared.group.Group.{Group}
 use Rattle.meta_model.specs.declared.lv.Lv.{Lv}
 use Rattle.meta_model.specs.declared.segment.Leg.{Leg}
@@ -12,19 +11,14 @@ use Rattle.meta_model.specs.declared.segment.On.{On}
 use Rattle.meta_model.specs.declared.segment.SegKind.{SegKind}
 use Rattle.meta_model.specs.declared.segment.SegKind.TheVariants.{Striped, Mirror}
 use Rattle.meta_model.specs.declared.segment.Segment.{Segment}
-use Rattle.meta_print.specs.Layout.{name_of}
-use Rattle.meta_print.proofs.Printable.{IsKind, IsLeg, IsLegs, IsLv, IsSegment, names_of}
-use Rattle.group_edits.proofs.Renumbered.{legs_count, segments_count}
-use Rattle.group_edits.specs.Renumbered.{renumbered_kind, renumbered_leg, renumbered_legs, renumbered_lv, renumbered_row}
+use Rattle.meta_print.proofs.Printable.{IsKind, IsLeg, IsLegs, IsLv, IsSegment}
+use Rattle.group_edits.proofs.PrintedNames.{IsFound, IsFoundBy}
+use Rattle.group_edits.proofs.Renumbered.{legs_count, row_is_same, same_on, segments_count}
+use Rattle.group_edits.specs.Renumbered.{renumbered_kind, renumbered_leg, renumbered_legs, renumbered_lv}
 use Rattle.group_edits.specs.Renumbered.{renumbered_segment}
 
--- in the other group it is found by its name, by the new number, and the name is the same
-abbrev pub IsFoundAs : Group → Group → (On → On) → On → Type 0
-IsFoundAs group other number is =
-    (on_named (names_of other) (name_of other (number is)) ≡ Some (number is)) × (name_of other (number is) ≡ name_of group is)
-
 module _ (group other : Group) (number : On → On) (Good : On → Type 0)
-    (again : (is : On) → Good is → on_named (names_of group) (name_of group is) ≡ Some is → IsFoundAs group other number is) where
+    (again : (is : On) → Good is → IsFound group is → IsFoundBy group other is (number is)) where
   -- each leg of these lies on what is found again
   abbrev AreGood : List Leg → Type 0
   AreGood legs = (j : ℕ) (leg : Leg) → slice_get legs j ≡ Some leg → Good leg.on
@@ -76,8 +70,12 @@ module _ (group other : Group) (number : On → On) (Good : On → Type 0)
     each = each_segment lv.segments good is.each;
   }
 
-  pub each_lv : (rows : List (List ℕ × Lv)) → ((k : ℕ) (row : List ℕ × Lv) → slice_get rows k ≡ Some row → AllGood row.1.segments)
-      → Each (λ (row : List ℕ × Lv). IsLv group row.1) rows
-      → Each (λ (row : List ℕ × Lv). IsLv other row.1) (map (renumbered_row number) rows)
-  each_lv [] good are = tt
-  each_lv (row ∷ rows) good are = (lv_kept row.1 (good zero row refl) are.0, each_lv rows (λ k r there. good (suc k) r there) are.1)
+-- volumes whose legs have the same numbers
+pub each_same : (group other : Group) → ((is : On) → IsFound group is → IsFoundBy group other is is) → (rows : List (List ℕ × Lv))
+    → Each (λ (row : List ℕ × Lv). IsLv group row.1) rows → Each (λ (row : List ℕ × Lv). IsLv other row.1) rows
+each_same group other again [] are = tt
+each_same group other again (row ∷ rows) are = (
+  subst (λ (r : List ℕ × Lv). IsLv other r.1) (row_is_same row)
+      (lv_kept group other same_on (λ o. Unit {0}) (λ is good found. again is found) row.1 (λ s segment at j leg is. tt) are.0),
+  each_same group other again rows are.1,
+)

@@ -1,26 +1,29 @@
 -- The restored group keeps all rules, and a tree stands for it, as for the text's.
 use Rattle.std.proofs.Common.{◌≡◌, ◌≢◌, ◌≤◌, ◌<◌, ℕ, ◌+◌, ◌^◌, List, [], ◌∷◌, ◌++◌, length, get_or, map, Some, refl, sym, ap, subst, ◌∙◌}
 use Rattle.std.proofs.Common.{arith}
-use Rattle.std.specs.Prelude.{AllPairs, max, option_map}
+use Rattle.std.specs.Prelude.{AllPairs, max, slice_get}
 use Rattle.std.specs.List.{AllByRecursion as Each}
-use Rattle.std.proofs.lemmas.List.{length-map}
+use Rattle.std.proofs.lemmas.List.{length-map, map-id}
 use Rattle.std.proofs.lemmas.List.Elements.{All-map}
-use Rattle.std.proofs.lemmas.Option.{slice_get-map}
 use Rattle.std.proofs.lemmas.Simd.{map-map}
-use Rattle.meta_model.specs.Standing.{HasTree, on_named}
+use Rattle.lvm_name.specs.Names.{is_among}
+use Rattle.meta_model.specs.Standing.{HasTree}
 use Rattle.meta_model.specs.declared.group.Group.{Group}
 use Rattle.meta_model.specs.declared.lv.Lv.{Lv}
 use Rattle.meta_model.specs.declared.pv.Pv.{Pv}
-use Rattle.meta_model.specs.declared.segment.On.{On}
-use Rattle.meta_model.specs.declared.segment.On.TheVariants as on
-use Rattle.meta_print.specs.Layout.{name_of}
 use Rattle.meta_print.proofs.GroupFrom.{printable}
-use Rattle.meta_print.proofs.Printable.{AreNames, IsPrintable, IsPv, names_of}
+use Rattle.meta_print.proofs.Printable.{AreNames, IsPrintable, IsPv}
 use Rattle.meta_print.proofs.ReadAgain.{has_tree}
 use Rattle.volume_rules.specs.Rules.{FitsDevice, IsAccepted, Keeps, PvIsSmall, ids_of}
 use Rattle.volume_rules.specs.declared.rule.Rule.TheVariants.{Numbers, Ids, Volumes, Extents}
-use Rattle.group_edits.proofs.PushedPrintable.{IsFoundAgain, each_lv, lv_names, pv_names}
-use Rattle.group_edits.proofs.PushedRules.{base_accepted, legs_kept}
+use Rattle.group_edits.proofs.EditedLegs.{legs_allowed}
+use Rattle.group_edits.proofs.EditedPrintable.{rows_print}
+use Rattle.group_edits.proofs.EditedRows.{mapped_volumes, same_stays}
+use Rattle.group_edits.proofs.Edits.{KeepsSegments}
+use Rattle.group_edits.proofs.PrintedNames.{pv_names}
+use Rattle.group_edits.proofs.PushedRules.{accepted_base, base_accepted, base_changed}
+use Rattle.group_edits.proofs.Renumbered.{same_on}
+use Rattle.group_edits.proofs.Selections.{map_at}
 use Rattle.group_edits.proofs.Whole.{IsWhole, seqno_below}
 use Rattle.group_edits.specs.RestoredGroup.{found_pv, restored_group}
 
@@ -42,21 +45,19 @@ module _ (group : Group) (seqno : ℕ) where
     lvs = numbers.lvs;
   }
 
+  pv_there : (k : ℕ) (pv : List ℕ × Pv) → slice_get group.pvs k ≡ Some pv
+      → (row : List ℕ × Pv) × (slice_get other.pvs k ≡ Some row) × (row.0 ≡ pv.0) × (row.1.pe_count ≡ pv.1.pe_count)
+  pv_there k pv is = (found_pv pv, map_at found_pv group.pvs k pv is, refl, refl)
+
   restored_accepted : 1 ≤ seqno → seqno ≤ 4294967295 → IsAccepted group → IsAccepted other
   restored_accepted some most accepted =
       let volumes = accepted Volumes in
       let count : length other.pvs ≡ length group.pvs = length-map group.pvs found_pv in
       base_accepted other
-      (record {
-        kept = λ rule apart.
-            legs_kept group group.name seqno (map found_pv group.pvs)
-            (λ k pv is. (found_pv pv, slice_get-map found_pv group.pvs k ∙ ap (option_map found_pv) is, refl))
-            (numbers_kept some most (accepted Numbers)) (subst (AllPairs (λ (a b : List ℕ). a ≢ b)) (sym ids_same) (accepted Ids))
-            (All-map (λ (pv : List ℕ × Pv). FitsDevice group.extent_size pv.1) found_pv group.pvs (accepted Extents)) rule apart
-            (accepted rule);
-        lvs = volumes.lvs;
-        max_lv = volumes.max_lv;
-      })
+      (base_changed group group.name seqno (map found_pv group.pvs) pv_there
+      (numbers_kept some most (accepted Numbers)) (subst (AllPairs (λ (a b : List ℕ). a ≢ b)) (sym ids_same) (accepted Ids))
+      (All-map (λ (pv : List ℕ × Pv). FitsDevice group.extent_size pv.1) found_pv group.pvs (accepted Extents))
+      (accepted_base group accepted))
       (record {
         pvs = (subst (λ (n : ℕ). 1 ≤ n) (sym count) volumes.pvs.0, subst (λ (n : ℕ). n ≤ 64) (sym count) volumes.pvs.1);
         lvs = volumes.lvs;
@@ -68,14 +69,6 @@ module _ (group : Group) (seqno : ℕ) where
 
   names_same : pv_names other ≡ pv_names group
   names_same = map-map (λ (pv : List ℕ × Pv). pv.0) found_pv group.pvs
-
-  found_again : (is : On) → on_named (names_of group) (name_of group is) ≡ Some is → IsFoundAgain group other is
-  found_again (on.Pv n) found = (
-    (λ i. on_named (record { pvs = names_same i; lvs = lv_names group }) (get_or (names_same i) n [])) ∙ found,
-    ap (λ (l : List (List ℕ)). get_or l n []) names_same,
-  )
-  found_again (on.Lv n) found =
-      ((λ i. on_named (record { pvs = names_same i; lvs = lv_names group }) (get_or (lv_names group) n [])) ∙ found, refl)
 
   each_pv : (pvs : List (List ℕ × Pv)) → Each (λ (pv : List ℕ × Pv). IsPv pv.1) pvs
       → Each (λ (pv : List ℕ × Pv). IsPv pv.1) (map found_pv pvs)
@@ -91,8 +84,8 @@ module _ (group : Group) (seqno : ℕ) where
     each_pv pvs are.1,
   )
 
-  restored_printable : seqno < 2 ^ 64 → IsPrintable group → IsPrintable other
-  restored_printable small can = record {
+  restored_printable : seqno < 2 ^ 64 → IsAccepted group → IsPrintable group → IsPrintable other
+  restored_printable small accepted can = record {
     name_is = can.name_is;
     id_again = can.id_again;
     seqno_fits = small;
@@ -100,11 +93,17 @@ module _ (group : Group) (seqno : ℕ) where
     max_lv_fits = can.max_lv_fits;
     max_pv_fits = can.max_pv_fits;
     copies_fits = can.copies_fits;
-    pv_names = subst (AreNames []) (sym names_same) can.pv_names;
+    pv_names = pvs;
     lv_names = can.lv_names;
     each_pv = each_pv group.pvs can.each_pv;
-    each_lv = each_lv group other found_again group.lvs can.each_lv;
-  }
+    each_lv =
+        rows_print group other (KeepsSegments same_on)
+        (mapped_volumes group other (λ row. row) (sym (map-id group.lvs)) pv_there (λ row within. same_stays row))
+        (legs_allowed group accepted) pvs can.lv_names
+        (λ name none. ap (λ (l : List (List ℕ)). is_among l name) names_same ∙ none) can.each_lv;
+  } where
+    pvs : AreNames [] (pv_names other)
+    pvs = subst (AreNames []) (sym names_same) can.pv_names
 
 -- where neither has the last number
 pub restored_whole : (found said : Group) → found.seqno ≢ 4294967295 → said.seqno ≢ 4294967295 → IsAccepted found → IsAccepted said
@@ -115,7 +114,7 @@ restored_whole found said other other' old new tree =
     record {
       accepted = restored_accepted said (max found.seqno said.seqno + 1) (omega arith) most new;
       tree =
-          has_tree (restored_group found said) (restored_printable said (max found.seqno said.seqno + 1) (omega (arith, most))
+          has_tree (restored_group found said) (restored_printable said (max found.seqno said.seqno + 1) (omega (arith, most)) new
           (printable said tree));
     }
 

@@ -1,42 +1,28 @@
--- A group in which a volume has its first extents alone can be printed.
-use Rattle.std.proofs.Common.{◌≡◌, ◌≤◌, ◌<◌, ℕ, Bool, true, false, cond, List, [], ◌∷◌, get_or, map, Some, refl, sym, ap, subst, ◌∙◌, arith}
+-- A group in which a visible volume has its first extents alone can be printed.
+use Rattle.std.proofs.Common.{◌≡◌, ◌≤◌, ◌<◌, ℕ, Bool, true, false, cond, List, [], ◌∷◌, map, Some, refl, sym, subst, arith}
 use Rattle.std.specs.List.{AllByRecursion as Each}
 use Rattle.std.specs.Str.{bytes_eq}
-use Rattle.meta_model.specs.Standing.{on_named}
 use Rattle.meta_model.specs.declared.group.Group.{Group}
 use Rattle.meta_model.specs.declared.lv.Lv.{Lv}
-use Rattle.meta_model.specs.declared.segment.On.{On}
-use Rattle.meta_model.specs.declared.segment.On.TheVariants as on
 use Rattle.meta_model.specs.declared.segment.Segment.{Segment}
-use Rattle.meta_print.specs.Layout.{name_of}
-use Rattle.meta_print.proofs.Printable.{AreNames, IsLv, IsPrintable, IsSegment, names_of}
-use Rattle.group_edits.proofs.PushedPrintable.{IsFoundAgain, each_lv, lv_names, pv_names}
+use Rattle.meta_print.proofs.Printable.{AreNames, IsLv, IsPrintable, IsSegment}
+use Rattle.volume_rules.specs.Rules.{IsAccepted}
+use Rattle.group_edits.proofs.EditedLegs.{legs_allowed}
+use Rattle.group_edits.proofs.EditedPrintable.{rows_print}
+use Rattle.group_edits.proofs.Edits.{KeepsSegments, Row}
+use Rattle.group_edits.proofs.GrownPrintable.{version_printable}
+use Rattle.group_edits.proofs.PrintedNames.{lv_names}
+use Rattle.group_edits.proofs.Renumbered.{same_on}
+use Rattle.group_edits.proofs.Selections.{map_part}
 use Rattle.group_edits.proofs.ShortFront.{cut, each_front, fewer_segments}
-use Rattle.group_edits.proofs.ShortRules.{names_same}
+use Rattle.group_edits.proofs.ShortRules.{short_volumes}
 use Rattle.group_edits.specs.NextVersion.{changed_if}
-use Rattle.group_edits.specs.ShortenedVolume.{shortened, shortened_volume}
+use Rattle.group_edits.specs.ShortenedVolume.{MayKeep, shortened, shortened_volume}
+use Rattle.group_edits.specs.Visible.{visible_named}
 
 module _ (group : Group) (name : List ℕ) (left : ℕ) where
   abbrev other : Group
   other = shortened_volume name left group
-
-  lv_names-same : lv_names other ≡ lv_names group
-  lv_names-same = names_same name left group.lvs
-
-  again : (is : On) → on_named (names_of group) (name_of group is) ≡ Some is → IsFoundAgain group other is
-  again (on.Pv n) found = (
-    ap (λ (lvs : List (List ℕ)). on_named (record { pvs = pv_names group; lvs = lvs }) (get_or (pv_names group) n [])) lv_names-same
-        ∙ found,
-    refl,
-  )
-  again (on.Lv n) found =
-      let same : get_or (lv_names other) n [] ≡ get_or (lv_names group) n [] = ap (λ (l : List (List ℕ)). get_or l n []) lv_names-same in (
-        ap (on_named (names_of other)) same
-            ∙ ap (λ (lvs : List (List ℕ)). on_named (record { pvs = pv_names group; lvs = lvs }) (get_or (lv_names group) n []))
-            lv_names-same
-            ∙ found,
-        same,
-      )
 
   cut_segment : (segment : Segment) (count : ℕ) → IsSegment other segment → count ≤ segment.count → IsSegment other (cut segment count)
   cut_segment segment count is less =
@@ -51,25 +37,27 @@ module _ (group : Group) (name : List ℕ) (left : ℕ) where
     each = each_front (IsSegment other) cut_segment lv.segments left is.each;
   }
 
-  each_row : (rows : List (List ℕ × Lv)) → Each (λ (lv : List ℕ × Lv). IsLv other lv.1) rows
-      → Each (λ (lv : List ℕ × Lv). IsLv other lv.1) (map (changed_if name (λ (r : List ℕ × Lv). (r.0, shortened left r.1))) rows)
+  each_row : (rows : List Row) → Each (λ (lv : Row). IsLv other lv.1) rows
+      → Each (λ (lv : Row). IsLv other lv.1) (map (changed_if name (λ (r : Row). (r.0, shortened left r.1))) rows)
   each_row [] are = tt
   each_row (row ∷ rows) are = (by (bytes_eq row.0 name), each_row rows are.1) where
     by : (b : Bool) → IsLv other (cond b (row.0, shortened left row.1) row).1
     by true = short_lv row.1 are.0
     by false = are.0
 
-  pub printable_short : group.seqno < 4294967295 → IsPrintable group → IsPrintable other
-  printable_short below can = record {
-    name_is = can.name_is;
-    id_again = can.id_again;
-    seqno_fits = omega (arith, below);
-    extent_fits = can.extent_fits;
-    max_lv_fits = can.max_lv_fits;
-    max_pv_fits = can.max_pv_fits;
-    copies_fits = can.copies_fits;
-    pv_names = can.pv_names;
-    lv_names = subst (AreNames []) (sym lv_names-same) can.lv_names;
-    each_pv = can.each_pv;
-    each_lv = each_row group.lvs (each_lv group other again group.lvs can.each_lv);
-  }
+  name_same : (row : Row) → (changed_if name (λ (r : Row). (r.0, shortened left r.1)) row).0 ≡ row.0
+  name_same row = by (bytes_eq row.0 name) where
+    by : (b : Bool) → (cond b (row.0, shortened left row.1) row).0 ≡ row.0
+    by true = refl
+    by false = refl
+
+  pub printable_short : (v : ℕ × Lv) → IsAccepted group → visible_named group name ≡ Some v → MayKeep left v.1
+      → group.seqno < 4294967295 → IsPrintable group → IsPrintable other
+  printable_short v accepted found may below can =
+      version_printable group other.lvs below can names
+      (each_row group.lvs (rows_print group other (KeepsSegments same_on) (short_volumes group name left v accepted can found may)
+      (legs_allowed group accepted) can.pv_names names (λ own none. none) can.each_lv)) where
+        names : AreNames [] (lv_names other)
+        names =
+            subst (AreNames []) (sym (map_part (changed_if name (λ (r : Row). (r.0, shortened left r.1))) (λ (row : Row). row.0) name_same
+            group.lvs)) can.lv_names

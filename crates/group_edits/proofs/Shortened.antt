@@ -15,7 +15,7 @@ use Rattle.volume_rules.specs.Extents.{extents_of}
 use Rattle.volume_rules.specs.Rules.{Follow, IsAccepted, IsWholeMirror, IsWholeStriped}
 use Rattle.volume_rules.specs.declared.rule.Rule.TheVariants.{Follows, Mirrors, Numbers, Stripes}
 use Rattle.group_edits.proofs.KeptExtents.{IsShared, kept_again, kept_below, kept_more}
-use Rattle.group_edits.proofs.OtherNames.{contains_at}
+use Rattle.group_edits.proofs.Selections.{contains_at}
 use Rattle.group_edits.proofs.ShortPrintable.{printable_short}
 use Rattle.group_edits.proofs.ShortRules.{segments_few, segments_shared, short_accepted}
 use Rattle.group_edits.proofs.Whole.{IsWhole, seqno_below}
@@ -38,7 +38,7 @@ shortened_whole group name left may last accepted tree = by (visible_named group
       let can : IsPrintable group = printable group tree in
       record {
         accepted = short_accepted group name left v accepted can found may_keep below;
-        tree = has_tree (shortened_volume name left group) (printable_short group name left below can);
+        tree = has_tree (shortened_volume name left group) (printable_short group name left v accepted found may_keep below can);
       }
 
 -- as it is made

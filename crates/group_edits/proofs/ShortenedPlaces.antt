@@ -27,10 +27,11 @@ use Rattle.volume_view.specs.Places.{down, primary}
 use Rattle.volume_view.proofs.GoingDown.{GoesDown, goes_down, step_down}
 use Rattle.volume_view.proofs.MetSegments.{ByLeg, Meets, all_at, by_leg, make, meets_is}
 use Rattle.volume_view.proofs.PrimariesStand.{LeadsOn, ToLv, ToPv, leads_on}
-use Rattle.group_edits.proofs.KeptPlaces.{Any, IsTaken, OnStays, down_kept, on_same, primary_by, spot_same}
+use Rattle.group_edits.proofs.Edits.{Any, OnStays}
+use Rattle.group_edits.proofs.KeptPlaces.{IsTaken, down_kept, on_same, primary_by, spot_same}
 use Rattle.group_edits.proofs.Renumbered.{unchanged}
 use Rattle.group_edits.proofs.OneNamed.{is_this}
-use Rattle.group_edits.proofs.OtherNames.{contains_at}
+use Rattle.group_edits.proofs.Selections.{contains_at}
 use Rattle.group_edits.proofs.ShortFront.{cut, le_by, lt_by}
 use Rattle.group_edits.specs.NextVersion.{changed_if}
 use Rattle.group_edits.specs.ShortenedVolume.{front_of, shortened, shortened_volume}

@@ -1,19 +1,13 @@
--- The volumes that stay, by their new numbers, and what their legs cover.
-use Rattle.std.proofs.Common.{◌≡◌, ℕ, zero, suc, ◌+◌, Bool, true, false, cond, List, [], ◌∷◌, ◌++◌, length, map, refl, sym, ap, ◌∙◌}
-use Rattle.std.proofs.Common.{length-append, arith}
-use Rattle.std.specs.Prelude.{filter}
+-- The volumes that stay, by their new numbers.
+use Rattle.std.proofs.Common.{◌≡◌, ◌<◌, ℕ, zero, suc, ◌+◌, Bool, true, false, cond, List, [], ◌∷◌, ◌++◌, length, map, Some, inl, refl, sym, ap}
+use Rattle.std.proofs.Common.{◌∙◌, length-append, arith}
+use Rattle.std.specs.Prelude.{filter, slice_get}
 use Rattle.std.specs.List.{range_with_len}
-use Rattle.std.proofs.lemmas.List.{map-append}
 use Rattle.std.proofs.lemmas.List.Elements.{filter-append}
-use Rattle.meta_model.specs.Runs.{legs_of}
 use Rattle.meta_model.specs.declared.lv.Lv.{Lv}
-use Rattle.meta_model.specs.declared.segment.Leg.{Leg}
-use Rattle.meta_model.specs.declared.segment.Segment.{Segment}
-use Rattle.volume_rules.specs.Extents.{leg_share}
-use Rattle.volume_rules.specs.Legs.{LegRun, runs_of_legs, runs_of_segments, runs_of_volumes}
-use Rattle.group_edits.proofs.Renumbered.{run_by, segments_by}
+use Rattle.group_edits.proofs.Selections.{AreSome, some_skip}
 use Rattle.group_edits.specs.Removing.{number_after, on_after, that_stay}
-use Rattle.group_edits.specs.Renumbered.{renumbered_row, renumbered_segment}
+use Rattle.group_edits.specs.Renumbered.{renumbered_row}
 
 range_next : (a n : ℕ) → range_with_len a (suc n) ≡ range_with_len a n ++ (a + n) ∷ []
 range_next a zero = ap (λ (x : ℕ). x ∷ []) (let e : a ≡ a + 0 = omega arith in e)
@@ -57,81 +51,111 @@ module _ (stays : ℕ → Bool) where
       ap (λ (b : Bool). map (renumbered_row (on_after stays)) (cond b (row ∷ that_stay stays (n + 1) rows) (that_stay stays (n + 1) rows)))
       is
 
-  -- ---- what legs cover
+  -- ---- places
 
-  -- a leg's run by the new numbers
-  abbrev pub run_after : LegRun → LegRun
-  run_after run = run_by (on_after stays) new run
+  -- how many of so many from n on stay: from 0 on it is the new number
+  abbrev counted : ℕ → ℕ → ℕ
+  counted n k = length (filter stays (range_with_len n k))
 
-  -- its volume stays
-  abbrev pub run_stays : LegRun → Bool
-  run_stays run = stays run.lv
+  module _ {A : Type 0} where
+    stay_at_from : (n k : ℕ) (items : List A) (item : A) → slice_get items k ≡ Some item → stays (n + k) ≡ true
+        → slice_get (that_stay stays n items) (counted n k) ≡ Some item
+    stay_at_from n k [] item is stayed = absurd cc
+    stay_at_from n zero (x ∷ items) item is stayed =
+        ap (λ (b : Bool). slice_get (cond b (x ∷ that_stay stays (n + 1) items) (that_stay stays (n + 1) items)) 0)
+        (ap stays (let e : n ≡ n + 0 = omega arith in e) ∙ stayed) ∙ is
+    stay_at_from n (suc k) (x ∷ items) item is stayed =
+        by (stays n)
+        (stay_at_from (n + 1) k items item is (ap stays (let e : n + 1 + k ≡ n + suc k = omega arith in e) ∙ stayed)) where
+          rest : List A
+          rest = that_stay stays (n + 1) items
 
-  legs_staying : (n s count j : ℕ) (legs : List Leg) → stays n ≡ true
-      → filter run_stays (runs_of_legs n s count j legs) ≡ runs_of_legs n s count j legs
-  legs_staying n s count j [] is = refl
-  legs_staying n s count j (leg ∷ legs) is =
-      let run : LegRun = record { lv = n; segment = s; leg = j; on = leg.on; first = leg.first; count = count } in
-      ap (λ (b : Bool). cond b (run ∷ filter run_stays (runs_of_legs n s count (j + 1) legs))
-      (filter run_stays (runs_of_legs n s count (j + 1) legs))) is
-      ∙ ap (λ (runs : List LegRun). run ∷ runs) (legs_staying n s count (j + 1) legs is)
+          others : List ℕ
+          others = filter stays (range_with_len (n + 1) k)
 
-  legs_going : (n s count j : ℕ) (legs : List Leg) → stays n ≡ false → filter run_stays (runs_of_legs n s count j legs) ≡ []
-  legs_going n s count j [] is = refl
-  legs_going n s count j (leg ∷ legs) is =
-      let run : LegRun = record { lv = n; segment = s; leg = j; on = leg.on; first = leg.first; count = count } in
-      ap (λ (b : Bool). cond b (run ∷ filter run_stays (runs_of_legs n s count (j + 1) legs))
-      (filter run_stays (runs_of_legs n s count (j + 1) legs))) is
-      ∙ legs_going n s count (j + 1) legs is
+          by : (b : Bool) → slice_get rest (length others) ≡ Some item
+              → slice_get (cond b (x ∷ rest) rest) (length (cond b (n ∷ others) others)) ≡ Some item
+          by true later = later
+          by false later = later
 
-  segments_staying : (n k : ℕ) (segments : List Segment) → stays n ≡ true
-      → filter run_stays (runs_of_segments n k segments) ≡ runs_of_segments n k segments
-  segments_staying n k [] is = refl
-  segments_staying n k (segment ∷ segments) is =
-      let first : List LegRun = runs_of_legs n k (leg_share segment.count segment.kind) 0 (legs_of segment.kind) in
-      filter-append run_stays first (runs_of_segments n (k + 1) segments)
-      ∙ ap (λ (runs : List LegRun). runs ++ filter run_stays (runs_of_segments n (k + 1) segments))
-      (legs_staying n k (leg_share segment.count segment.kind) 0 (legs_of segment.kind) is)
-      ∙ ap (λ (runs : List LegRun). first ++ runs) (segments_staying n (k + 1) segments is)
+    stay_from_from : (n m : ℕ) (items : List A) (item : A) → slice_get (that_stay stays n items) m ≡ Some item
+        → (k : ℕ) × (slice_get items k ≡ Some item) × (stays (n + k) ≡ true) × (counted n k ≡ m)
+    stay_from_from n m [] item is = absurd cc
+    stay_from_from n m (x ∷ items) item is = by (stays n) refl m is (λ j at. stay_from_from (n + 1) j items item at) where
+      rest : List A
+      rest = that_stay stays (n + 1) items
 
-  segments_going : (n k : ℕ) (segments : List Segment) → stays n ≡ false → filter run_stays (runs_of_segments n k segments) ≡ []
-  segments_going n k [] is = refl
-  segments_going n k (segment ∷ segments) is =
-      let first : List LegRun = runs_of_legs n k (leg_share segment.count segment.kind) 0 (legs_of segment.kind) in
-      filter-append run_stays first (runs_of_segments n (k + 1) segments)
-      ∙ ap (λ (runs : List LegRun). runs ++ filter run_stays (runs_of_segments n (k + 1) segments))
-      (legs_going n k (leg_share segment.count segment.kind) 0 (legs_of segment.kind) is)
-      ∙ segments_going n (k + 1) segments is
+      by : (b : Bool) → stays n ≡ b → (j : ℕ) → slice_get (cond b (x ∷ rest) rest) j ≡ Some item
+          → ((i : ℕ) → slice_get rest i ≡ Some item
+          → (k : ℕ) × (slice_get items k ≡ Some item) × (stays (n + 1 + k) ≡ true) × (counted (n + 1) k ≡ i))
+          → (k : ℕ) × (slice_get (x ∷ items) k ≡ Some item) × (stays (n + k) ≡ true) × (counted n k ≡ j)
+      by true first zero at later = (0, at, ap stays (let e : n + 0 ≡ n = omega arith in e) ∙ first, refl)
+      by true first (suc j) at later =
+          let old = later j at in
+          let others : List ℕ = filter stays (range_with_len (n + 1) old.0) in (
+            suc old.0,
+            old.1,
+            ap stays (let e : n + suc old.0 ≡ n + 1 + old.0 = omega arith in e) ∙ old.2,
+            ap (λ (b : Bool). length (cond b (n ∷ others) others)) first ∙ ap suc old.3,
+          )
+      by false first j at later =
+          let old = later j at in
+          let others : List ℕ = filter stays (range_with_len (n + 1) old.0) in (
+            suc old.0,
+            old.1,
+            ap stays (let e : n + suc old.0 ≡ n + 1 + old.0 = omega arith in e) ∙ old.2,
+            ap (λ (b : Bool). length (cond b (n ∷ others) others)) first ∙ old.3,
+          )
 
-  -- the runs of the legs of the volumes that stay, by the new numbers
-  pub runs_after : (n : ℕ) (rows : List (List ℕ × Lv))
-      → runs_of_volumes (new n) (rows_after n rows) ≡ map run_after (filter run_stays (runs_of_volumes n rows))
-  runs_after n [] = refl
-  runs_after n (row ∷ rows) = by (stays n) refl (runs_after (n + 1) rows) where
-    first : List LegRun
-    first = runs_of_segments n 0 row.1.segments
+    -- those that stay are some of them
+    pub some_stay : (n : ℕ) (items : List A) → AreSome (that_stay stays n items) items
+    some_stay n [] = tt
+    some_stay n (x ∷ items) = by (stays n) (some_stay (n + 1) items) where
+      by : (b : Bool) → AreSome (that_stay stays (n + 1) items) items
+          → AreSome (cond b (x ∷ that_stay stays (n + 1) items) (that_stay stays (n + 1) items)) (x ∷ items)
+      by true later = inl (refl, later)
+      by false later = some_skip x (that_stay stays (n + 1) items) items later
 
-    rest : List LegRun
-    rest = runs_of_volumes (n + 1) rows
+    -- one that stays stands at its new number
+    pub stay_at : (k : ℕ) (items : List A) (item : A) → slice_get items k ≡ Some item → stays k ≡ true
+        → slice_get (that_stay stays 0 items) (new k) ≡ Some item
+    stay_at k items item is stayed = stay_at_from 0 k items item is (ap stays (let e : 0 + k ≡ k = omega arith in e) ∙ stayed)
 
-    more : suc n ≡ n + 1
-    more = omega arith
+    -- and what stands there is one that stays
+    pub stay_from : (m : ℕ) (items : List A) (item : A) → slice_get (that_stay stays 0 items) m ≡ Some item
+        → (k : ℕ) × (slice_get items k ≡ Some item) × (stays k ≡ true) × (new k ≡ m)
+    stay_from m items item is =
+        let old = stay_from_from 0 m items item is in
+        (old.0, old.1, ap stays (let e : old.0 ≡ 0 + old.0 = omega arith in e) ∙ old.2, old.3)
 
-    by : (b : Bool) → stays n ≡ b → runs_of_volumes (new (n + 1)) (rows_after (n + 1) rows) ≡ map run_after (filter run_stays rest)
-        → runs_of_volumes (new n) (rows_after n (row ∷ rows)) ≡ map run_after (filter run_stays (first ++ rest))
-    by true is later =
-        ap (runs_of_volumes (new n)) (rows_staying n row rows is)
-        ∙ ap (λ (m : ℕ). runs_of_segments (new n) 0 (map (renumbered_segment (on_after stays)) row.1.segments)
-        ++ runs_of_volumes m (rows_after (n + 1) rows)) (sym (next_staying n is) ∙ ap new more)
-        ∙ ap (λ (runs : List LegRun). runs_of_segments (new n) 0 (map (renumbered_segment (on_after stays)) row.1.segments) ++ runs) later
-        ∙ ap (λ (runs : List LegRun). runs ++ map run_after (filter run_stays rest))
-        (sym (segments_by (on_after stays) new n 0 row.1.segments))
-        ∙ sym (map-append run_after first (filter run_stays rest))
-        ∙ ap (λ (runs : List LegRun). map run_after (runs ++ filter run_stays rest)) (sym (segments_staying n 0 row.1.segments is))
-        ∙ ap (map run_after) (sym (filter-append run_stays first rest))
-    by false is later =
-        ap (runs_of_volumes (new n)) (rows_going n row rows is)
-        ∙ ap (λ (m : ℕ). runs_of_volumes m (rows_after (n + 1) rows)) (sym (next_going n is) ∙ ap new more)
-        ∙ later
-        ∙ ap (λ (runs : List LegRun). map run_after (runs ++ filter run_stays rest)) (sym (segments_going n 0 row.1.segments is))
-        ∙ ap (map run_after) (sym (filter-append run_stays first rest))
+  some_counted : (n b : ℕ) → stays n ≡ true → 0 ≡ counted n (suc b) → ⊥
+  some_counted n b is none =
+      let others : List ℕ = filter stays (range_with_len (n + 1) b) in
+      let e : counted n (suc b) ≡ suc (length others) = ap (λ (t : Bool). length (cond t (n ∷ others) others)) is in
+      omega (arith, none, e)
+
+  counted_apart : (n a b : ℕ) → stays (n + a) ≡ true → stays (n + b) ≡ true → counted n a ≡ counted n b → a ≡ b
+  counted_apart n zero zero first second same = refl
+  counted_apart n zero (suc b) first second same =
+      absurd (some_counted n b (ap stays (let e : n ≡ n + 0 = omega arith in e) ∙ first) same)
+  counted_apart n (suc a) zero first second same =
+      absurd (some_counted n a (ap stays (let e : n ≡ n + 0 = omega arith in e) ∙ second) (sym same))
+  counted_apart n (suc a) (suc b) first second same =
+      ap suc (counted_apart (n + 1) a b (ap stays (let e : n + 1 + a ≡ n + suc a = omega arith in e) ∙ first)
+      (ap stays (let e : n + 1 + b ≡ n + suc b = omega arith in e) ∙ second) (by (stays n) same))
+    where
+      xs : List ℕ
+      xs = filter stays (range_with_len (n + 1) a)
+
+      ys : List ℕ
+      ys = filter stays (range_with_len (n + 1) b)
+
+      by : (t : Bool) → length (cond t (n ∷ xs) xs) ≡ length (cond t (n ∷ ys) ys) → length xs ≡ length ys
+      by true equal = omega (arith, equal)
+      by false equal = equal
+
+  -- volumes that stay have different new numbers
+  pub new_apart : (a b : ℕ) → stays a ≡ true → stays b ≡ true → new a ≡ new b → a ≡ b
+  new_apart a b first second same =
+      counted_apart 0 a b (ap stays (let e : 0 + a ≡ a = omega arith in e) ∙ first)
+      (ap stays (let e : 0 + b ≡ b = omega arith in e) ∙ second) same

@@ -31,7 +31,7 @@ use Rattle.extent_alloc.specs.declared.request.Request.{Request}
 use Rattle.group_edits.proofs.GivenRuns.{given_may}
 use Rattle.group_edits.proofs.OnDisks.{lie_on_pvs, may_grow}
 use Rattle.group_edits.proofs.OneNamed.{IsVisibleAt, visible_at}
-use Rattle.group_edits.proofs.OtherNames.{contains_at}
+use Rattle.group_edits.proofs.Selections.{contains_at}
 use Rattle.group_edits.specs.GivenSegments.{segments_in}
 use Rattle.group_edits.specs.LongerVolume.{MayGrow, last_kind, longer_volume}
 use Rattle.group_edits.specs.ShortenedVolume.{HasFewLegs, kept_of, parts_of}
