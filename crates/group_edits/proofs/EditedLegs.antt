@@ -1,7 +1,7 @@
 -- An edited group keeps the rules on legs, on depth and on moves.
-use Rattle.std.proofs.Common.{◌≡◌, ◌≢◌, ◌≤◌, ◌<◌, ◌⊎◌, ℕ, zero, suc, ◌+◌, Bool, true, false, true≢false, cond, List, [], ◌∷◌, length, get_or, map}
-use Rattle.std.proofs.Common.{Some, None, inl, inr, ⊎_elim, add-one, refl, sym, ap, subst, ◌∙◌, arith}
-use Rattle.std.specs.Prelude.{nat_eq, slice_get, All, AllPairs, Contains}
+use Rattle.std.proofs.Common.{◌≡◌, ◌≤◌, ◌<◌, ◌⊎◌, ℕ, zero, suc, ◌+◌, Bool, true, false, true≢false, cond, List, [], ◌∷◌, length, get_or, map}
+use Rattle.std.proofs.Common.{Some, inl, inr, ⊎_elim, add-one, refl, sym, ap, subst, ◌∙◌, arith}
+use Rattle.std.specs.Prelude.{nat_eq, slice_get, Contains}
 use Rattle.std.specs.List.{AllByRecursion as Each}
 use Rattle.std.proofs.lemmas.Bool.{eq-eqb}
 use Rattle.std.proofs.lemmas.Bool.Decides.{nat_tests}
@@ -10,8 +10,6 @@ use Rattle.std.proofs.lemmas.List.Elements.{All-contains, All-contains_itself, A
 use Rattle.std.proofs.lemmas.Option.{same_Some, slice_get-get_or}
 use Rattle.meta_model.specs.Runs.{legs_of}
 use Rattle.meta_model.specs.declared.group.Group.{Group}
-use Rattle.meta_model.specs.declared.lv.Lv.{Lv}
-use Rattle.meta_model.specs.declared.pv.Pv.{Pv}
 use Rattle.meta_model.specs.declared.segment.Leg.{Leg}
 use Rattle.meta_model.specs.declared.segment.On.{On}
 use Rattle.meta_model.specs.declared.segment.On.TheVariants as on
@@ -23,7 +21,7 @@ use Rattle.volume_rules.proofs.LegRuns.{contains_first, contains_later, related_
 use Rattle.volume_rules.specs.Depths.{load}
 use Rattle.volume_rules.specs.Extents.{extents_of}
 use Rattle.volume_rules.specs.Legs.{IsInRun, IsUsed, IsWayDown, LegRun, LieApart, LiesOn, runs_of}
-use Rattle.volume_rules.specs.Rules.{IsAccepted, IsLv, IsMove, IsMoveFrom, IsMoving, IsPvmove, Keeps, LiesWithin, counts, pvmove_number}
+use Rattle.volume_rules.specs.Rules.{IsAccepted, IsMove, IsMoveFrom, IsMoving, IsPvmove, Keeps, LiesWithin, counts, pvmove_number}
 use Rattle.volume_rules.specs.declared.rule.Rule.TheVariants.{Within, Apart, Depth, Pvmove, Locked}
 use Rattle.group_edits.proofs.Edits.{IsEdit, IsNewLeg, IsThere, OnStays, Row, WasLeg, WasRow}
 use Rattle.group_edits.proofs.LegPlaces.{run_same, runs_differ}

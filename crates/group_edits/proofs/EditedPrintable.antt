@@ -1,5 +1,5 @@
 -- The logical volumes that stay in an edited group can be printed, by their new numbers.
-use Rattle.std.proofs.Common.{◌≡◌, ℕ, false, List, [], length, get_or, map, Some, refl, sym, ap, subst, ◌∙◌}
+use Rattle.std.proofs.Common.{◌≡◌, ℕ, false, List, [], get_or, Some, refl, sym, ap, subst, ◌∙◌}
 use Rattle.std.specs.Prelude.{slice_get}
 use Rattle.std.specs.List.{AllByRecursion as Each}
 use Rattle.std.proofs.lemmas.List.Elements.{All-from_recursion, recursion_from_All}
@@ -7,7 +7,6 @@ use Rattle.std.proofs.lemmas.Option.{same_Some, slice_get-get_or}
 use Rattle.lvm_name.specs.Names.{is_among}
 use Rattle.meta_model.specs.Runs.{legs_of}
 use Rattle.meta_model.specs.declared.group.Group.{Group}
-use Rattle.meta_model.specs.declared.lv.Lv.{Lv}
 use Rattle.meta_model.specs.declared.pv.Pv.{Pv}
 use Rattle.meta_model.specs.declared.segment.Leg.{Leg}
 use Rattle.meta_model.specs.declared.segment.On.{On}
@@ -22,7 +21,7 @@ use Rattle.group_edits.proofs.PrintedNames.{IsFound, IsFoundBy, lv_found, lv_nam
 use Rattle.group_edits.proofs.Renumbered.{row_is_same, same_on, unchanged}
 use Rattle.group_edits.proofs.RenumberedPrintable.{lv_kept}
 use Rattle.group_edits.proofs.Selections.{map_at, map_from}
-use Rattle.group_edits.specs.Renumbered.{renumbered_lv, renumbered_row}
+use Rattle.group_edits.specs.Renumbered.{renumbered_lv}
 
 module _ (group other : Group) (number : On → On) (pv_at lv_at : ℕ → ℕ) (PvStays Stays : ℕ → Type 0)
     (Segments : List Segment → List Segment → Type 0)

@@ -1,5 +1,5 @@
 -- An edit in which each segment stays whole or as a front: its legs, and what the other rules ask.
-use Rattle.std.proofs.Common.{◌≡◌, ◌≤◌, ◌<◌, ℕ, ◌+◌, ◌/◌, List, [], ◌∷◌, ◌++◌, length, get_or, map, Some, inl, refl, sym, ap, subst, ◌∙◌, arith}
+use Rattle.std.proofs.Common.{◌≡◌, ◌≤◌, ◌<◌, ℕ, ◌/◌, List, [], ◌∷◌, ◌++◌, length, get_or, map, Some, inl, refl, sym, ap, subst, ◌∙◌, arith}
 use Rattle.std.specs.Prelude.{slice_get, sum_by, All, AllPairs, Contains}
 use Rattle.std.proofs.lemmas.List.{length-map}
 use Rattle.std.proofs.lemmas.List.Elements.{All-contains_itself, All-map, All-nil}
@@ -17,12 +17,12 @@ use Rattle.meta_model.specs.declared.segment.SegKind.TheVariants.{Striped, Mirro
 use Rattle.meta_model.specs.declared.segment.Segment.{Segment}
 use Rattle.volume_rules.proofs.LegRuns.{IsRunOf, run_is, run_of}
 use Rattle.volume_rules.specs.Extents.{leg_share}
-use Rattle.volume_rules.specs.Legs.{LegRun, LieApart, runs_of}
+use Rattle.volume_rules.specs.Legs.{LegRun, runs_of}
 use Rattle.volume_rules.specs.Rules.{IsAccepted, Keeps, LvIsSmall, NumbersAreAllowed, ids_of}
 use Rattle.volume_rules.specs.declared.rule.Rule.TheVariants.{Numbers, Ids, Volumes, Segments, Extents, Follows, Stripes, Mirrors, Within}
 use Rattle.volume_rules.specs.declared.rule.Rule.TheVariants.{Apart, Depth, Moved, Pvmove, Locked}
 use Rattle.group_edits.proofs.EditedLegs.{LegsAreAllowed, legs_allowed, legs_kept}
-use Rattle.group_edits.proofs.Edits.{Any, IsEdit, IsFront, IsNewLeg, IsThere, KeepsSegments, KeepsVolumes, OnStays, Row, StaysAs, WasLeg}
+use Rattle.group_edits.proofs.Edits.{Any, IsEdit, IsFront, IsNewLeg, IsThere, KeepsSegments, KeepsVolumes, Row, StaysAs, WasLeg}
 use Rattle.group_edits.proofs.Edits.{WasRow, any_stays}
 use Rattle.group_edits.proofs.Renumbered.{AreMirrors, AreMoved, AreStriped, FollowTo, are_mirrors, are_moved, are_striped, follows}
 use Rattle.group_edits.proofs.Renumbered.{kind_is_same, legs_same, row_is_same, same_on, segment_is_same, segments_count, share_same}

@@ -1,5 +1,5 @@
 -- New legs on physical volumes can be printed, and so can the next version of a group, where its volumes can.
-use Rattle.std.proofs.Common.{◌≡◌, ◌<◌, ℕ, ◌+◌, ◌^◌, true, List, [], ◌∷◌, map, Some, refl, sym, subst, arith}
+use Rattle.std.proofs.Common.{◌≡◌, ◌<◌, ℕ, ◌^◌, true, List, [], ◌∷◌, map, Some, refl, sym, subst, arith}
 use Rattle.std.specs.Prelude.{is_none, slice_get}
 use Rattle.std.specs.List.{AllByRecursion as Each, list_all}
 use Rattle.std.proofs.lemmas.Bool.{and_parts}

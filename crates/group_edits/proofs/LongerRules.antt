@@ -1,7 +1,7 @@
 -- A group in which one volume has more segments on free extents keeps all rules.
-use Rattle.std.proofs.Common.{◌≡◌, ◌≤◌, ◌<◌, ℕ, zero, suc, ◌+◌, ◌*◌, ◌^◌, true, cond, List, [], ◌∷◌, ◌++◌, length, map, Some, None, inl}
+use Rattle.std.proofs.Common.{◌≡◌, ◌≤◌, ◌<◌, ℕ, zero, suc, ◌+◌, ◌*◌, ◌^◌, true, List, [], ◌∷◌, ◌++◌, length, map, Some, None, inl}
 use Rattle.std.proofs.Common.{refl, sym, ap, subst, ◌∙◌, append_assoc, true≢false, arith}
-use Rattle.std.specs.Prelude.{◌≢◌, nat_eq, slice_get, sum_by, All, AllPairs}
+use Rattle.std.specs.Prelude.{◌≢◌, slice_get, sum_by, All, AllPairs}
 use Rattle.std.proofs.lemmas.List.{length-append}
 use Rattle.std.proofs.lemmas.List.Elements.{All-append, All-from_recursion, All-head, All-tail, recursion_from_All}
 use Rattle.meta_model.specs.Runs.{legs_of}
@@ -15,8 +15,8 @@ use Rattle.extent_alloc.specs.declared.part.Part.{Part}
 use Rattle.volume_rules.specs.Extents.{extents_of, leg_share}
 use Rattle.volume_rules.specs.Legs.{LegRun, runs_of, runs_of_legs, runs_of_segments, runs_of_volumes}
 use Rattle.volume_rules.specs.Rules.{Follow, IsAccepted, IsWholeMirror, IsWholeStriped, Keeps, KindIsSmall, LvIsSmall, MovedIsAllowed}
-use Rattle.volume_rules.specs.Rules.{SegmentIsSmall, pvmove_number}
-use Rattle.volume_rules.specs.declared.rule.Rule.TheVariants.{Numbers, Ids, Volumes, Segments, Follows, Stripes, Mirrors, Moved}
+use Rattle.volume_rules.specs.Rules.{SegmentIsSmall}
+use Rattle.volume_rules.specs.declared.rule.Rule.TheVariants.{Numbers, Ids, Segments, Follows, Stripes, Mirrors}
 use Rattle.group_edits.proofs.EditedLegs.{legs_allowed}
 use Rattle.group_edits.proofs.EditedRows.{KeepsOwn, fewer_volumes, keep_own, next_accepted}
 use Rattle.group_edits.proofs.GivenRules.{extents_both, follow_both, legs_some, parts_follow, parts_mirror, parts_moved, parts_small}

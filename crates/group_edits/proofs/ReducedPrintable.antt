@@ -1,6 +1,5 @@
 -- A group without a physical volume on which no leg lies can be printed, where it could before.
-use Rattle.std.proofs.Common.{◌≡◌, ◌<◌, ℕ, ◌+◌, ◌^◌, false, List, [], get_or, map, refl, sym, subst}
-use Rattle.std.specs.List.{AllByRecursion as Each, remove}
+use Rattle.std.proofs.Common.{◌≡◌, ◌<◌, ℕ, ◌+◌, ◌^◌, false, List, [], get_or, refl, sym, subst}
 use Rattle.std.proofs.lemmas.List.Elements.{All-from_recursion, All-map, recursion_from_All}
 use Rattle.std.proofs.lemmas.Option.{slice_get-get_or}
 use Rattle.meta_model.specs.declared.group.Group.{Group}

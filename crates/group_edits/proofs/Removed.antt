@@ -5,24 +5,19 @@ use Rattle.std.specs.Prelude.{◌≢◌, ◌==◌, slice_get, Contains, IsSomeAn
 use Rattle.std.specs.List.{list_all, list_any, range_with_len}
 use Rattle.std.proofs.lemmas.Bool.{eq-eqb, false≢true, true≢false}
 use Rattle.std.proofs.lemmas.Bool.Decides.{nat_tests}
-use Rattle.std.proofs.lemmas.List.Elements.{All-contains, Contains-push}
+use Rattle.std.proofs.lemmas.List.Elements.{Contains-push}
 use Rattle.std.proofs.lemmas.Option.{slice_get_within}
-use Rattle.meta_model.specs.Runs.{legs_of}
 use Rattle.meta_model.specs.Standing.{HasTree}
 use Rattle.meta_model.specs.declared.group.Group.{Group}
 use Rattle.meta_model.specs.declared.lv.Lv.{Lv}
-use Rattle.meta_model.specs.declared.segment.Leg.{Leg}
-use Rattle.meta_model.specs.declared.segment.On.{On}
-use Rattle.meta_model.specs.declared.segment.On.TheVariants as on
-use Rattle.meta_model.specs.declared.segment.Segment.{Segment}
 use Rattle.meta_print.proofs.GroupFrom.{printable}
 use Rattle.meta_print.proofs.ReadAgain.{has_tree}
-use Rattle.volume_rules.proofs.LegRuns.{IsRunOf, contains_first, contains_later, run_is, run_of}
+use Rattle.volume_rules.proofs.LegRuns.{IsRunOf, contains_first, contains_later, run_is}
 use Rattle.volume_rules.proofs.MovingVolumes.{moving_is}
 use Rattle.volume_rules.proofs.NamedVolumes.{names_from, names_to}
-use Rattle.volume_rules.specs.Legs.{IsWayDown, LegRun, LiesOn, runs_of}
+use Rattle.volume_rules.specs.Legs.{IsWayDown, LiesOn}
 use Rattle.volume_rules.specs.Moving.{leads_to_pvmove, named_by}
-use Rattle.volume_rules.specs.Rules.{IsAccepted, IsMoving, IsPvmove, LiesWithin}
+use Rattle.volume_rules.specs.Rules.{IsAccepted, IsMoving, IsPvmove}
 use Rattle.volume_rules.specs.declared.rule.Rule.TheVariants as rule
 use Rattle.group_edits.proofs.OneNamed.{both_true}
 use Rattle.group_edits.proofs.StayingPrintable.{staying_printable}

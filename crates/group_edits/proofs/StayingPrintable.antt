@@ -1,6 +1,5 @@
 -- A group without some volumes can be printed, where what the others lie on stays.
-use Rattle.std.proofs.Common.{◌≡◌, ◌<◌, ℕ, Bool, true, List, [], get_or, map, refl, sym, subst}
-use Rattle.std.specs.List.{AllByRecursion as Each}
+use Rattle.std.proofs.Common.{◌≡◌, ◌<◌, ℕ, Bool, true, [], get_or, map, refl, sym, subst}
 use Rattle.std.proofs.lemmas.List.Elements.{All-map, recursion_from_All}
 use Rattle.std.proofs.lemmas.Option.{slice_get-get_or}
 use Rattle.meta_model.specs.declared.group.Group.{Group}
