@@ -208,7 +208,7 @@ keep_own group accepted k d within = record {
   moved = (accepted Moved) k d within;
 }
 
-pub renumbered_own : (number : On → On) (extent_size : ℕ) (lv : Lv) → KeepsOwn extent_size lv
+renumbered_own : (number : On → On) (extent_size : ℕ) (lv : Lv) → KeepsOwn extent_size lv
     → KeepsOwn extent_size (renumbered_lv number lv)
 renumbered_own number extent_size lv own = record {
   small = small_lv number lv own.small;
@@ -218,6 +218,18 @@ renumbered_own number extent_size lv own = record {
   mirrors = are_mirrors number lv own.mirrors;
   moved = are_moved number lv own.moved;
 }
+
+pub all_renumbered : (number : On → On) (extent_size : ℕ) (rows : List Row) → AllKeepOwn extent_size rows
+    → AllKeepOwn extent_size (map (renumbered_row number) rows)
+all_renumbered number extent_size rows all =
+    All-map (λ (row : Row). KeepsOwn extent_size row.1) (renumbered_row number) rows
+    (λ k d within. renumbered_own number extent_size (get_or rows k d).1 (all k d within))
+
+pub segments_renumbered : (number : On → On) (rows : List Row)
+    → sum_by (λ (row : Row). length row.1.segments) (map (renumbered_row number) rows) ≤ sum_by (λ (row : Row). length row.1.segments) rows
+segments_renumbered number rows =
+    sum_less (renumbered_row number) (λ (row : Row). length row.1.segments)
+    (λ row. (let e = segments_count number row.1 in omega (arith, e))) rows
 
 pub all_rules : (other : Group) → NumbersAreAllowed other → Keeps other Ids → Keeps other Volumes
     → sum_by (λ (row : Row). length row.1.segments) other.lvs ≤ 16384 → Keeps other Extents → AllKeepOwn other.extent_size other.lvs

@@ -14,8 +14,7 @@ use Rattle.meta_model.specs.declared.segment.On.{On}
 use Rattle.meta_model.specs.declared.segment.On.TheVariants as on
 use Rattle.meta_model.specs.declared.segment.SegKind.{SegKind}
 use Rattle.meta_model.specs.declared.segment.SegKind.TheVariants.{Striped, Mirror}
-use Rattle.extent_alloc.specs.Giving.{IsGiven, IsRequest, covered, covered_by, extents_in}
-use Rattle.extent_alloc.specs.Giving.{LieApart as PvApart}
+use Rattle.extent_alloc.specs.Giving.{IsGiven, IsRequest, covered, covered_by, extents_in, LieApart as PvApart}
 use Rattle.extent_alloc.specs.declared.part.Part.{Part}
 use Rattle.extent_alloc.specs.declared.part.PartRun.{PartRun}
 use Rattle.extent_alloc.specs.declared.part.PvRun.{PvRun}

@@ -23,9 +23,9 @@ pub mod Removed
 mod Marking
 mod NumberedRest
 mod MarkedRest
+mod RenumberedPlaces
 pub mod KeptPlaces
 pub mod RenamedPlaces
-mod RenumberedPlaces
 pub mod RemovedPlaces
 pub mod VisibleStay
 pub mod RenamedGroup

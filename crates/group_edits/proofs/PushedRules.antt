@@ -8,8 +8,7 @@ use Rattle.std.proofs.lemmas.List.Elements.{All-weaker, recursion_from_All}
 use Rattle.meta_model.specs.declared.group.Group.{Group}
 use Rattle.meta_model.specs.declared.lv.Lv.{Lv}
 use Rattle.meta_model.specs.declared.pv.Pv.{Pv}
-use Rattle.volume_rules.specs.Rules.{FitsDevice, IsAccepted, Keeps, PvIsSmall, VolumesAreFew, ids_of}
-use Rattle.volume_rules.specs.Rules.{number_of}
+use Rattle.volume_rules.specs.Rules.{FitsDevice, IsAccepted, Keeps, PvIsSmall, VolumesAreFew, ids_of, number_of}
 use Rattle.volume_rules.specs.declared.rule.Rule.{Rule}
 use Rattle.volume_rules.specs.declared.rule.Rule.TheVariants.{Numbers, Ids, Volumes, Segments, Extents, Follows, Stripes, Mirrors, Within}
 use Rattle.volume_rules.specs.declared.rule.Rule.TheVariants.{Apart, Depth, Moved, Pvmove, Locked}

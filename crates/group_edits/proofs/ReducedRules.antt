@@ -1,11 +1,11 @@
 -- A group without a physical volume on which no leg lies keeps all rules, where it has another one.
-use Rattle.std.proofs.Common.{◌≡◌, ◌≢◌, ◌<◌, ℕ, zero, suc, ◌+◌, false, List, [], ◌∷◌, ◌++◌, length, map, Some, inl, refl, sym, ap, subst, ◌∙◌}
-use Rattle.std.proofs.Common.{arith}
+use Rattle.std.proofs.Common.{◌≡◌, ◌≢◌, ◌<◌, ℕ, zero, suc, ◌+◌, false, List, [], ◌∷◌, ◌++◌, length, map, Some, inl, refl, sym, ap, subst}
+use Rattle.std.proofs.Common.{◌∙◌, arith}
 use Rattle.std.specs.Prelude.{slice_get, All, AllPairs}
 use Rattle.std.specs.List.{remove}
 use Rattle.std.proofs.lemmas.List.{length-map}
 use Rattle.std.proofs.lemmas.List.Edits.{length-remove}
-use Rattle.std.proofs.lemmas.List.Elements.{All-contains, All-map, All-weaker}
+use Rattle.std.proofs.lemmas.List.Elements.{All-contains}
 use Rattle.meta_model.specs.declared.group.Group.{Group}
 use Rattle.meta_model.specs.declared.pv.Pv.{Pv}
 use Rattle.meta_model.specs.declared.segment.On.{On}
@@ -14,11 +14,11 @@ use Rattle.volume_rules.specs.Legs.{runs_of}
 use Rattle.volume_rules.specs.Rules.{FitsDevice, IsAccepted, PvIsSmall, ids_of}
 use Rattle.volume_rules.specs.declared.rule.Rule.TheVariants.{Numbers, Ids, Volumes, Segments, Extents}
 use Rattle.group_edits.proofs.EditedLegs.{legs_allowed, legs_kept}
-use Rattle.group_edits.proofs.EditedRows.{AllKeepOwn, KeepsOwn, all_rules, keep_own, renumbered_own, renumbered_stays, row_edit}
+use Rattle.group_edits.proofs.EditedRows.{AllKeepOwn, all_renumbered, all_rules, keep_own, renumbered_stays, row_edit, segments_renumbered}
 use Rattle.group_edits.proofs.Edits.{Any, KeepsSegments, KeepsVolumes, OnStays, Row, StaysAs, WasRow}
 use Rattle.group_edits.proofs.ReducedRuns.{IsElsewhere, get_without, number_apart, runs_elsewhere}
-use Rattle.group_edits.proofs.Renumbered.{segments_count, unchanged}
-use Rattle.group_edits.proofs.Selections.{map_at, map_from, map_part, some_all, some_front, some_map, some_pairs, some_without, sum_less}
+use Rattle.group_edits.proofs.Renumbered.{unchanged}
+use Rattle.group_edits.proofs.Selections.{map_at, map_from, map_part, some_all, some_front, some_map, some_pairs, some_without}
 use Rattle.group_edits.specs.ReducedGroup.{has_leg_on_pv, number_without, on_without_pv, reduced_group}
 use Rattle.group_edits.specs.Renumbered.{renumbered_row}
 
@@ -69,7 +69,12 @@ module _ (group : Group) (removed : ℕ) (unused : has_leg_on_pv group removed �
     pv_apart = number_apart removed;
     lv_apart = λ a b first second same. same;
     pv_there = λ n pv other is. (pv, get_without group.pvs removed n other ∙ is, refl, refl);
-    lv_there = λ n row stays is. (renumbered_row number row, map_at (renumbered_row number) group.lvs n row is, renumbered_stays number row);
+    lv_there =
+        λ n row stays is. (
+          renumbered_row number row,
+          map_at (renumbered_row number) group.lvs n row is,
+          renumbered_stays number row,
+        );
     lv_from = λ m now is. inl (row_was m now is);
     below = λ run within stays. on_other removed run.on
         (All-contains (IsElsewhere removed) (runs_of group) run (runs_elsewhere removed group unused) within);
@@ -98,19 +103,14 @@ module _ (group : Group) (removed : ℕ) (unused : has_leg_on_pv group removed �
         max_pv = λ limit. let most = few.max_pv limit in omega (arith, less, most);
         max_lv = λ limit. let most = few.max_lv limit in omega (arith, same, most);
       })
-      (let fewer = sum_less (renumbered_row number) (λ (row : Row). length row.1.segments)
-      (λ row. (let e = segments_count number row.1 in omega (arith, e))) group.lvs in
-      let most = (accepted Segments).few in omega (arith, fewer, most))
+      (let fewer = segments_renumbered number group.lvs in let most = (accepted Segments).few in omega (arith, fewer, most))
       (all_without (λ (pv : List ℕ × Pv). FitsDevice group.extent_size pv.1) group.pvs removed (accepted Extents)) own
       (legs_kept group rest number (number_without removed) unchanged (IsOther removed) Any (KeepsSegments number)
       (row_edit group rest number (number_without removed) unchanged (IsOther removed) Any keeps_volumes row_was)
       (legs_allowed group accepted))
     where
       own : AllKeepOwn group.extent_size rest.lvs
-      own =
-          All-map (λ (row : Row). KeepsOwn group.extent_size row.1) (renumbered_row number) group.lvs
-          (All-weaker (λ (row : Row). KeepsOwn group.extent_size row.1) (λ (row : Row). KeepsOwn group.extent_size (renumbered_row number row).1)
-          (λ row is. renumbered_own number group.extent_size row.1 is) group.lvs (keep_own group accepted))
+      own = all_renumbered number group.extent_size group.lvs (keep_own group accepted)
 
       ids : AllPairs (λ (a b : List ℕ). a ≢ b) (ids_of rest)
       ids =

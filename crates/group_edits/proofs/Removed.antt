@@ -210,8 +210,9 @@ module _ (group : Group) (removed : ℕ) where
         → IsWhole (without_volume group removed)
     without_whole tree still below = record {
       accepted = staying_accepted group (stays group removed) closed (upper_stays still) accepted below;
-      tree = has_tree (without_volume group removed) (staying_printable group (stays group removed) closed (upper_stays still) accepted below
-          (printable group tree));
+      tree =
+          has_tree (without_volume group removed)
+          (staying_printable group (stays group removed) closed (upper_stays still) accepted below (printable group tree));
     }
 
 -- where the volume is visible

@@ -16,7 +16,8 @@ use Rattle.volume_rules.specs.Extents.{extents_of, leg_share}
 use Rattle.volume_rules.specs.Legs.{LegRun, runs_of_legs, runs_of_segments}
 use Rattle.volume_rules.specs.Rules.{Follow, IsPowerOfTwo, IsSmall, IsWholeMirror, IsWholeStriped, KindIsSmall, LvIsSmall, MovedIsAllowed}
 use Rattle.volume_rules.specs.Rules.{SegmentIsSmall}
-use Rattle.group_edits.specs.Renumbered.{renumbered_kind, renumbered_leg, renumbered_legs, renumbered_lv, renumbered_row, renumbered_segment}
+use Rattle.group_edits.specs.Renumbered.{renumbered_kind, renumbered_leg, renumbered_legs, renumbered_lv, renumbered_row}
+use Rattle.group_edits.specs.Renumbered.{renumbered_segment}
 
 -- a number that stays the same
 abbrev pub unchanged : ℕ → ℕ

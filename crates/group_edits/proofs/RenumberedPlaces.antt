@@ -1,9 +1,7 @@
 -- What is met in volumes whose legs lie on volumes by their new numbers.
-use Rattle.std.proofs.Common.{◌≡◌, ℕ, zero, suc, ◌+◌, ◌-◌, ◌*◌, Bool, true, false, cond, List, [], ◌∷◌, length, map, Option, Some, refl, ap}
-use Rattle.std.proofs.Common.{◌∙◌, arith}
+use Rattle.std.proofs.Common.{◌≡◌, ℕ, zero, suc, ◌+◌, Bool, true, false, cond, List, [], ◌∷◌, length, map, Option, Some, refl, ap, ◌∙◌}
 use Rattle.std.specs.Prelude.{option_map, slice_get}
 use Rattle.meta_model.specs.Runs.{legs_of}
-use Rattle.meta_model.specs.declared.group.Group.{Group}
 use Rattle.meta_model.specs.declared.segment.Leg.{Leg}
 use Rattle.meta_model.specs.declared.segment.On.{On}
 use Rattle.meta_model.specs.declared.segment.SegKind.{SegKind}
@@ -11,10 +9,12 @@ use Rattle.meta_model.specs.declared.segment.SegKind.TheVariants.{Mirror, Stripe
 use Rattle.meta_model.specs.declared.segment.Segment.{Segment}
 use Rattle.volume_view.specs.InSegments.{Met, Spot, has_sector, leg_spot, offset_in, primary_leg, primary_spot, segment_from, spot_in}
 use Rattle.volume_view.specs.InSegments.{stripe_leg, stripe_offset}
-use Rattle.volume_view.proofs.MetSegments.{Meets, make}
-use Rattle.group_edits.proofs.KeptPlaces.{spot_by}
 use Rattle.group_edits.proofs.Renumbered.{legs_count}
-use Rattle.group_edits.specs.Renumbered.{renumbered_kind, renumbered_legs, renumbered_lv, renumbered_segment}
+use Rattle.group_edits.specs.Renumbered.{renumbered_kind, renumbered_legs, renumbered_segment}
+
+-- the same spot on the volume by its other number
+abbrev pub spot_by : (On → On) → Spot → Spot
+spot_by number spot = record { on = number spot.on; sector = spot.sector }
 
 module _ (number : On → On) where
   spots : (extent offset : ℕ) (legs : List Leg) (k : ℕ)
@@ -36,10 +36,10 @@ module _ (number : On → On) where
   spot_new extent count at (Mirror region moved legs) = spots extent at legs (primary_leg count (Mirror region moved legs) at)
 
   -- a segment that was found, by the new numbers
-  abbrev found_new : ℕ × Segment → ℕ × Segment
+  abbrev pub found_new : ℕ × Segment → ℕ × Segment
   found_new found = (found.0, renumbered_segment number found.1)
 
-  segment_new : (extent sector n : ℕ) (segments : List Segment)
+  pub segment_new : (extent sector n : ℕ) (segments : List Segment)
       → segment_from extent sector n (map (renumbered_segment number) segments)
       ≡ option_map found_new (segment_from extent sector n segments)
   segment_new extent sector n [] = refl
@@ -59,19 +59,6 @@ module _ (number : On → On) where
   -- what is met in the volume with this number, by the new numbers
   abbrev pub met_by : ℕ → Met → Met
   met_by lv m = record { lv = lv; number = m.number; segment = renumbered_segment number m.segment; at = m.at }
-
-  -- the segment by the new numbers has the sector
-  pub met_renumbered : (other : Group) (new : ℕ) (group : Group) (lv sector : ℕ) (m : Met) → other.extent_size ≡ group.extent_size
-      → (meets : Meets group lv sector m)
-      → option_map (make other new sector) (segment_from other.extent_size sector 0 (renumbered_lv number meets.volume.1).segments)
-      ≡ Some (met_by new m)
-  met_renumbered other new group lv sector m size meets =
-      let start : m.segment.start * other.extent_size ≡ m.segment.start * group.extent_size = ap (λ (e : ℕ). m.segment.start * e) size in
-      let into : sector - m.segment.start * other.extent_size ≡ m.at = omega (arith, meets.at, start) in
-      ap (λ (e : ℕ). option_map (make other new sector) (segment_from e sector 0 (renumbered_lv number meets.volume.1).segments)) size
-      ∙ ap (option_map (make other new sector))
-      (segment_new group.extent_size sector 0 meets.volume.1.segments ∙ ap (option_map found_new) meets.is_found)
-      ∙ ap (λ (at : ℕ). Some (record { lv = new; number = m.number; segment = renumbered_segment number m.segment; at = at })) into
 
   pub spot_renumbered : (extent new : ℕ) (m : Met) (spot : Spot) → primary_spot extent m ≡ Some spot
       → primary_spot extent (met_by new m) ≡ Some (spot_by number spot)

@@ -14,8 +14,7 @@ use Rattle.meta_model.specs.declared.segment.Segment.{Segment}
 use Rattle.meta_print.proofs.Printable.{IsKind, IsLeg, IsLegs, IsLv, IsSegment}
 use Rattle.group_edits.proofs.PrintedNames.{IsFound, IsFoundBy}
 use Rattle.group_edits.proofs.Renumbered.{legs_count, row_is_same, same_on, segments_count}
-use Rattle.group_edits.specs.Renumbered.{renumbered_kind, renumbered_leg, renumbered_legs, renumbered_lv}
-use Rattle.group_edits.specs.Renumbered.{renumbered_segment}
+use Rattle.group_edits.specs.Renumbered.{renumbered_kind, renumbered_leg, renumbered_legs, renumbered_lv, renumbered_segment}
 
 module _ (group other : Group) (number : On → On) (Good : On → Type 0)
     (again : (is : On) → Good is → IsFound group is → IsFoundBy group other is (number is)) where

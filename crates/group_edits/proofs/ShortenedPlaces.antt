@@ -19,18 +19,19 @@ use Rattle.meta_model.specs.declared.segment.SegKind.{SegKind}
 use Rattle.meta_model.specs.declared.segment.SegKind.TheVariants.{Mirror, Striped}
 use Rattle.meta_model.specs.declared.segment.Segment.{Segment}
 use Rattle.meta_print.proofs.Printable.{IsPrintable}
+use Rattle.volume_rules.proofs.LegRuns.{run_of}
 use Rattle.volume_rules.specs.Extents.{extents_of}
 use Rattle.volume_rules.specs.Rules.{Follow, IsAccepted, MovedIsAllowed}
-use Rattle.volume_rules.specs.declared.rule.Rule.TheVariants.{Depth, Follows, Moved, Pvmove}
+use Rattle.volume_rules.specs.declared.rule.Rule.TheVariants.{Follows, Moved, Pvmove}
 use Rattle.volume_view.specs.InSegments.{Met, Spot, has_sector, met, offset_in, primary_leg, primary_spot, leg_spot, segment_from, spot_in}
 use Rattle.volume_view.specs.Places.{down, primary}
 use Rattle.volume_view.proofs.GoingDown.{GoesDown, goes_down, step_down}
 use Rattle.volume_view.proofs.MetSegments.{ByLeg, Meets, all_at, by_leg, make, meets_is}
-use Rattle.volume_view.proofs.PrimariesStand.{LeadsOn, ToLv, ToPv, leads_on}
+use Rattle.group_edits.proofs.EditedLegs.{hidden_below, legs_allowed}
 use Rattle.group_edits.proofs.Edits.{Any, OnStays}
-use Rattle.group_edits.proofs.KeptPlaces.{IsTaken, down_kept, on_same, primary_by, spot_same}
-use Rattle.group_edits.proofs.Renumbered.{unchanged}
+use Rattle.group_edits.proofs.KeptPlaces.{KeepsRow, LegsStay, TakesSteps, down_kept, finds_same, on_same, primary_by, steps_taken}
 use Rattle.group_edits.proofs.OneNamed.{is_this}
+use Rattle.group_edits.proofs.Renumbered.{same_on, unchanged}
 use Rattle.group_edits.proofs.Selections.{contains_at}
 use Rattle.group_edits.proofs.ShortFront.{cut, le_by, lt_by}
 use Rattle.group_edits.specs.NextVersion.{changed_if}
@@ -164,48 +165,41 @@ module _ (group : Group) (name : List ℕ) (left : ℕ) (v : ℕ × Lv) (accepte
       by false same = refl
 
     -- and what a leg lies on
-    leads_other : (n : ℕ) (spot : Spot) → LeadsOn group n spot → OnStays Any HasOther spot.on
-    leads_other n spot (ToPv number pv is_on is less) = subst (OnStays Any HasOther) (sym is_on) tt
-    leads_other n spot (ToLv number volume is_on is less lies) =
-        subst (OnStays Any HasOther) (sym is_on)
-        (λ row there.
-        let same : volume ≡ row = same_Some volume row (sym is ∙ there) in
-        subst (λ (r : Row). bytes_eq r.0 name ≡ false) same
-        (hidden_other volume (contains_at group.lvs number volume is) ((accepted Depth).hidden n number volume.1 lies (volume.0, is))))
+    legs_other : (n : ℕ) → LegsStay group Any HasOther n
+    legs_other n row s segment j leg there part leg_is = by leg.on refl where
+      by : (o : On) → leg.on ≡ o → OnStays Any HasOther o
+      by (on.Pv pv) lies = tt
+      by (on.Lv m) lies =
+          let r = run_of group n row s segment j leg there part leg_is in
+          let below = hidden_below group (legs_allowed group accepted) r.0 m r.1 (r.5 ∙ lies) in
+          λ volume is.
+          let same : below.0 ≡ volume = same_Some below.0 volume (sym below.1 ∙ is) in
+          subst (λ (v : Row). bytes_eq v.0 name ≡ false) same (hidden_other below.0 (contains_at group.lvs m below.0 below.1) below.2)
+
+    row_kept : (n : ℕ) (row : Row) → HasOther n → slice_get group.lvs n ≡ Some row → KeepsRow other same_on group.extent_size row n
+    row_kept n row stays there = (row, row_there n row false there (stays row there), finds_same group.extent_size row.1.segments)
+
+    taken : TakesSteps group other unchanged unchanged Any HasOther
+    taken =
+        steps_taken group other same_on unchanged unchanged Any HasOther (λ k pv stays there. there) refl (λ o. sym (on_same o)) row_kept
+        (λ n stays. legs_other n)
+
+    -- a volume of another name keeps each primary place
+    pub primary_others : (n sector : ℕ) (at : At) → HasOther n → primary group n sector ≡ Some at → primary other n sector ≡ Some at
+    primary_others n sector at stays is =
+        primary_by group other unchanged unchanged Any HasOther (λ k pv stays there. there) taken n sector at stays is
 
     step_other : (n sector : ℕ) (m : Met) (spot : Spot) → Meets group n sector m → primary_spot group.extent_size m ≡ Some spot
         → OnStays Any HasOther spot.on
     step_other n sector m spot meets is_spot =
         let j : ℕ = primary_leg m.segment.count m.segment.kind m.at in
         let leg : ByLeg group m j spot = by_leg group m j spot is_spot in
-        subst (OnStays Any HasOther) leg.on (leads_other n (spot_in group.extent_size (offset_in m.segment.kind m.at) leg.it)
-        (leads_on group n sector m j leg.it accepted meets leg.is_leg))
+        subst (OnStays Any HasOther) leg.on
+        (legs_other n meets.volume m.number m.segment j leg.it meets.is_volume meets.is_segment leg.is_leg)
 
     -- what is met in a row
     abbrev met_in : ℕ → ℕ → Row → Option Met
     met_in n sector row = option_map (make group n sector) (segment_from group.extent_size sector 0 row.1.segments)
-
-    met_other : (n sector : ℕ) (m : Met) → HasOther n → met group n sector ≡ Some m → (row : Row) → slice_get group.lvs n ≡ Some row
-        → met other n sector ≡ Some m
-    unfolding met
-    met_other n sector m stays is row there =
-        ap (option_and_then (met_in n sector)) (row_there n row false there (stays row there) ∙ sym there) ∙ is
-
-    taken : (n sector : ℕ) (m : Met) (spot : Spot) → HasOther n → met group n sector ≡ Some m → primary_spot group.extent_size m ≡ Some spot
-        → IsTaken other unchanged unchanged Any HasOther n sector spot
-    taken n sector m spot stays is is_spot =
-        let meets : Meets group n sector m = meets_is group n sector m is in
-        record {
-          m = m;
-          meets = met_other n sector m stays is meets.volume meets.is_volume;
-          is_spot = is_spot ∙ ap (λ (s : Spot). Some s) (sym (spot_same spot));
-          stays = step_other n sector m spot meets is_spot;
-        }
-
-    -- a volume of another name keeps each primary place
-    pub primary_others : (n sector : ℕ) (at : At) → HasOther n → primary group n sector ≡ Some at → primary other n sector ≡ Some at
-    primary_others n sector at stays is =
-        primary_by group other unchanged unchanged Any HasOther (λ k pv stays there. there) taken n sector at stays is
 
     -- ---- the shorter one
 

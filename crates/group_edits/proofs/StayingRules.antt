@@ -2,7 +2,6 @@
 use Rattle.std.proofs.Common.{◌≡◌, ◌≢◌, ◌<◌, ℕ, Bool, true, List, ◌∷◌, ◌++◌, length, map, Some, inl, refl, sym, subst, arith}
 use Rattle.std.specs.Prelude.{slice_get, AllPairs, Contains}
 use Rattle.std.proofs.lemmas.List.{length-map}
-use Rattle.std.proofs.lemmas.List.Elements.{All-map, All-weaker}
 use Rattle.meta_model.specs.declared.group.Group.{Group}
 use Rattle.meta_model.specs.declared.pv.Pv.{Pv}
 use Rattle.meta_model.specs.declared.segment.On.{On}
@@ -11,11 +10,12 @@ use Rattle.volume_rules.specs.Legs.{LegRun, LiesOn, runs_of}
 use Rattle.volume_rules.specs.Rules.{IsAccepted, IsPvmove, ids_of}
 use Rattle.volume_rules.specs.declared.rule.Rule.TheVariants.{Ids, Segments}
 use Rattle.group_edits.proofs.EditedLegs.{legs_allowed, legs_kept}
-use Rattle.group_edits.proofs.EditedRows.{KeepsOwn, fewer_volumes, keep_own, next_accepted, renumbered_own, renumbered_stays, row_edit}
+use Rattle.group_edits.proofs.EditedRows.{KeepsOwn, all_renumbered, fewer_volumes, keep_own, next_accepted, renumbered_stays, row_edit}
+use Rattle.group_edits.proofs.EditedRows.{segments_renumbered}
 use Rattle.group_edits.proofs.Edits.{Any, KeepsSegments, KeepsVolumes, OnStays, Row, StaysAs, WasRow}
-use Rattle.group_edits.proofs.Renumbered.{segments_count, unchanged}
-use Rattle.group_edits.proofs.Selections.{AreSome, map_at, map_from, map_part, some_all, some_behind, some_length, some_map, some_pairs, some_sum}
-use Rattle.group_edits.proofs.Selections.{sum_less}
+use Rattle.group_edits.proofs.Renumbered.{unchanged}
+use Rattle.group_edits.proofs.Selections.{AreSome, map_at, map_from, map_part, some_all, some_behind, some_length, some_map, some_pairs}
+use Rattle.group_edits.proofs.Selections.{some_sum}
 use Rattle.group_edits.proofs.Staying.{new, new_apart, some_stay, stay_at, stay_from}
 use Rattle.group_edits.specs.Removing.{on_after, that_stay, with_staying}
 use Rattle.group_edits.specs.Renumbered.{renumbered_row}
@@ -51,14 +51,15 @@ module _ (group : Group) (stays : ℕ → Bool) where
         kept = subst (StaysAs number (KeepsSegments number) row.0) row.2 (renumbered_stays number row.0);
       }
 
-  module _ (closed : (n m : ℕ) → stays n ≡ true → LiesOn group n m → stays m ≡ true)
-      (upper : (n m : ℕ) → LiesOn group n m → IsPvmove group m → stays n ≡ true) where
-    below_stays : (run : LegRun) → Contains (runs_of group) run → Stays run.lv → OnStays Any Stays run.on
+  module _ (closed : (n m : ℕ) → stays n ≡ true → LiesOn group n m → stays m ≡ true) where
+    pub below_stays : (run : LegRun) → Contains (runs_of group) run → Stays run.lv → OnStays Any Stays run.on
     below_stays run within stayed = by run.on refl where
       by : (o : On) → run.on ≡ o → OnStays Any Stays o
       by (on.Pv pv) lies = tt
       by (on.Lv m) lies = closed run.lv m stayed (run, within, refl, lies)
 
+  module _ (closed : (n m : ℕ) → stays n ≡ true → LiesOn group n m → stays m ≡ true)
+      (upper : (n m : ℕ) → LiesOn group n m → IsPvmove group m → stays n ≡ true) where
     pub keeps_volumes : KeepsVolumes group rest number unchanged (new stays) Any Stays (KeepsSegments number)
     keeps_volumes = record {
       pv_is = λ n. refl;
@@ -68,7 +69,7 @@ module _ (group : Group) (stays : ℕ → Bool) where
       pv_there = λ n pv stands is. (pv, is, refl, refl);
       lv_there = λ n row stayed is. (renumbered_row number row, row_there n row is stayed, renumbered_stays number row);
       lv_from = λ m now is. inl (row_was m now is);
-      below = below_stays;
+      below = below_stays closed;
       above = λ run m within lies moves. upper run.lv m (run, within, refl, lies) moves;
     }
 
@@ -78,12 +79,11 @@ module _ (group : Group) (stays : ℕ → Bool) where
         next_accepted group (map (renumbered_row number) rows) accepted below ids
         (fewer_volumes group (map (renumbered_row number) rows) accepted
         (let same = length-map rows (renumbered_row number) in let fewer = some_length rows group.lvs some in omega (arith, same, fewer)))
-        (let same = sum_less (renumbered_row number) (λ (row : Row). length row.1.segments) (λ row. (let e = segments_count number row.1 in omega (arith, e))) rows in
-        let fewer = some_sum (λ (row : Row). length row.1.segments) rows group.lvs some in let few = (accepted Segments).few in omega (arith, same, fewer, few))
-        (All-map (λ (row : Row). KeepsOwn group.extent_size row.1) (renumbered_row number) rows
-        (All-weaker (λ (row : Row). KeepsOwn group.extent_size row.1) (λ (row : Row). KeepsOwn group.extent_size (renumbered_row number row).1)
-        (λ row own. renumbered_own number group.extent_size row.1 own) rows
-        (some_all (λ (row : Row). KeepsOwn group.extent_size row.1) rows group.lvs some (keep_own group accepted))))
+        (let same = segments_renumbered number rows in
+        let fewer = some_sum (λ (row : Row). length row.1.segments) rows group.lvs some in
+        let few = (accepted Segments).few in omega (arith, same, fewer, few))
+        (all_renumbered number group.extent_size rows
+        (some_all (λ (row : Row). KeepsOwn group.extent_size row.1) rows group.lvs some (keep_own group accepted)))
         (legs_kept group rest number unchanged (new stays) Any Stays (KeepsSegments number)
         (row_edit group rest number unchanged (new stays) Any Stays keeps_volumes row_was) (legs_allowed group accepted))
       where
