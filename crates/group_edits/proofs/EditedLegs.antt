@@ -77,7 +77,7 @@ there_numbered (x ∷ rows) (suc m) row there has = by x.1.status.pvmove refl (t
   by false is later = (later.0, ap (slice_get (x ∷ rows)) (add-one (pvmove_number rows)) ∙ later.1, later.2)
 
 -- where there is one at most, it alone isn't counted
-pub counts_is : (group : Group) → ((a b : ℕ) → IsPvmove group a → IsPvmove group b → a ≡ b) → (m : ℕ) (row : Row)
+counts_is : (group : Group) → ((a b : ℕ) → IsPvmove group a → IsPvmove group b → a ≡ b) → (m : ℕ) (row : Row)
     → slice_get group.lvs m ≡ Some row → counts group m ≡ cond row.1.status.pvmove 0 1
 counts_is group one m row there = by row.1.status.pvmove refl where
   by : (b : Bool) → row.1.status.pvmove ≡ b → counts group m ≡ cond b 0 1

@@ -34,7 +34,7 @@ use Rattle.group_edits.specs.Renumbered.{renumbered_kind, renumbered_leg, renumb
 -- ---- segments
 
 -- by the new numbers
-pub renumbered_keeps : (number : On → On) (segments : List Segment)
+renumbered_keeps : (number : On → On) (segments : List Segment)
     → KeepsSegments number segments (map (renumbered_segment number) segments)
 renumbered_keeps number segments = record {
   from = λ s segment is.

@@ -34,7 +34,7 @@ all_allowed (b ∷ bs) all =
     let parts = and_parts (is_name (kind b)) (list_all (λ b. is_name (kind b)) bs) all in
     rw (name_allowed (kind b) parts.0, all_allowed bs parts.1) refl
 
-pub name_content : (name : List ℕ) → is_none (any_name_refusal name) ≡ true → IsContent name
+name_content : (name : List ℕ) → is_none (any_name_refusal name) ≡ true → IsContent name
 name_content name valid = all_allowed name (volume_name-name name valid).1
 
 -- ---- a leg on a physical volume

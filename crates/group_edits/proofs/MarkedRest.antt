@@ -1,21 +1,19 @@
 -- The group of the volumes that aren't marked is the one without those that go.
-use Rattle.std.proofs.Common.{◌≡◌, ◌≤◌, ◌<◌, ℕ, ◌+◌, Bool, true, false, not, ◌||◌, ◌&&◌, List, inl, inr, refl, sym, ap, subst, ◌∙◌, arith}
+use Rattle.std.proofs.Common.{◌≡◌, ◌≤◌, ◌<◌, ℕ, Bool, true, false, not, ◌||◌, ◌&&◌, List, inl, inr, refl, sym, ap, subst, ◌∙◌, arith}
 use Rattle.std.specs.Prelude.{◌≢◌, ◌==◌, length, map}
 use Rattle.std.specs.List.{list_all, list_any}
 use Rattle.std.proofs.Math.Path.{fun_ext}
 use Rattle.std.proofs.lemmas.Bool.{cases_lt}
-use Rattle.std.proofs.lemmas.List.Elements.{All-contains}
 use Rattle.std.proofs.lemmas.Option.{slice_get_within}
 use Rattle.meta_model.specs.Standing.{HasTree}
 use Rattle.meta_model.specs.declared.group.Group.{Group}
 use Rattle.meta_model.specs.declared.lv.Lv.{Lv}
-use Rattle.meta_model.specs.declared.segment.On.{On}
-use Rattle.meta_model.specs.declared.segment.On.TheVariants as on
 use Rattle.seg_place.specs.Marks.{is_marked}
-use Rattle.volume_rules.specs.Legs.{LegRun, LiesOn, runs_of}
+use Rattle.volume_rules.specs.Legs.{LiesOn}
 use Rattle.volume_rules.specs.Moving.{leads_to_pvmove}
-use Rattle.volume_rules.specs.Rules.{IsAccepted, LiesWithin}
-use Rattle.volume_rules.specs.declared.rule.Rule.TheVariants.{Volumes, Within}
+use Rattle.volume_rules.specs.Rules.{IsAccepted}
+use Rattle.volume_rules.specs.declared.rule.Rule.TheVariants.{Volumes}
+use Rattle.group_edits.proofs.EditedLegs.{hidden_below, legs_allowed}
 use Rattle.group_edits.proofs.Removed.{any_found, leg_lies, removed_whole, same_number, visible_stands}
 use Rattle.group_edits.proofs.Whole.{IsWhole}
 use Rattle.group_edits.specs.NextVersion.{with_lvs}
@@ -28,11 +26,8 @@ module _ (group : Group) (accepted : IsAccepted group) where
   -- what a leg lies on has a number
   named_below : (n m : ℕ) → LiesOn group n m → m < length group.lvs
   named_below n m lies =
-      let inside : LiesWithin group (on.Lv m) (lies.0.first + lies.0.count) =
-      subst (λ (o : On). LiesWithin group o (lies.0.first + lies.0.count)) lies.3
-      (All-contains (λ (run : LegRun). LiesWithin group run.on (run.first + run.count)) (runs_of group) lies.0 (accepted Within) lies.1)
-      in
-      slice_get_within group.lvs m (inside.1.0, inside.0) inside.1.1
+      let below = hidden_below group (legs_allowed group accepted) lies.0 m lies.1 lies.3 in
+      slice_get_within group.lvs m below.0 below.1
 
   -- past the volumes nothing goes
   none_past : (removed lv : ℕ) → removed < length group.lvs → length group.lvs ≤ lv → goes_with group removed 4 lv ≡ false

@@ -96,7 +96,7 @@ place_from i taken (x ∷ names) (suc k) name are at =
     ∙ place_from (i + 1) (x ∷ taken) names k name are.2 at
     ∙ ap (λ (n : ℕ). Some n) (let e : i + 1 + k ≡ i + suc k = omega arith in e)
 
-pub place_at : (names : List (List ℕ)) (k : ℕ) (name : List ℕ) → AreNames [] names → slice_get names k ≡ Some name
+place_at : (names : List (List ℕ)) (k : ℕ) (name : List ℕ) → AreNames [] names → slice_get names k ≡ Some name
     → position (pointwise nat_eq name) names ≡ Some k
 place_at names k name are at =
     position_from-zero (pointwise nat_eq name) names ∙ place_from 0 [] names k name are at

@@ -23,7 +23,7 @@ use Rattle.group_edits.specs.ReducedGroup.{has_leg_on_pv, is_on_pv, leg_is_on_pv
 abbrev pub IsElsewhere : ℕ → LegRun → Type 0
 IsElsewhere removed run = run.on ≢ on.Pv removed
 
-pub other_on : (removed : ℕ) (is : On) → is_on_pv removed is ≡ false → is ≢ on.Pv removed
+other_on : (removed : ℕ) (is : On) → is_on_pv removed is ≡ false → is ≢ on.Pv removed
 other_on removed is other same = true≢false (sym (own removed) ∙ ap (is_on_pv removed) (sym same) ∙ other)
   where
     own : (n : ℕ) → is_on_pv n (on.Pv n) ≡ true
@@ -59,7 +59,7 @@ by_tests true false removed n above below above' below' = let less = above refl 
 by_tests false true removed n above below above' below' = let most = below refl in let less = above' refl in omega (arith, less, most)
 by_tests false false removed n above below above' below' = refl
 
-pub number_suc : (removed n : ℕ) → number_without (suc removed) (suc n) ≡ suc (number_without removed n)
+number_suc : (removed n : ℕ) → number_without (suc removed) (suc n) ≡ suc (number_without removed n)
 number_suc removed n =
     by_tests (nat_lt (suc removed) (suc n)) (nat_lt removed n) removed n
     (λ test. let less : suc removed < suc n = ltb-true (suc removed) (suc n) test in omega (arith, less))
@@ -71,7 +71,7 @@ above_test true n below = omega arith
 above_test false n below = let most = below refl in omega (arith, most)
 
 -- behind the first one
-pub number_above : (n : ℕ) → number_without 0 (suc n) ≡ n
+number_above : (n : ℕ) → number_without 0 (suc n) ≡ n
 number_above n = above_test (nat_lt 0 (suc n)) n (ltb-false 0 (suc n))
 
 below_test : (b : Bool) (removed : ℕ) → (b ≡ true → suc removed < 0) → cond b (0 - 1) 0 ≡ 0
@@ -79,7 +79,7 @@ below_test true removed above = omega arith
 below_test false removed above = refl
 
 -- the first one stays
-pub number_below : (removed : ℕ) → number_without (suc removed) 0 ≡ 0
+number_below : (removed : ℕ) → number_without (suc removed) 0 ≡ 0
 number_below removed = below_test (nat_lt (suc removed) 0) removed (ltb-true (suc removed) 0)
 
 -- a row that isn't the one that is taken out is found by its new number

@@ -22,6 +22,7 @@ use Rattle.group_edits.proofs.Edits.{KeepsSegments, StaysAs}
 use Rattle.group_edits.proofs.GrownPrintable.{version_printable}
 use Rattle.group_edits.proofs.OneNamed.{IsVisibleAt, is_this, visible_at}
 use Rattle.group_edits.proofs.PrintedNames.{lv_names}
+use Rattle.group_edits.proofs.RenamedPlaces.{named_same}
 use Rattle.group_edits.proofs.RenamedPrintable.{names_after}
 use Rattle.group_edits.proofs.Renumbered.{row_is_same, same_on}
 use Rattle.group_edits.proofs.Whole.{IsWhole, seqno_below}
@@ -54,32 +55,27 @@ module _ (group : Group) (old new : List ℕ) (v : ℕ × Lv) (accepted : IsAcce
     by true is = absurd (true≢false (sym (seen row within is) ∙ hidden))
     by false is = refl
 
-  volume_same : (row : List ℕ × Lv) → (changed_if old (λ (r : List ℕ × Lv). (new, r.1)) row).1 ≡ row.1
-  volume_same row = by (bytes_eq row.0 old) where
-    by : (b : Bool) → (cond b (new, row.1) row).1 ≡ row.1
-    by true = refl
-    by false = refl
-
   stays : (row : List ℕ × Lv) → Contains group.lvs row
       → StaysAs same_on (KeepsSegments same_on) row (changed_if old (λ (r : List ℕ × Lv). (new, r.1)) row)
   stays row within = record {
-    status = ap (λ (lv : Lv). lv.status) (volume_same row);
-    hidden = λ hidden. (λ i. (name_kept row within hidden i, volume_same row i)) ∙ sym (row_is_same row);
-    segments = subst (λ (lv : Lv). KeepsSegments same_on row.1.segments lv.segments) (sym (volume_same row)) (same_keeps row.1.segments);
+    status = ap (λ (lv : Lv). lv.status) (named_same old new row);
+    hidden = λ hidden. (λ i. (name_kept row within hidden i, named_same old new row i)) ∙ sym (row_is_same row);
+    segments =
+        subst (λ (lv : Lv). KeepsSegments same_on row.1.segments lv.segments) (sym (named_same old new row)) (same_keeps row.1.segments);
   }
 
   renamed_accepted : group.seqno < 4294967295 → IsAccepted (renamed_volume old new group)
   renamed_accepted below =
-      mapped_accepted group (changed_if old (λ (r : List ℕ × Lv). (new, r.1))) (λ row. ap (λ (lv : Lv). lv.id) (volume_same row))
-      (λ row. let same = ap (λ (lv : Lv). length lv.segments) (volume_same row) in omega (arith, same))
+      mapped_accepted group (changed_if old (λ (r : List ℕ × Lv). (new, r.1))) (λ row. ap (λ (lv : Lv). lv.id) (named_same old new row))
+      (λ row. let same = ap (λ (lv : Lv). length lv.segments) (named_same old new row) in omega (arith, same))
       stays
-      (λ row within own. subst (KeepsOwn group.extent_size) (sym (volume_same row)) own) below accepted
+      (λ row within own. subst (KeepsOwn group.extent_size) (sym (named_same old new row)) own) below accepted
 
   each_row : (rows : List (List ℕ × Lv)) → Each (λ (lv : List ℕ × Lv). IsLv (renamed_volume old new group) lv.1) rows
       → Each (λ (lv : List ℕ × Lv). IsLv (renamed_volume old new group) lv.1)
       (map (changed_if old (λ (r : List ℕ × Lv). (new, r.1))) rows)
   each_row [] are = tt
-  each_row (row ∷ rows) are = (subst (IsLv (renamed_volume old new group)) (sym (volume_same row)) are.0, each_row rows are.1)
+  each_row (row ∷ rows) are = (subst (IsLv (renamed_volume old new group)) (sym (named_same old new row)) are.0, each_row rows are.1)
 
   renamed_printable : AreNames [] (lv_names (renamed_volume old new group)) → group.seqno < 4294967295
       → IsPrintable (renamed_volume old new group)

@@ -1,8 +1,8 @@
 -- What volumes keep whose legs lie on volumes by their new numbers, and what these legs cover.
-use Rattle.std.proofs.Common.{◌≡◌, ◌≤◌, ◌<◌, ℕ, ◌+◌, ◌*◌, ◌/◌, ◌^◌, Bool, List, [], ◌∷◌, ◌++◌, length, map, Some, None, refl, sym, ap}
-use Rattle.std.proofs.Common.{subst, ◌∙◌}
+use Rattle.std.proofs.Common.{◌≡◌, ◌≤◌, ◌<◌, ℕ, ◌+◌, ◌*◌, ◌/◌, ◌^◌, Bool, List, [], ◌∷◌, length, map, Some, None, refl, sym, ap}
+use Rattle.std.proofs.Common.{subst}
 use Rattle.std.specs.Prelude.{◌%◌, All}
-use Rattle.std.proofs.lemmas.List.{length-map, map-append}
+use Rattle.std.proofs.lemmas.List.{length-map}
 use Rattle.std.proofs.lemmas.List.Elements.{All-map, All-weaker}
 use Rattle.std.proofs.lemmas.List.Folds.{fold-map}
 use Rattle.meta_model.specs.Runs.{legs_of}
@@ -13,7 +13,6 @@ use Rattle.meta_model.specs.declared.segment.SegKind.{SegKind}
 use Rattle.meta_model.specs.declared.segment.SegKind.TheVariants.{Striped, Mirror}
 use Rattle.meta_model.specs.declared.segment.Segment.{Segment}
 use Rattle.volume_rules.specs.Extents.{extents_of, leg_share}
-use Rattle.volume_rules.specs.Legs.{LegRun, runs_of_legs, runs_of_segments}
 use Rattle.volume_rules.specs.Rules.{Follow, IsPowerOfTwo, IsSmall, IsWholeMirror, IsWholeStriped, KindIsSmall, LvIsSmall, MovedIsAllowed}
 use Rattle.volume_rules.specs.Rules.{SegmentIsSmall}
 use Rattle.group_edits.specs.Renumbered.{renumbered_kind, renumbered_leg, renumbered_legs, renumbered_lv, renumbered_row}
@@ -92,7 +91,7 @@ module _ (number : On → On) where
   small_kind (Mirror region (Some moved) legs) is = (is.0, is.1, small_legs legs is.2)
 
   -- what each segment keeps, each keeps whose legs are renumbered
-  pub each_segment : (P Q : Segment → Type 0) → ((segment : Segment) → P segment → Q (renumbered_segment number segment)) → (lv : Lv)
+  each_segment : (P Q : Segment → Type 0) → ((segment : Segment) → P segment → Q (renumbered_segment number segment)) → (lv : Lv)
       → All P lv.segments → All Q (renumbered_lv number lv).segments
   each_segment P Q step lv all =
       All-map Q (renumbered_segment number) lv.segments
@@ -143,32 +142,3 @@ module _ (number : On → On) where
       each_segment (λ (segment : Segment). MovedIsAllowed lv.status.pvmove segment.count segment.kind)
       (λ (segment : Segment). MovedIsAllowed lv.status.pvmove segment.count segment.kind)
       (λ segment is. moved_kind lv.status.pvmove segment.count segment.kind is) lv all
-
-  -- ---- what legs cover
-
-  module _ (new : ℕ → ℕ) where
-    -- a leg's run by the new numbers, also that of its own volume
-    abbrev pub run_by : LegRun → LegRun
-    run_by run = record run { lv = new run.lv; on = number run.on }
-
-    legs_by : (n s count j : ℕ) (legs : List Leg)
-        → map run_by (runs_of_legs n s count j legs) ≡ runs_of_legs (new n) s count j (renumbered_legs number legs)
-    legs_by n s count j [] = refl
-    legs_by n s count j (leg ∷ legs) =
-        ap (λ (runs : List LegRun). record { lv = new n; segment = s; leg = j; on = number leg.on; first = leg.first; count = count }
-        ∷ runs) (legs_by n s count (j + 1) legs)
-
-    pub segments_by : (n k : ℕ) (segments : List Segment)
-        → map run_by (runs_of_segments n k segments) ≡ runs_of_segments (new n) k (map (renumbered_segment number) segments)
-    segments_by n k [] = refl
-    segments_by n k (segment ∷ segments) =
-        map-append run_by (runs_of_legs n k (leg_share segment.count segment.kind) 0 (legs_of segment.kind))
-        (runs_of_segments n (k + 1) segments)
-        ∙ ap (λ (runs : List LegRun). runs ++ map run_by (runs_of_segments n (k + 1) segments))
-        (legs_by n k (leg_share segment.count segment.kind) 0 (legs_of segment.kind))
-        ∙ ap (λ (legs : List Leg). runs_of_legs (new n) k (leg_share segment.count segment.kind) 0 legs
-        ++ map run_by (runs_of_segments n (k + 1) segments)) (sym (legs_same segment.kind))
-        ∙ ap (λ (share : ℕ). runs_of_legs (new n) k share 0 (legs_of (renumbered_kind number segment.kind))
-        ++ map run_by (runs_of_segments n (k + 1) segments)) (sym (share_same segment.count segment.kind))
-        ∙ ap (λ (runs : List LegRun). runs_of_legs (new n) k (leg_share segment.count (renumbered_kind number segment.kind)) 0
-        (legs_of (renumbered_kind number segment.kind)) ++ runs) (segments_by n (k + 1) segments)

@@ -45,7 +45,7 @@ no_layer lv k segment j leg m apart is at same =
     ∙ none_there is_on_lv (legs_of segment.kind) j leg (none_there has_layer lv.segments k segment apart is) at)
 
 -- a segment with whole stripes or mirrors has one to eight legs
-pub few_legs : (size count : ℕ) (kind : SegKind) → IsWholeStriped size count kind → IsWholeMirror kind → HasFewLegs kind
+few_legs : (size count : ℕ) (kind : SegKind) → IsWholeStriped size count kind → IsWholeMirror kind → HasFewLegs kind
 few_legs size count (Striped stripe legs) striped mirror = (striped.0, striped.1)
 few_legs size count (Mirror region moved legs) striped mirror = (omega (arith, mirror.0), mirror.1)
 

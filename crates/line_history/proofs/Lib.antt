@@ -1,4 +1,5 @@
 mod KeptVolumes
+mod NamedChanges
 mod ReadBackups
 mod RenamedVolumes
 mod ShortenedVolumes

@@ -1,12 +1,10 @@
 -- The volumes of a group in which a visible volume is longer, and of one with one more.
-use Rattle.std.proofs.Common.{◌≡◌, ℕ, zero, suc, ◌+◌, ◌*◌, Bool, true, false, ◌||◌, ◌&&◌, cond, List, [], ◌∷◌, ◌++◌, length, map, Some}
+use Rattle.std.proofs.Common.{◌≡◌, ℕ, zero, suc, ◌+◌, ◌*◌, Bool, true, false, ◌||◌, cond, List, [], ◌∷◌, ◌++◌, length, map, Some}
 use Rattle.std.proofs.Common.{refl, sym, ap, ◌∙◌, arith}
 use Rattle.std.specs.Prelude.{nat_eq, slice_get}
 use Rattle.std.specs.Cmp.Lexicographic.{pointwise}
-use Rattle.std.specs.List.{AllByRecursion as Each, range_with_len}
+use Rattle.std.specs.List.{range_with_len}
 use Rattle.std.proofs.lemmas.Bool.{true≢false}
-use Rattle.std.proofs.lemmas.Option.{same_Some}
-use Rattle.std.specs.Str.{bytes_eq}
 use Rattle.lvm_name.specs.Names.{is_among}
 use Rattle.command_table.specs.declared.amount.Growth.{Growth}
 use Rattle.command_table.specs.declared.command.Command.TheVariants.{Lvcreate, Lvextend}
@@ -15,9 +13,7 @@ use Rattle.command_table.specs.declared.command.Path.{Path}
 use Rattle.meta_model.specs.Standing.{HasTree}
 use Rattle.meta_model.specs.Tables.{names_of}
 use Rattle.meta_model.specs.declared.lv.Lv.{Lv}
-use Rattle.meta_print.proofs.GroupFrom.{printable}
 use Rattle.meta_print.proofs.NamesOfText.{pointwise_same}
-use Rattle.meta_print.proofs.Printable.{AreNames}
 use Rattle.volume_rules.specs.Extents.{extents_of}
 use Rattle.volume_rules.specs.Rules.{IsAccepted}
 use Rattle.extent_alloc.specs.declared.part.Part.{Part}
@@ -27,16 +23,13 @@ use Rattle.group_edits.proofs.LongerPlaces.{primary_longer, primary_more}
 use Rattle.group_edits.specs.GivenSegments.{extents_in, segments_of}
 use Rattle.group_edits.specs.LongerVolume.{last_kind, longer, longer_row, longer_volume}
 use Rattle.group_edits.specs.NewVolume.{with_volume}
-use Rattle.group_edits.specs.NextVersion.{changed_if}
-use Rattle.group_edits.specs.Visible.{visible_from, visible_named}
+use Rattle.group_edits.specs.Visible.{visible_named}
 use Rattle.image_scans.specs.Versions.{Version}
 use Rattle.volume_history.specs.Changing.{ChangesVolumes, changed_named, grown_by, has_named}
 use Rattle.volume_history.specs.Placed.{Place, PlacedVolume, place_of, placed_from, places_of, volumes_of}
-use Rattle.line_history.proofs.KeptVolumes.{KeepsDisks, StandFrom, all_stand, first_stands, places_kept, rest_stand, volumes_from}
-use Rattle.line_history.proofs.RenamedVolumes.{named_in, others_named}
-
-abbrev Row : Type 0
-Row = List ℕ × Lv
+use Rattle.line_history.proofs.KeptVolumes.{KeepsDisks, all_stand, places_kept, volumes_from}
+use Rattle.line_history.proofs.NamedChanges.{Row, volumes_changed}
+use Rattle.line_history.proofs.RenamedVolumes.{named_in}
 
 -- the images of a range in two parts
 map_parts : (f : ℕ → Place) (from next all first second : ℕ) → all ≡ first + second → next ≡ from + first
@@ -53,45 +46,11 @@ module _ (name : List ℕ) (given : List Part) (before : Version) (disk_of : Lis
   abbrev after : Version
   after = record { group = longer_volume name given before.group; disk_of = disk_of }
 
-  abbrev grown : Row → Row
-  grown row = changed_if name (longer_row given) row
-
-  -- the volume of the row
-  abbrev placed : ℕ → Row → PlacedVolume
-  placed number row = record { id = row.1.id; name = row.0; places = places_of before number row.1 }
-
   -- the places behind its own, where it is longer
   abbrev pub places_behind : ℕ → Lv → List Place
   places_behind number lv =
       map (place_of after number) (range_with_len (extents_of lv * before.group.extent_size)
       (extents_in (segments_of (last_kind lv.segments) (extents_of lv) given) * before.group.extent_size))
-
-  -- a row, where it is known whether it has the name
-  row_after : (number : ℕ) (row : Row) (rows : List Row) (b : Bool) → bytes_eq row.0 name ≡ b
-      → placed_from after number (map grown (row ∷ rows))
-      ≡ cond row.1.status.visible (record {
-        id = row.1.id;
-        name = row.0;
-        places = places_of after number (cond b (longer given row.1) row.1);
-      } ∷ placed_from after (number + 1) (map grown rows))
-      (placed_from after (number + 1) (map grown rows))
-  row_after number row rows b is =
-      ap (λ (same : Bool). listed (cond same (longer_row given row) row)) is ∙ by b
-    where
-      later : List PlacedVolume
-      later = placed_from after (number + 1) (map grown rows)
-
-      listed : Row → List PlacedVolume
-      listed r = cond r.1.status.visible (record { id = r.1.id; name = r.0; places = places_of after number r.1 } ∷ later) later
-
-      by : (b : Bool) → listed (cond b (longer_row given row) row)
-          ≡ cond row.1.status.visible (record {
-            id = row.1.id;
-            name = row.0;
-            places = places_of after number (cond b (longer given row.1) row.1);
-          } ∷ later) later
-      by true = refl
-      by false = refl
 
   module _ (accepted : IsAccepted before.group) (disks : KeepsDisks before after) where
     -- a row has the same places for its own sectors
@@ -99,17 +58,6 @@ module _ (name : List ℕ) (given : List Part) (before : Version) (disk_of : Lis
         → places_of after number row.1 ≡ places_of before number row.1
     own_kept number row there =
         places_kept before after accepted disks refl number number row row.1 there refl (primary_longer name given before.group number)
-
-    -- so has one of another name
-    row_kept : (number : ℕ) (row : Row) (rows : List Row) → StandFrom before.group number (row ∷ rows) → bytes_eq row.0 name ≡ false
-        → placed_from after number (map grown (row ∷ rows))
-        ≡ cond row.1.status.visible (placed number row ∷ placed_from after (number + 1) (map grown rows))
-        (placed_from after (number + 1) (map grown rows))
-    row_kept number row rows stand other =
-        let later : List PlacedVolume = placed_from after (number + 1) (map grown rows) in
-        row_after number row rows false other
-        ∙ ap (λ (l : List Place). cond row.1.status.visible (record { id = row.1.id; name = row.0; places = l } ∷ later) later)
-        (own_kept number row (first_stands before.group number row rows stand))
 
     -- the longer volume has more places behind its own
     places_grown : (number : ℕ) (row : Row) → slice_get before.group.lvs number ≡ Some row
@@ -126,83 +74,20 @@ module _ (name : List ℕ) (given : List Part) (before : Version) (disk_of : Lis
         (omega arith)
         ∙ ap (λ (l : List Place). l ++ places_behind number row.1) (own_kept number row there)
 
-    -- rows of other names keep all
-    others_kept : (number : ℕ) (rows : List Row) → StandFrom before.group number rows
-        → Each (λ (row : Row). bytes_eq row.0 name ≡ false) rows
-        → placed_from after number (map grown rows) ≡ placed_from before number rows
-    others_kept number [] stand other = refl
-    others_kept number (row ∷ rows) stand other =
-        row_kept number row rows stand other.0
-        ∙ ap (λ (l : List PlacedVolume). cond row.1.status.visible (placed number row ∷ l) l)
-        (others_kept (number + 1) rows (rest_stand before.group number row rows stand) other.1)
-
-    -- the visible one is longer
-    longer_from : (number : ℕ) (rows : List Row) (taken : List (List ℕ)) (v : ℕ × Lv) → StandFrom before.group number rows
-        → visible_from number name rows ≡ Some v → AreNames taken (map (λ (row : Row). row.0) rows)
-        → placed_from after number (map grown rows) ≡ changed_named name (grown_by (places_behind v.0 v.1)) (placed_from before number rows)
-    longer_from number [] taken v stand is are = absurd cc
-    longer_from number (row ∷ rows) taken v stand is are =
-        by row.1.status.visible (bytes_eq row.0 name) refl refl is
-        (λ made. longer_from (number + 1) rows (row.0 ∷ taken) v (rest_stand before.group number row rows stand) made are.2)
-      where
-        grow : PlacedVolume → PlacedVolume
-        grow = grown_by (places_behind v.0 v.1)
-
-        later : List PlacedVolume
-        later = placed_from before (number + 1) rows
-
-        later_after : List PlacedVolume
-        later_after = placed_from after (number + 1) (map grown rows)
-
-        changed : List PlacedVolume
-        changed = changed_named name grow later
-
-        -- the first volume of the placed ones, where it has this name or another one
-        first_named : (b : Bool) → bytes_eq row.0 name ≡ b
-            → changed_named name grow (placed number row ∷ later) ≡ cond b (grow (placed number row) ∷ later) (placed number row ∷ changed)
-        first_named b same =
-            ap (λ (c : Bool). cond c (grow (placed number row) ∷ later) (placed number row ∷ changed))
-            (same)
-
-        by : (visible same : Bool) → row.1.status.visible ≡ visible → bytes_eq row.0 name ≡ same
-            → cond (visible && same) (Some (number, row.1)) (visible_from (number + 1) name rows) ≡ Some v
-            → (visible_from (number + 1) name rows ≡ Some v → later_after ≡ changed)
-            → placed_from after number (map grown (row ∷ rows)) ≡ changed_named name grow (cond visible (placed number row ∷ later) later)
-        by true true shown same made rest =
-            let volume = same_Some (number, row.1) v made in
-            row_after number row rows true same
-            ∙ ap (λ (b : Bool). cond b (record { id = row.1.id; name = row.0; places = places_of after number (longer given row.1) }
-            ∷ later_after) later_after) shown
-            ∙ ap (λ (l : List Place). record { id = row.1.id; name = row.0; places = l } ∷ later_after)
-            (places_grown number row (first_stands before.group number row rows stand)
-            ∙ ap (λ (x : ℕ × Lv). places_of before number row.1 ++ places_behind x.0 x.1) volume)
-            ∙ ap (λ (l : List PlacedVolume). grow (placed number row) ∷ l)
-            (others_kept (number + 1) rows (rest_stand before.group number row rows stand)
-            (others_named name rows (row.0 ∷ taken) are.2
-            (ap (λ (b : Bool). b || is_among taken name)
-            (ap (pointwise nat_eq name) (same_bytes_tells row.0 name same) ∙ pointwise_same name))))
-            ∙ sym (first_named true same)
-        by true false shown same made rest =
-            row_kept number row rows stand same
-            ∙ ap (λ (b : Bool). cond b (placed number row ∷ later_after) later_after) shown
-            ∙ ap (λ (l : List PlacedVolume). placed number row ∷ l) (rest made)
-            ∙ sym (first_named false same)
-        by false same hidden is_same made rest =
-            row_after number row rows same is_same
-            ∙ ap (λ (b : Bool). cond b (record {
-              id = row.1.id;
-              name = row.0;
-              places = places_of after number (cond same (longer given row.1) row.1);
-            } ∷ later_after) later_after) hidden
-            ∙ rest made
-
   -- so it is in the group
   pub volumes_longer : IsAccepted before.group → KeepsDisks before after → HasTree before.group → (v : ℕ × Lv)
       → visible_named before.group name ≡ Some v
       → volumes_of (Some after) ≡ changed_named name (grown_by (places_behind v.0 v.1)) (volumes_of (Some before))
-  unfolding visible_named volumes_of
   volumes_longer accepted disks tree v found =
-      longer_from accepted disks 0 before.group.lvs [] v (all_stand before.group) found (printable before.group tree).lv_names
+      volumes_changed name (longer_row given) (grown_by (places_behind v.0 v.1)) before after v
+      (record {
+        rows = refl;
+        seen = λ row. refl;
+        kept = λ number row there other. own_kept accepted disks number row there;
+        made = λ number row there same is.
+            ap (λ (l : List Place). record { id = row.1.id; name = row.0; places = l }) (places_grown accepted disks number row there
+            ∙ ap (λ (x : ℕ × Lv). places_of before number row.1 ++ places_behind x.0 x.1) is);
+      }) tree found
 
 -- ---- one more volume
 
