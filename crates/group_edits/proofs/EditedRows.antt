@@ -1,5 +1,6 @@
 -- An edit in which each segment stays whole or as a front: its legs, and what the other rules ask.
-use Rattle.std.proofs.Common.{◌≡◌, ◌≤◌, ◌<◌, ℕ, ◌/◌, List, [], ◌∷◌, ◌++◌, length, get_or, map, Some, inl, refl, sym, ap, subst, ◌∙◌, arith}
+use Rattle.std.proofs.Common.{◌≡◌, ◌≤◌, ◌<◌, ℕ, ◌^◌, ◌*◌, ◌/◌, List, [], ◌∷◌, ◌++◌, length, get_or, map, Some, inl, refl, sym, ap, subst}
+use Rattle.std.proofs.Common.{◌∙◌, arith}
 use Rattle.std.specs.Prelude.{slice_get, sum_by, All, AllPairs, Contains}
 use Rattle.std.proofs.lemmas.List.{length-map}
 use Rattle.std.proofs.lemmas.List.Elements.{All-contains_itself, All-map, All-nil}
@@ -16,19 +17,19 @@ use Rattle.meta_model.specs.declared.segment.SegKind.{SegKind}
 use Rattle.meta_model.specs.declared.segment.SegKind.TheVariants.{Striped, Mirror}
 use Rattle.meta_model.specs.declared.segment.Segment.{Segment}
 use Rattle.volume_rules.proofs.LegRuns.{IsRunOf, run_is, run_of}
-use Rattle.volume_rules.specs.Extents.{leg_share}
+use Rattle.vg_check.specs.OwnNumbers.{OwnNumbersAreAllowed}
+use Rattle.volume_rules.specs.Extents.{extents_of, leg_share}
 use Rattle.volume_rules.specs.Legs.{LegRun, runs_of}
-use Rattle.volume_rules.specs.Rules.{IsAccepted, Keeps, LvIsSmall, NumbersAreAllowed, ids_of}
+use Rattle.volume_rules.specs.Rules.{Follow, IsAccepted, IsSmall, Keeps, LvIsSmall, PvIsSmall, ids_of}
 use Rattle.volume_rules.specs.declared.rule.Rule.TheVariants.{Numbers, Ids, Volumes, Segments, Extents, Follows, Stripes, Mirrors, Within}
 use Rattle.volume_rules.specs.declared.rule.Rule.TheVariants.{Apart, Depth, Moved, Pvmove, Locked}
 use Rattle.group_edits.proofs.EditedLegs.{LegsAreAllowed, legs_allowed, legs_kept}
 use Rattle.group_edits.proofs.Edits.{Any, IsEdit, IsFront, IsNewLeg, IsThere, KeepsSegments, KeepsVolumes, Row, StaysAs, WasLeg}
 use Rattle.group_edits.proofs.Edits.{WasRow, any_stays}
-use Rattle.group_edits.proofs.Renumbered.{AreMirrors, AreMoved, AreStriped, FollowTo, are_mirrors, are_moved, are_striped, follows}
-use Rattle.group_edits.proofs.Renumbered.{kind_is_same, legs_same, row_is_same, same_on, segment_is_same, segments_count, share_same}
-use Rattle.group_edits.proofs.Renumbered.{small_lv, unchanged}
+use Rattle.group_edits.proofs.Renumbered.{KeepsSegment, extents_same, follow_same, kind_is_same, legs_same, row_is_same, same_on}
+use Rattle.group_edits.proofs.Renumbered.{segment_is_same, segment_keeps, segments_count, share_same, unchanged}
 use Rattle.group_edits.proofs.Selections.{contains_at, map_at, map_from, map_part, sum_less}
-use Rattle.group_edits.specs.NextVersion.{with_lvs}
+use Rattle.group_edits.specs.NextVersion.{next_version, with_lvs}
 use Rattle.group_edits.specs.Renumbered.{renumbered_kind, renumbered_leg, renumbered_lv, renumbered_row, renumbered_segment}
 
 -- ---- segments
@@ -188,35 +189,43 @@ module _ (group other : Group) (f : Row → Row) (rows : other.lvs ≡ map f gro
 
 -- what they ask of a volume
 pub record KeepsOwn (extent_size : ℕ) (lv : Lv) : Type 0 where
-  pub small : LvIsSmall lv
+  pub created : IsSmall lv.created
   pub some : 1 ≤ length lv.segments
-  pub follow : FollowTo extent_size lv
-  pub striped : AreStriped extent_size lv
-  pub mirrors : AreMirrors lv
-  pub moved : AreMoved lv
+  pub follow : Follow 0 lv.segments
+  pub ends : extents_of lv * extent_size < 2 ^ 48
+  pub segments : All (KeepsSegment extent_size lv.status.pvmove) lv.segments
 
 abbrev pub AllKeepOwn : ℕ → List Row → Type 0
 AllKeepOwn extent_size rows = All (λ (row : Row). KeepsOwn extent_size row.1) rows
 
 pub keep_own : (group : Group) → IsAccepted group → AllKeepOwn group.extent_size group.lvs
 keep_own group accepted k d within = record {
-  small = (accepted Numbers).lvs k d within;
+  created = ((accepted Numbers).lvs k d within).0;
   some = (accepted Segments).some k d within;
-  follow = (accepted Follows) k d within;
-  striped = (accepted Stripes) k d within;
-  mirrors = (accepted Mirrors) k d within;
-  moved = (accepted Moved) k d within;
+  follow = ((accepted Follows) k d within).0;
+  ends = ((accepted Follows) k d within).1;
+  segments =
+      λ s e inside. record {
+        small = ((accepted Numbers).lvs k d within).1 s e inside;
+        striped = (accepted Stripes) k d within s e inside;
+        mirror = (accepted Mirrors) k d within s e inside;
+        moved = (accepted Moved) k d within s e inside;
+      };
 }
+
+own_small : (extent_size : ℕ) (lv : Lv) → KeepsOwn extent_size lv → LvIsSmall lv
+own_small extent_size lv own = (own.created, λ s e inside. (own.segments s e inside).small)
 
 renumbered_own : (number : On → On) (extent_size : ℕ) (lv : Lv) → KeepsOwn extent_size lv
     → KeepsOwn extent_size (renumbered_lv number lv)
 renumbered_own number extent_size lv own = record {
-  small = small_lv number lv own.small;
+  created = own.created;
   some = (let some = own.some in omega (arith, some, segments_count number lv));
-  follow = follows number extent_size lv own.follow;
-  striped = are_striped number extent_size lv own.striped;
-  mirrors = are_mirrors number lv own.mirrors;
-  moved = are_moved number lv own.moved;
+  follow = follow_same number 0 lv.segments own.follow;
+  ends = subst (λ (n : ℕ). n * extent_size < 2 ^ 48) (sym (extents_same number lv)) own.ends;
+  segments =
+      All-map (KeepsSegment extent_size lv.status.pvmove) (renumbered_segment number) lv.segments
+      (λ s e inside. segment_keeps number extent_size lv.status.pvmove (get_or lv.segments s e) (own.segments s e inside));
 }
 
 pub all_renumbered : (number : On → On) (extent_size : ℕ) (rows : List Row) → AllKeepOwn extent_size rows
@@ -231,37 +240,45 @@ segments_renumbered number rows =
     sum_less (renumbered_row number) (λ (row : Row). length row.1.segments)
     (λ row. (let e = segments_count number row.1 in omega (arith, e))) rows
 
-pub all_rules : (other : Group) → NumbersAreAllowed other → Keeps other Ids → Keeps other Volumes
-    → sum_by (λ (row : Row). length row.1.segments) other.lvs ≤ 16384 → Keeps other Extents → AllKeepOwn other.extent_size other.lvs
-    → LegsAreAllowed other → IsAccepted other
-all_rules other numbers ids volumes few extents own legs Numbers = numbers
-all_rules other numbers ids volumes few extents own legs Ids = ids
-all_rules other numbers ids volumes few extents own legs Volumes = volumes
-all_rules other numbers ids volumes few extents own legs Segments = record { few = few; some = λ k d within. (own k d within).some }
-all_rules other numbers ids volumes few extents own legs Extents = extents
-all_rules other numbers ids volumes few extents own legs Follows = λ k d within. (own k d within).follow
-all_rules other numbers ids volumes few extents own legs Stripes = λ k d within. (own k d within).striped
-all_rules other numbers ids volumes few extents own legs Mirrors = λ k d within. (own k d within).mirrors
-all_rules other numbers ids volumes few extents own legs Within = legs.within
-all_rules other numbers ids volumes few extents own legs Apart = legs.apart
-all_rules other numbers ids volumes few extents own legs Depth = legs.depth
-all_rules other numbers ids volumes few extents own legs Moved = λ k d within. (own k d within).moved
-all_rules other numbers ids volumes few extents own legs Pvmove = legs.pvmove
-all_rules other numbers ids volumes few extents own legs Locked = legs.locked
+pub all_rules : (other : Group) → OwnNumbersAreAllowed other → All (λ (pv : List ℕ × Pv). PvIsSmall pv.1) other.pvs → Keeps other Ids
+    → Keeps other Volumes → sum_by (λ (row : Row). length row.1.segments) other.lvs ≤ 16384 → Keeps other Extents
+    → AllKeepOwn other.extent_size other.lvs → LegsAreAllowed other → IsAccepted other
+all_rules other numbers pvs ids volumes few extents own legs = keeps where
+  keeps : IsAccepted other
+  keeps Numbers = record {
+    seqno = numbers.0;
+    extent_size = numbers.1;
+    limits = numbers.2;
+    pvs = pvs;
+    lvs = λ k d within. own_small other.extent_size (get_or other.lvs k d).1 (own k d within);
+  }
+  keeps Ids = ids
+  keeps Volumes = volumes
+  keeps Segments = record { few = few; some = λ k d within. (own k d within).some }
+  keeps Extents = extents
+  keeps Follows = λ k d within. ((own k d within).follow, (own k d within).ends)
+  keeps Stripes = λ k d within s e inside. ((own k d within).segments s e inside).striped
+  keeps Mirrors = λ k d within s e inside. ((own k d within).segments s e inside).mirror
+  keeps Within = legs.within
+  keeps Apart = legs.apart
+  keeps Depth = legs.depth
+  keeps Moved = λ k d within s e inside. ((own k d within).segments s e inside).moved
+  keeps Pvmove = legs.pvmove
+  keeps Locked = legs.locked
+
+pub next_numbers : (group : Group) → IsAccepted group → group.seqno < 4294967295 → OwnNumbersAreAllowed (next_version group)
+next_numbers group accepted below = (
+  (omega arith, omega (arith, below)),
+  (accepted Numbers).extent_size,
+  (accepted Numbers).limits,
+)
 
 -- the next version with these logical volumes keeps all rules
 pub next_accepted : (group : Group) (lvs : List Row) → IsAccepted group → group.seqno < 4294967295 → Keeps (with_lvs group lvs) Ids
     → Keeps (with_lvs group lvs) Volumes → sum_by (λ (row : Row). length row.1.segments) lvs ≤ 16384
     → AllKeepOwn group.extent_size lvs → LegsAreAllowed (with_lvs group lvs) → IsAccepted (with_lvs group lvs)
 next_accepted group lvs accepted below ids volumes few own legs =
-    all_rules (with_lvs group lvs)
-    (record {
-      seqno = (let least = (accepted Numbers).seqno.0 in omega (arith, least), omega (arith, below));
-      extent_size = (accepted Numbers).extent_size;
-      limits = (accepted Numbers).limits;
-      pvs = (accepted Numbers).pvs;
-      lvs = λ k d within. (own k d within).small;
-    })
+    all_rules (with_lvs group lvs) (next_numbers group accepted below) (accepted Numbers).pvs
     ids volumes few (accepted Extents) own legs
 
 -- with no more of them than before

@@ -16,6 +16,7 @@ use Rattle.extent_alloc.specs.declared.part.PvRun.{PvRun}
 use Rattle.volume_rules.specs.Rules.{Follow, IsPowerOfTwo, IsSmall, IsWholeMirror, IsWholeStriped, KindIsSmall, MovedIsAllowed, PvIsSmall}
 use Rattle.volume_rules.specs.Rules.{SegmentIsSmall}
 use Rattle.group_edits.proofs.GivenRuns.{each_free, free_within, legs_by, legs_count}
+use Rattle.group_edits.proofs.Renumbered.{KeepsSegment}
 use Rattle.group_edits.proofs.Selections.{contains_at}
 use Rattle.group_edits.specs.GivenSegments.{IsFreeRun, MayBeLaid, MayHaveLegs, extents_by, extents_in, kind_on, legs_in, segment_of}
 use Rattle.group_edits.specs.GivenSegments.{segments_of}
@@ -106,7 +107,7 @@ module _ (kind : SegKind) where
 -- ---- all parts
 
 module _ (kind : SegKind) where
-  pub parts_moved : (pvmove : Bool) (start : ℕ) (parts : List Part)
+  parts_moved : (pvmove : Bool) (start : ℕ) (parts : List Part)
       → All (λ segment. MovedIsAllowed pvmove segment.count segment.kind) (segments_of kind start parts)
   parts_moved pvmove start [] = All-nil (λ (segment : Segment). MovedIsAllowed pvmove segment.count segment.kind)
   parts_moved pvmove start (part ∷ parts) =
@@ -202,3 +203,13 @@ module _ (kind : SegKind) (group : Group) (count : ℕ) (parts : List Part) (kin
                 (All-head FirstsAreSmall part parts firsts),
           )
           (by (start + n) parts (All-tail IsGood part parts good) (All-tail FirstsAreSmall part parts firsts) (omega (arith, whole, ends)))
+
+  -- all that the rules ask of segments
+  pub parts_keep : (pvmove : Bool) → PvsAreSmall → (start : ℕ) → start + extents_in (segments_of kind start parts) < 2 ^ 48
+      → All (KeepsSegment group.extent_size pvmove) (segments_of kind start parts)
+  parts_keep pvmove pvs start ends k d within = record {
+    small = parts_small pvs start ends k d within;
+    striped = parts_striped start k d within;
+    mirror = parts_mirror start k d within;
+    moved = parts_moved kind pvmove start parts k d within;
+  }

@@ -1,6 +1,6 @@
 -- A leg's run by its place: the numbers of its volume, of its segment there and of the leg there.
-use Rattle.std.proofs.Common.{◌≡◌, ◌≢◌, ◌≤◌, ℕ, suc, ◌+◌, List, [], ◌∷◌, ◌++◌, refl, sym, ap, ◌∙◌, arith}
-use Rattle.std.specs.Prelude.{slice_get, All, AllPairs, Contains}
+use Rattle.std.proofs.Common.{◌≡◌, ◌≢◌, ◌≤◌, ℕ, ◌+◌, List, [], ◌∷◌, ◌++◌, get_or, refl, sym, ap, ◌∙◌, arith}
+use Rattle.std.specs.Prelude.{slice_get, AllPairs, Contains}
 use Rattle.std.specs.List.{AllByRecursion as Each}
 use Rattle.std.proofs.lemmas.List.Elements.{All-from_recursion}
 use Rattle.std.proofs.lemmas.List.Kept.{AllPairs-cons}
@@ -13,6 +13,7 @@ use Rattle.meta_model.specs.declared.segment.Segment.{Segment}
 use Rattle.volume_rules.proofs.LegRuns.{IsRunOf, join_all, run_is}
 use Rattle.volume_rules.specs.Extents.{leg_share}
 use Rattle.volume_rules.specs.Legs.{LegRun, runs_of, runs_of_legs, runs_of_segments, runs_of_volumes}
+use Rattle.group_edits.proofs.Selections.{pairs_both}
 
 -- ---- no two legs have the same place
 
@@ -60,17 +61,9 @@ Differ a b = a ≢ b
 
 module _ (P Q : LegRun → Type 0) (apart : (a b : LegRun) → P a → Q b → Differ a b) where
   differ_both : (xs ys : List LegRun) → AllPairs Differ xs → Each P xs → AllPairs Differ ys → Each Q ys → AllPairs Differ (xs ++ ys)
-  differ_both [] ys first front second back = second
-  differ_both (x ∷ xs) ys first front second back =
-      AllPairs-cons Differ x (xs ++ ys)
-      (All-from_recursion (Differ x) (xs ++ ys)
-      (join_all (Differ x) xs ys (own xs (λ k d within. first 0 (suc k) d (omega arith) (omega arith)))
-      (each_weaker Q (Differ x) (λ y is. apart x y front.0 is) ys back)))
-      (differ_both xs ys (λ i j d before within. first (suc i) (suc j) d (omega arith) (omega arith)) front.1 second back)
-    where
-      own : (zs : List LegRun) → All (Differ x) zs → Each (Differ x) zs
-      own [] all = tt
-      own (z ∷ zs) all = (all 0 z (omega arith), own zs (λ k d within. all (suc k) d (omega arith)))
+  differ_both xs ys first front second back =
+      pairs_both Differ xs ys first second (λ i d inside j e within.
+      apart (get_or xs i d) (get_or ys j e) (All-from_recursion P xs front i d inside) (All-from_recursion Q ys back j e within))
 
 legs_differ : (lv segment count n : ℕ) (legs : List Leg) → AllPairs Differ (runs_of_legs lv segment count n legs)
 legs_differ lv segment count n [] = λ i j d before within. absurd (omega (arith, before, within))

@@ -14,15 +14,14 @@ use Rattle.meta_model.specs.declared.segment.Segment.{Segment}
 use Rattle.extent_alloc.specs.declared.part.Part.{Part}
 use Rattle.volume_rules.specs.Extents.{extents_of, leg_share}
 use Rattle.volume_rules.specs.Legs.{LegRun, runs_of, runs_of_legs, runs_of_segments, runs_of_volumes}
-use Rattle.volume_rules.specs.Rules.{Follow, IsAccepted, IsWholeMirror, IsWholeStriped, Keeps, KindIsSmall, LvIsSmall, MovedIsAllowed}
-use Rattle.volume_rules.specs.Rules.{SegmentIsSmall}
+use Rattle.volume_rules.specs.Rules.{Follow, IsAccepted, IsWholeMirror, IsWholeStriped, Keeps, KindIsSmall, LvIsSmall, SegmentIsSmall}
 use Rattle.volume_rules.specs.declared.rule.Rule.TheVariants.{Numbers, Ids, Segments, Follows, Stripes, Mirrors}
 use Rattle.group_edits.proofs.EditedLegs.{legs_allowed}
 use Rattle.group_edits.proofs.EditedRows.{KeepsOwn, fewer_volumes, keep_own, next_accepted}
-use Rattle.group_edits.proofs.GivenRules.{extents_both, follow_both, legs_some, parts_follow, parts_mirror, parts_moved, parts_small}
-use Rattle.group_edits.proofs.GivenRules.{parts_striped, segments_count}
+use Rattle.group_edits.proofs.GivenRules.{extents_both, follow_both, legs_some, parts_follow, parts_keep, segments_count}
 use Rattle.group_edits.proofs.GivenRuns.{runs_apart, runs_new}
 use Rattle.group_edits.proofs.GrownRules.{IsGrown, Stays, grown_legs, stays_same}
+use Rattle.group_edits.proofs.Renumbered.{KeepsSegment}
 use Rattle.group_edits.proofs.Split.{at_replaced, each_between, each_replaced, length_replaced, map_replaced, sum_replaced}
 use Rattle.group_edits.specs.GivenSegments.{MayHaveLegs, extents_in, segments_in, segments_of}
 use Rattle.group_edits.specs.LongerVolume.{MayGrow, last_kind, longer, longer_row}
@@ -146,29 +145,18 @@ module _ (group : Group) (before after : List Row) (row : Row) (rows : group.lvs
           let own : KeepsOwn group.extent_size row.1 =
           its (λ (r : Row). KeepsOwn group.extent_size r.1) (keep_own group accepted) in
           record {
-            small = (
-              own.small.0,
-              All-append SegmentIsSmall row.1.segments added own.small.1
-                  (parts_small kind group count given legs_may may.laid (accepted Numbers).pvs (extents_of row.1) ends),
-            );
+            created = own.created;
             some =
                 (let more : length (row.1.segments ++ added) ≡ length row.1.segments + length added =
                 length-append row.1.segments added in let some = own.some in omega (arith, more, some));
-            follow = (
-              follow_both 0 row.1.segments added own.follow.0
-                  (subst (λ (n : ℕ). Follow n added) (let e : extents_of row.1 ≡ 0 + extents_of row.1 = omega arith in e)
-                  (parts_follow kind group count given legs_may may.laid (extents_of row.1))),
-              may.sectors,
-            );
-            striped =
-                All-append (λ (s : Segment). IsWholeStriped group.extent_size s.count s.kind) row.1.segments added own.striped
-                (parts_striped kind group count given legs_may may.laid (extents_of row.1));
-            mirrors =
-                All-append (λ (s : Segment). IsWholeMirror s.kind) row.1.segments added own.mirrors
-                (parts_mirror kind group count given legs_may may.laid (extents_of row.1));
-            moved =
-                All-append (λ (s : Segment). MovedIsAllowed row.1.status.pvmove s.count s.kind) row.1.segments added own.moved
-                (parts_moved kind row.1.status.pvmove (extents_of row.1) given);
+            follow =
+                follow_both 0 row.1.segments added own.follow
+                (subst (λ (n : ℕ). Follow n added) (let e : extents_of row.1 ≡ 0 + extents_of row.1 = omega arith in e)
+                (parts_follow kind group count given legs_may may.laid (extents_of row.1)));
+            ends = may.sectors;
+            segments =
+                All-append (KeepsSegment group.extent_size row.1.status.pvmove) row.1.segments added own.segments
+                (parts_keep kind group count given legs_may may.laid row.1.status.pvmove (accepted Numbers).pvs (extents_of row.1) ends);
           }
 
       ids_kept : Keeps next Ids

@@ -17,7 +17,7 @@ use Rattle.volume_rules.specs.declared.rule.Rule.TheVariants.{Numbers, Ids, Volu
 use Rattle.group_edits.proofs.EditedLegs.{legs_allowed}
 use Rattle.group_edits.proofs.EditedRows.{KeepsOwn, keep_own, next_accepted}
 use Rattle.group_edits.proofs.Edits.{IsPlain}
-use Rattle.group_edits.proofs.GivenRules.{legs_some, parts_follow, parts_mirror, parts_moved, parts_small, parts_striped, segments_count}
+use Rattle.group_edits.proofs.GivenRules.{legs_some, parts_follow, parts_keep, segments_count}
 use Rattle.group_edits.proofs.GivenRuns.{runs_apart, runs_new}
 use Rattle.group_edits.proofs.GrownRules.{IsGrown, grown_legs, stays_same}
 use Rattle.group_edits.proofs.Inserted.{all_pushed, slice_get-pushed}
@@ -80,12 +80,11 @@ module _ (group : Group) (name id : List ℕ) (kind : SegKind) (given : List Par
 
   new_own : KeepsOwn group.extent_size row.1
   new_own = record {
-    small = (may.created, parts_small kind group may.count given may.legs may.laid (accepted Numbers).pvs 0 ends);
+    created = may.created;
     some = (let some = may.some in omega (arith, some, made));
-    follow = (parts_follow kind group may.count given may.legs may.laid 0, may.sectors);
-    striped = parts_striped kind group may.count given may.legs may.laid 0;
-    mirrors = parts_mirror kind group may.count given may.legs may.laid 0;
-    moved = parts_moved kind false 0 given;
+    follow = parts_follow kind group may.count given may.legs may.laid 0;
+    ends = may.sectors;
+    segments = parts_keep kind group may.count given may.legs may.laid false (accepted Numbers).pvs 0 ends;
   }
 
   segments_few : sum_by (λ (r : Row). length r.1.segments) lvs ≤ 16384

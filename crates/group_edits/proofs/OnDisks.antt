@@ -1,7 +1,7 @@
 -- What may be laid may grow a volume, or be a new one, where the physical volumes have at most 2^40 sectors each.
-use Rattle.std.proofs.Common.{◌≡◌, ◌≤◌, ◌<◌, ℕ, ◌+◌, ◌*◌, ◌^◌, Bool, false, List, [], ◌∷◌, ◌++◌, length, Some, refl, sym, ap, subst, ◌∙◌}
-use Rattle.std.proofs.Common.{append-nil, arith}
-use Rattle.std.specs.Prelude.{is_some, slice_get, All, AllPairs, Contains}
+use Rattle.std.proofs.Common.{◌≡◌, ◌≤◌, ◌<◌, ℕ, ◌+◌, ◌*◌, ◌^◌, Bool, false, List, [], ◌∷◌, ◌++◌, length, Some, get_or, refl, sym, ap}
+use Rattle.std.proofs.Common.{subst, ◌∙◌, append-nil, arith}
+use Rattle.std.specs.Prelude.{is_some, slice_get, All, AllPairs}
 use Rattle.std.specs.List.{AllByRecursion as Each, list_any}
 use Rattle.std.proofs.lemmas.List.Elements.{All-append, All-cons, All-contains_itself, All-from_recursion, All-head, All-nil, All-tail}
 use Rattle.std.proofs.lemmas.List.Elements.{All-weaker}
@@ -27,9 +27,10 @@ use Rattle.volume_rules.specs.declared.rule.Rule.TheVariants.{Volumes, Stripes, 
 use Rattle.group_edits.proofs.FewSectors.{IsOnVolume, LieOnDisks, few_sectors, segments_covered, total, total_both}
 use Rattle.group_edits.proofs.GivenRules.{extents_both, legs_some, parts_mirror, parts_striped}
 use Rattle.group_edits.proofs.GivenRuns.{runs_apart, runs_new}
-use Rattle.group_edits.proofs.GrownRules.{IsNewRun, apart_turned, pairs_between}
+use Rattle.group_edits.proofs.GrownRules.{IsNewRun}
 use Rattle.group_edits.proofs.Inserted.{first_pairs, later_pairs, none_passes}
 use Rattle.group_edits.proofs.LongerRules.{its, legs_may, some_legs, volumes_both}
+use Rattle.group_edits.proofs.Selections.{pairs_both}
 use Rattle.group_edits.proofs.Split.{IsSplit, split}
 use Rattle.group_edits.specs.GivenSegments.{MayBeLaid, MayHaveLegs, extents_in, segments_in, segments_of}
 use Rattle.group_edits.specs.LongerVolume.{MayGrow, last_kind, longer}
@@ -175,18 +176,16 @@ module _ (group : Group) (before after : List Row) (row : Row) (rows : group.lvs
 
   all_apart : AllPairs LieApart (old ++ (more ++ []))
   all_apart =
-      pairs_between LieApart apart_turned old more []
-      (subst (AllPairs LieApart) (sym (append-nil old))
+      pairs_both LieApart old (more ++ [])
       (pairs_front LieApart old back (pairs_back LieApart (runs_of_volumes 0 before) (old ++ back)
-      (subst (AllPairs LieApart) all_runs (accepted Apart)))))
+      (subst (AllPairs LieApart) all_runs (accepted Apart))))
+      (subst (AllPairs LieApart) (sym (append-nil more))
       (runs_apart group (length (legs_of kind)) given laid (some_legs group before after row rows accepted) kind number 0
-      (extents_of row.1))
-      (All-weaker (IsNewRun group) (λ run. All (LieApart run) (old ++ []))
-      (λ run is. subst (All (LieApart run)) (sym (append-nil old))
-      (All-weaker (Contains (runs_of group)) (LieApart run)
-      (λ other there on extent in_new in_old. is.unused on extent in_new (other, there, in_old)) old
-      (its_own (Contains (runs_of group)) (All-contains_itself (runs_of group)))))
-      more new)
+      (extents_of row.1)))
+      (its_own (λ run. All (LieApart run) (more ++ [])) (λ k d within.
+      subst (All (LieApart (get_or (runs_of group) k d))) (sym (append-nil more)) (λ j e inside on extent in_old in_new.
+      (new j e inside).unused on extent in_new
+      (get_or (runs_of group) k d, All-contains_itself (runs_of group) k d within, in_old))))
 
   fewer : extents_of row.1 + extents_in added ≤ total (old ++ (more ++ []))
   fewer =

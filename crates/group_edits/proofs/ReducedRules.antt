@@ -14,7 +14,8 @@ use Rattle.volume_rules.specs.Legs.{runs_of}
 use Rattle.volume_rules.specs.Rules.{FitsDevice, IsAccepted, PvIsSmall, ids_of}
 use Rattle.volume_rules.specs.declared.rule.Rule.TheVariants.{Numbers, Ids, Volumes, Segments, Extents}
 use Rattle.group_edits.proofs.EditedLegs.{legs_allowed, legs_kept}
-use Rattle.group_edits.proofs.EditedRows.{AllKeepOwn, all_renumbered, all_rules, keep_own, renumbered_stays, row_edit, segments_renumbered}
+use Rattle.group_edits.proofs.EditedRows.{AllKeepOwn, all_renumbered, all_rules, keep_own, next_numbers, renumbered_stays, row_edit}
+use Rattle.group_edits.proofs.EditedRows.{segments_renumbered}
 use Rattle.group_edits.proofs.Edits.{Any, KeepsSegments, KeepsVolumes, OnStays, Row, StaysAs, WasRow}
 use Rattle.group_edits.proofs.ReducedRuns.{IsElsewhere, get_without, number_apart, runs_elsewhere}
 use Rattle.group_edits.proofs.Renumbered.{unchanged}
@@ -84,18 +85,11 @@ module _ (group : Group) (removed : ℕ) (unused : has_leg_on_pv group removed �
   -- the group without it keeps all rules
   pub reduced_accepted : removed < length group.pvs → length group.pvs ≢ 1 → group.seqno < 4294967295 → IsAccepted group → IsAccepted rest
   reduced_accepted within more below accepted =
-      let numbers = accepted Numbers in
       let few = accepted Volumes in
       let less : length rest.pvs + 1 ≡ length group.pvs = length-remove group.pvs removed within in
       let same : length rest.lvs ≡ length group.lvs = length-map group.lvs (renumbered_row number) in
       all_rules rest
-      (record {
-        seqno = (omega arith, omega (arith, below));
-        extent_size = numbers.extent_size;
-        limits = numbers.limits;
-        pvs = all_without (λ (pv : List ℕ × Pv). PvIsSmall pv.1) group.pvs removed numbers.pvs;
-        lvs = λ k d inside. (own k d inside).small;
-      })
+      (next_numbers group accepted below) (all_without (λ (pv : List ℕ × Pv). PvIsSmall pv.1) group.pvs removed (accepted Numbers).pvs)
       ids
       (record {
         pvs = (omega (arith, less, few.pvs.0, more), omega (arith, less, few.pvs.1));

@@ -1,9 +1,8 @@
 -- What volumes keep whose legs lie on volumes by their new numbers, and what these legs cover.
-use Rattle.std.proofs.Common.{◌≡◌, ◌≤◌, ◌<◌, ℕ, ◌+◌, ◌*◌, ◌/◌, ◌^◌, Bool, List, [], ◌∷◌, length, map, Some, None, refl, sym, ap}
-use Rattle.std.proofs.Common.{subst}
-use Rattle.std.specs.Prelude.{◌%◌, All}
+use Rattle.std.proofs.Common.{◌≡◌, ◌≤◌, ◌<◌, ℕ, ◌+◌, ◌/◌, Bool, List, [], ◌∷◌, length, map, Some, None, refl, sym, ap, subst}
+use Rattle.std.specs.Prelude.{◌%◌}
 use Rattle.std.proofs.lemmas.List.{length-map}
-use Rattle.std.proofs.lemmas.List.Elements.{All-map, All-weaker}
+use Rattle.std.proofs.lemmas.List.Elements.{All-map}
 use Rattle.std.proofs.lemmas.List.Folds.{fold-map}
 use Rattle.meta_model.specs.Runs.{legs_of}
 use Rattle.meta_model.specs.declared.lv.Lv.{Lv}
@@ -13,7 +12,7 @@ use Rattle.meta_model.specs.declared.segment.SegKind.{SegKind}
 use Rattle.meta_model.specs.declared.segment.SegKind.TheVariants.{Striped, Mirror}
 use Rattle.meta_model.specs.declared.segment.Segment.{Segment}
 use Rattle.volume_rules.specs.Extents.{extents_of, leg_share}
-use Rattle.volume_rules.specs.Rules.{Follow, IsPowerOfTwo, IsSmall, IsWholeMirror, IsWholeStriped, KindIsSmall, LvIsSmall, MovedIsAllowed}
+use Rattle.volume_rules.specs.Rules.{Follow, IsPowerOfTwo, IsSmall, IsWholeMirror, IsWholeStriped, KindIsSmall, MovedIsAllowed}
 use Rattle.volume_rules.specs.Rules.{SegmentIsSmall}
 use Rattle.group_edits.specs.Renumbered.{renumbered_kind, renumbered_leg, renumbered_legs, renumbered_lv, renumbered_row}
 use Rattle.group_edits.specs.Renumbered.{renumbered_segment}
@@ -44,20 +43,13 @@ segments_are_same (segment ∷ segments) = λ i. segment_is_same segment i ∷ s
 pub row_is_same : (row : List ℕ × Lv) → renumbered_row same_on row ≡ row
 row_is_same row = ap (λ (segments : List Segment). (row.0, record row.1 { segments = segments })) (segments_are_same row.1.segments)
 
--- ---- what a volume's segments keep
+-- ---- what the rules ask of a segment
 
--- segments follow each other, to an end that isn't too far
-abbrev pub FollowTo : ℕ → Lv → Type 0
-FollowTo extent_size lv = Follow 0 lv.segments × (extents_of lv * extent_size < 2 ^ 48)
-
-abbrev pub AreStriped : ℕ → Lv → Type 0
-AreStriped extent_size lv = All (λ (segment : Segment). IsWholeStriped extent_size segment.count segment.kind) lv.segments
-
-abbrev pub AreMirrors : Lv → Type 0
-AreMirrors lv = All (λ (segment : Segment). IsWholeMirror segment.kind) lv.segments
-
-abbrev pub AreMoved : Lv → Type 0
-AreMoved lv = All (λ (segment : Segment). MovedIsAllowed lv.status.pvmove segment.count segment.kind) lv.segments
+pub record KeepsSegment (extent_size : ℕ) (pvmove : Bool) (segment : Segment) : Type 0 where
+  pub small : SegmentIsSmall segment
+  pub striped : IsWholeStriped extent_size segment.count segment.kind
+  pub mirror : IsWholeMirror segment.kind
+  pub moved : MovedIsAllowed pvmove segment.count segment.kind
 
 module _ (number : On → On) where
   -- ---- as many as before
@@ -81,55 +73,23 @@ module _ (number : On → On) where
 
   -- ---- rules
 
-  small_legs : (legs : List Leg) → All (λ (leg : Leg). IsSmall leg.first) legs
-      → All (λ (leg : Leg). IsSmall leg.first) (renumbered_legs number legs)
-  small_legs legs all = All-map (λ (leg : Leg). IsSmall leg.first) (renumbered_leg number) legs all
-
   small_kind : (kind : SegKind) → KindIsSmall kind → KindIsSmall (renumbered_kind number kind)
-  small_kind (Striped stripe legs) is = (is.0, small_legs legs is.1)
-  small_kind (Mirror region None legs) is = (is.0, small_legs legs is.1)
-  small_kind (Mirror region (Some moved) legs) is = (is.0, is.1, small_legs legs is.2)
+  small_kind (Striped stripe legs) is = (is.0, All-map (λ (leg : Leg). IsSmall leg.first) (renumbered_leg number) legs is.1)
+  small_kind (Mirror region None legs) is = (is.0, All-map (λ (leg : Leg). IsSmall leg.first) (renumbered_leg number) legs is.1)
+  small_kind (Mirror region (Some moved) legs) is =
+      (is.0, is.1, All-map (λ (leg : Leg). IsSmall leg.first) (renumbered_leg number) legs is.2)
 
-  -- what each segment keeps, each keeps whose legs are renumbered
-  each_segment : (P Q : Segment → Type 0) → ((segment : Segment) → P segment → Q (renumbered_segment number segment)) → (lv : Lv)
-      → All P lv.segments → All Q (renumbered_lv number lv).segments
-  each_segment P Q step lv all =
-      All-map Q (renumbered_segment number) lv.segments
-      (All-weaker P (λ (segment : Segment). Q (renumbered_segment number segment)) step lv.segments all)
-
-  pub small_lv : (lv : Lv) → LvIsSmall lv → LvIsSmall (renumbered_lv number lv)
-  small_lv lv is =
-      (is.0, each_segment SegmentIsSmall SegmentIsSmall (λ segment small. (small.0, small.1, small_kind segment.kind small.2)) lv is.1)
-
-  follow : (at : ℕ) (segments : List Segment) → Follow at segments → Follow at (map (renumbered_segment number) segments)
-  follow at [] is = tt
-  follow at (segment ∷ segments) is = (is.0, is.1, follow (at + segment.count) segments is.2)
-
-  pub follows : (extent_size : ℕ) (lv : Lv) → FollowTo extent_size lv → FollowTo extent_size (renumbered_lv number lv)
-  follows extent_size lv is = (follow 0 lv.segments is.0, subst (λ (n : ℕ). n * extent_size < 2 ^ 48) (sym (extents_same lv)) is.1)
-
-  striped : (extent_size count : ℕ) (kind : SegKind) → IsWholeStriped extent_size count kind
+  striped_kind : (extent_size count : ℕ) (kind : SegKind) → IsWholeStriped extent_size count kind
       → IsWholeStriped extent_size count (renumbered_kind number kind)
-  striped extent_size count (Striped stripe legs) is =
+  striped_kind extent_size count (Striped stripe legs) is =
       subst (λ (n : ℕ). (1 ≤ n) × (n ≤ 8) × (count % n ≡ 0) × (1 < n → IsPowerOfTwo stripe × (8 ≤ stripe) × (extent_size % stripe ≡ 0)))
       (sym (legs_count legs)) is
-  striped extent_size count (Mirror region moved legs) is = tt
+  striped_kind extent_size count (Mirror region moved legs) is = tt
 
-  pub are_striped : (extent_size : ℕ) (lv : Lv) → AreStriped extent_size lv → AreStriped extent_size (renumbered_lv number lv)
-  are_striped extent_size lv all =
-      each_segment (λ (segment : Segment). IsWholeStriped extent_size segment.count segment.kind)
-      (λ (segment : Segment). IsWholeStriped extent_size segment.count segment.kind)
-      (λ segment is. striped extent_size segment.count segment.kind is) lv all
-
-  mirror : (kind : SegKind) → IsWholeMirror kind → IsWholeMirror (renumbered_kind number kind)
-  mirror (Striped stripe legs) is = tt
-  mirror (Mirror region moved legs) is =
+  mirror_kind : (kind : SegKind) → IsWholeMirror kind → IsWholeMirror (renumbered_kind number kind)
+  mirror_kind (Striped stripe legs) is = tt
+  mirror_kind (Mirror region moved legs) is =
       subst (λ (n : ℕ). (2 ≤ n) × (n ≤ 8) × IsPowerOfTwo region × (8 ≤ region)) (sym (legs_count legs)) is
-
-  pub are_mirrors : (lv : Lv) → AreMirrors lv → AreMirrors (renumbered_lv number lv)
-  are_mirrors lv all =
-      each_segment (λ (segment : Segment). IsWholeMirror segment.kind) (λ (segment : Segment). IsWholeMirror segment.kind)
-      (λ segment is. mirror segment.kind is) lv all
 
   moved_kind : (pvmove : Bool) (count : ℕ) (kind : SegKind) → MovedIsAllowed pvmove count kind
       → MovedIsAllowed pvmove count (renumbered_kind number kind)
@@ -137,8 +97,15 @@ module _ (number : On → On) where
   moved_kind pvmove count (Mirror region None legs) is = tt
   moved_kind pvmove count (Mirror region (Some moved) legs) is = is
 
-  pub are_moved : (lv : Lv) → AreMoved lv → AreMoved (renumbered_lv number lv)
-  are_moved lv all =
-      each_segment (λ (segment : Segment). MovedIsAllowed lv.status.pvmove segment.count segment.kind)
-      (λ (segment : Segment). MovedIsAllowed lv.status.pvmove segment.count segment.kind)
-      (λ segment is. moved_kind lv.status.pvmove segment.count segment.kind is) lv all
+  pub segment_keeps : (extent_size : ℕ) (pvmove : Bool) (segment : Segment) → KeepsSegment extent_size pvmove segment
+      → KeepsSegment extent_size pvmove (renumbered_segment number segment)
+  segment_keeps extent_size pvmove segment is = record {
+    small = (is.small.0, is.small.1, small_kind segment.kind is.small.2);
+    striped = striped_kind extent_size segment.count segment.kind is.striped;
+    mirror = mirror_kind segment.kind is.mirror;
+    moved = moved_kind pvmove segment.count segment.kind is.moved;
+  }
+
+  pub follow_same : (at : ℕ) (segments : List Segment) → Follow at segments → Follow at (map (renumbered_segment number) segments)
+  follow_same at [] is = tt
+  follow_same at (segment ∷ segments) is = (is.0, is.1, follow_same (at + segment.count) segments is.2)

@@ -2,7 +2,7 @@
 use Rattle.std.proofs.Common.{◌≡◌, ◌≤◌, ◌⊎◌, ℕ, zero, suc, List, [], ◌∷◌, ◌++◌, length, map, Some, inl, inr, refl, sym, ap, subst, arith}
 use Rattle.std.specs.Prelude.{slice_get, sum_by, All, AllPairs, Contains}
 use Rattle.std.specs.List.{AllByRecursion as Each, remove}
-use Rattle.std.proofs.lemmas.List.Elements.{All-cons, All-from_recursion, All-head, All-map, All-nil, All-tail, recursion_from_All}
+use Rattle.std.proofs.lemmas.List.Elements.{All-append, All-cons, All-from_recursion, All-head, All-map, All-nil, All-tail, recursion_from_All}
 use Rattle.std.proofs.lemmas.List.Kept.{AllPairs-cons}
 use Rattle.std.proofs.lemmas.List.Sums.{sum_by-cons}
 use Rattle.std.proofs.lemmas.Option.{same_Some}
@@ -53,6 +53,15 @@ map_pairs R Q Good g by (x ∷ xs) good pairs =
     (All-map (Q (g x)) g xs (All-from_recursion (λ y. Q (g x) (g y)) xs
     (each_by R Q Good g by x good.0 xs good.1 (recursion_from_All (R x) xs (first_pairs R x xs pairs)))))
     (map_pairs R Q Good g by xs good.1 (later_pairs R x xs pairs))
+
+-- pairs of two lists, each element of the first related to all of the second
+pub pairs_both : {X : Type 0} (R : X → X → Type 0) (xs ys : List X) → AllPairs R xs → AllPairs R ys → All (λ x. All (R x) ys) xs
+    → AllPairs R (xs ++ ys)
+pairs_both R [] ys first second cross = second
+pairs_both R (x ∷ xs) ys first second cross =
+    AllPairs-cons R x (xs ++ ys)
+    (All-append (R x) xs ys (first_pairs R x xs first) (All-head (λ z. All (R z) ys) x xs cross))
+    (pairs_both R xs ys (later_pairs R x xs first) second (All-tail (λ z. All (R z) ys) x xs cross))
 
 -- ---- some elements
 

@@ -105,10 +105,11 @@ module _ (size left : ℕ) (lv : Lv) (may : MayKeep left lv) (not_pvmove : lv.st
   segments = lv.segments
 
   striped : Each (λ (s : Segment). IsWholeStriped size s.count s.kind) segments
-  striped = recursion_from_All (λ (s : Segment). IsWholeStriped size s.count s.kind) segments own.striped
+  striped =
+      recursion_from_All (λ (s : Segment). IsWholeStriped size s.count s.kind) segments (λ s e inside. (own.segments s e inside).striped)
 
   mirrored : Each (λ (s : Segment). IsWholeMirror s.kind) segments
-  mirrored = recursion_from_All (λ (s : Segment). IsWholeMirror s.kind) segments own.mirrors
+  mirrored = recursion_from_All (λ (s : Segment). IsWholeMirror s.kind) segments (λ s e inside. (own.segments s e inside).mirror)
 
   -- what holds of each segment, and of one that is cut
   front_all : (P : Segment → Type 0) → ((segment : Segment) (count : ℕ) → P segment → count ≤ segment.count → P (cut segment count))
@@ -128,14 +129,26 @@ module _ (size left : ℕ) (lv : Lv) (may : MayKeep left lv) (not_pvmove : lv.st
 
   short_own : KeepsOwn size (shortened left lv)
   short_own = record {
-    small = (own.small.0, front_all SegmentIsSmall (λ segment count is less. (is.0, omega (arith, is.1, less), is.2)) own.small.1);
+    created = own.created;
     some = some_segment segments left may.some own.some;
-    follow = (follow_front 0 segments left own.follow.0, lower _ _ (fewer_extents segments left) own.follow.1);
-    striped =
-        All-from_recursion (λ (s : Segment). IsWholeStriped size s.count s.kind) (front_of segments left)
-        (stripes_front size segments left may.whole (segments_shared size segments striped (segments_few size segments striped mirrored)));
-    mirrors = front_all (λ (s : Segment). IsWholeMirror s.kind) (λ segment count is less. is) own.mirrors;
-    moved = front_all MayMove (λ segment count is less. cut_moved segment.count count segment.kind is) own.moved;
+    follow = follow_front 0 segments left own.follow;
+    ends = lower _ _ (fewer_extents segments left) own.ends;
+    segments =
+        λ s e inside. record {
+          small =
+              front_all SegmentIsSmall (λ segment count is less. (is.0, omega (arith, is.1, less), is.2))
+              (λ k d within. (own.segments k d within).small) s e inside;
+          striped =
+              All-from_recursion (λ (s : Segment). IsWholeStriped size s.count s.kind) (front_of segments left)
+              (stripes_front size segments left may.whole
+              (segments_shared size segments striped (segments_few size segments striped mirrored))) s e inside;
+          mirror =
+              front_all (λ (s : Segment). IsWholeMirror s.kind) (λ segment count is less. is)
+              (λ k d within. (own.segments k d within).mirror) s e inside;
+          moved =
+              front_all MayMove (λ segment count is less. cut_moved segment.count count segment.kind is)
+              (λ k d within. (own.segments k d within).moved) s e inside;
+        };
   }
 
 -- ---- the group
