@@ -18,7 +18,6 @@ mod PrintedNames
 mod EditedPrintable
 pub mod Staying
 mod StayingRules
-mod StayingPrintable
 pub mod Removed
 mod Marking
 mod NumberedRest
@@ -34,7 +33,6 @@ mod KeptExtents
 pub mod ShortFront
 mod ShortRows
 mod ShortRules
-mod ShortPrintable
 pub mod Shortened
 pub mod ShortenedPlaces
 mod GivenExamples
@@ -58,7 +56,6 @@ pub mod FirstSectors
 mod LastRows
 pub mod ReducedRuns
 pub mod ReducedRules
-mod ReducedPrintable
 pub mod ReducedGroup
 pub mod ReducedPlaces
 pub mod RestoredGroup

@@ -8,8 +8,7 @@ use Rattle.meta_model.specs.declared.pv.Pv.{Pv}
 use Rattle.meta_print.proofs.GroupFrom.{printable}
 use Rattle.meta_print.proofs.ReadAgain.{has_tree}
 use Rattle.volume_rules.specs.Rules.{IsAccepted}
-use Rattle.group_edits.proofs.ReducedPrintable.{reduced_printable}
-use Rattle.group_edits.proofs.ReducedRules.{reduced_accepted}
+use Rattle.group_edits.proofs.ReducedRules.{reduced_accepted, reduced_printable}
 use Rattle.group_edits.proofs.Whole.{IsWhole, seqno_below}
 use Rattle.group_edits.specs.NextVersion.{next_version}
 use Rattle.group_edits.specs.ReducedGroup.{has_leg_on_pv, on_without_pv, reduced_group}

@@ -1,11 +1,12 @@
--- A group without a physical volume on which no leg lies keeps all rules, where it has another one.
+-- A group without a physical volume on which no leg lies keeps all rules, where it has another one, and can be printed.
 use Rattle.std.proofs.Common.{◌≡◌, ◌≢◌, ◌<◌, ℕ, zero, suc, ◌+◌, false, List, [], ◌∷◌, ◌++◌, length, map, Some, inl, refl, sym, ap, subst}
-use Rattle.std.proofs.Common.{◌∙◌, arith}
+use Rattle.std.proofs.Common.{◌∙◌, arith, ◌^◌, get_or}
+use Rattle.std.proofs.lemmas.Option.{slice_get-get_or}
 use Rattle.std.specs.Prelude.{slice_get, All, AllPairs}
 use Rattle.std.specs.List.{remove}
 use Rattle.std.proofs.lemmas.List.{length-map}
 use Rattle.std.proofs.lemmas.List.Edits.{length-remove}
-use Rattle.std.proofs.lemmas.List.Elements.{All-contains}
+use Rattle.std.proofs.lemmas.List.Elements.{All-contains, All-from_recursion, All-map, recursion_from_All}
 use Rattle.meta_model.specs.declared.group.Group.{Group}
 use Rattle.meta_model.specs.declared.pv.Pv.{Pv}
 use Rattle.meta_model.specs.declared.segment.On.{On}
@@ -14,14 +15,17 @@ use Rattle.volume_rules.specs.Legs.{runs_of}
 use Rattle.volume_rules.specs.Rules.{FitsDevice, IsAccepted, PvIsSmall, ids_of}
 use Rattle.volume_rules.specs.declared.rule.Rule.TheVariants.{Numbers, Ids, Volumes, Segments, Extents}
 use Rattle.group_edits.proofs.EditedLegs.{legs_allowed, legs_kept}
+use Rattle.group_edits.proofs.EditedPrintable.{row_prints}
 use Rattle.group_edits.proofs.EditedRows.{AllKeepOwn, all_renumbered, all_rules, keep_own, next_numbers, renumbered_stays, row_edit}
 use Rattle.group_edits.proofs.EditedRows.{segments_renumbered}
 use Rattle.group_edits.proofs.Edits.{Any, KeepsSegments, KeepsVolumes, OnStays, Row, StaysAs, WasRow}
+use Rattle.group_edits.proofs.PrintedNames.{lv_names, none_some, pv_names, some_names}
 use Rattle.group_edits.proofs.ReducedRuns.{IsElsewhere, get_without, number_apart, runs_elsewhere}
 use Rattle.group_edits.proofs.Renumbered.{unchanged}
-use Rattle.group_edits.proofs.Selections.{map_at, map_from, map_part, some_all, some_front, some_map, some_pairs, some_without}
+use Rattle.group_edits.proofs.Selections.{AreSome, map_at, map_from, map_part, some_all, some_front, some_map, some_pairs, some_without}
 use Rattle.group_edits.specs.ReducedGroup.{has_leg_on_pv, number_without, on_without_pv, reduced_group}
 use Rattle.group_edits.specs.Renumbered.{renumbered_row}
+use Rattle.meta_print.proofs.Printable.{AreNames, IsLv, IsPrintable, IsPv}
 
 -- ---- lists
 
@@ -121,3 +125,38 @@ module _ (group : Group) (removed : ℕ) (unused : has_leg_on_pv group removed �
                 (some_map (λ (pv : List ℕ × Pv). pv.1.id) (remove group.pvs removed) group.pvs (some_without group.pvs removed)),
           ))
           (accepted Ids))
+
+  -- the group without it can be printed
+  pub reduced_printable : group.seqno + 1 < 2 ^ 64 → IsAccepted group → IsPrintable group → IsPrintable rest
+  reduced_printable small accepted can = record {
+    name_is = can.name_is;
+    id_again = can.id_again;
+    seqno_fits = small;
+    extent_fits = can.extent_fits;
+    max_lv_fits = can.max_lv_fits;
+    max_pv_fits = can.max_pv_fits;
+    copies_fits = can.copies_fits;
+    pv_names = pvs;
+    lv_names = lvs;
+    each_pv =
+        recursion_from_All (λ (pv : List ℕ × Pv). IsPv pv.1) rest.pvs
+        (all_without (λ (pv : List ℕ × Pv). IsPv pv.1) group.pvs removed
+        (All-from_recursion (λ (pv : List ℕ × Pv). IsPv pv.1) group.pvs can.each_pv));
+    each_lv =
+        recursion_from_All (λ (lv : Row). IsLv rest lv.1) rest.lvs
+        (All-map (λ (lv : Row). IsLv rest lv.1) (renumbered_row number) group.lvs (λ k d within.
+        row_prints group rest number (number_without removed) unchanged (IsOther removed) Any
+        (KeepsSegments number) keeps_volumes (legs_allowed group accepted) pvs lvs
+        (λ name none. none_some (pv_names rest) (pv_names group) name some none) can.each_lv k (get_or group.lvs k d) tt
+        (slice_get-get_or group.lvs k d within)));
+  } where
+    some : AreSome (pv_names rest) (pv_names group)
+    some = some_map (λ (pv : List ℕ × Pv). pv.0) rest.pvs group.pvs (some_without group.pvs removed)
+
+    pvs : AreNames [] (pv_names rest)
+    pvs = some_names (pv_names rest) (pv_names group) some can.pv_names
+
+    lvs : AreNames [] (lv_names rest)
+    lvs =
+        subst (AreNames []) (sym (map_part (renumbered_row number) (λ (row : Row). row.0) (λ row. refl) group.lvs))
+        can.lv_names

@@ -20,8 +20,7 @@ use Rattle.volume_rules.specs.Moving.{leads_to_pvmove, named_by}
 use Rattle.volume_rules.specs.Rules.{IsAccepted, IsMoving, IsPvmove}
 use Rattle.volume_rules.specs.declared.rule.Rule.TheVariants as rule
 use Rattle.group_edits.proofs.OneNamed.{both_true}
-use Rattle.group_edits.proofs.StayingPrintable.{staying_printable}
-use Rattle.group_edits.proofs.StayingRules.{staying_accepted}
+use Rattle.group_edits.proofs.StayingRules.{staying_accepted, staying_printable}
 use Rattle.group_edits.proofs.Whole.{IsWhole, seqno_below}
 use Rattle.group_edits.specs.Removing.{goes_with, has_leg_on, lv_numbers, stays, without_volume}
 use Rattle.group_edits.specs.Visible.{IsVisible}

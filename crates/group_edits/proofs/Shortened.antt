@@ -16,8 +16,7 @@ use Rattle.volume_rules.specs.Rules.{Follow, IsAccepted, IsWholeMirror, IsWholeS
 use Rattle.volume_rules.specs.declared.rule.Rule.TheVariants.{Follows, Mirrors, Numbers, Stripes}
 use Rattle.group_edits.proofs.KeptExtents.{IsShared, kept_again, kept_below, kept_more}
 use Rattle.group_edits.proofs.Selections.{contains_at}
-use Rattle.group_edits.proofs.ShortPrintable.{printable_short}
-use Rattle.group_edits.proofs.ShortRules.{segments_few, segments_shared, short_accepted}
+use Rattle.group_edits.proofs.ShortRules.{printable_short, segments_few, segments_shared, short_accepted}
 use Rattle.group_edits.proofs.Whole.{IsWhole, seqno_below}
 use Rattle.group_edits.specs.NextVersion.{changed_if, with_lvs}
 use Rattle.group_edits.specs.ShortenedVolume.{HasFewLegs, MayKeep, is_layered, kept_of, shortened, shortened_volume}

@@ -1,5 +1,7 @@
--- A group without some volumes keeps all rules, where what the others lie on stays.
-use Rattle.std.proofs.Common.{◌≡◌, ◌≢◌, ◌<◌, ℕ, Bool, true, List, ◌∷◌, ◌++◌, length, map, Some, inl, refl, sym, subst, arith}
+-- A group without some volumes keeps all rules and can be printed, where what the others lie on stays.
+use Rattle.std.proofs.Common.{◌≡◌, ◌≢◌, ◌<◌, ℕ, Bool, true, List, ◌∷◌, ◌++◌, length, map, Some, inl, refl, sym, subst, arith, [], get_or}
+use Rattle.std.proofs.lemmas.List.Elements.{All-map, recursion_from_All}
+use Rattle.std.proofs.lemmas.Option.{slice_get-get_or}
 use Rattle.std.specs.Prelude.{slice_get, AllPairs, Contains}
 use Rattle.std.proofs.lemmas.List.{length-map}
 use Rattle.meta_model.specs.declared.group.Group.{Group}
@@ -10,15 +12,19 @@ use Rattle.volume_rules.specs.Legs.{LegRun, LiesOn, runs_of}
 use Rattle.volume_rules.specs.Rules.{IsAccepted, IsPvmove, ids_of}
 use Rattle.volume_rules.specs.declared.rule.Rule.TheVariants.{Ids, Segments}
 use Rattle.group_edits.proofs.EditedLegs.{legs_allowed, legs_kept}
+use Rattle.group_edits.proofs.EditedPrintable.{row_prints}
 use Rattle.group_edits.proofs.EditedRows.{KeepsOwn, all_renumbered, fewer_volumes, keep_own, next_accepted, renumbered_stays, row_edit}
 use Rattle.group_edits.proofs.EditedRows.{segments_renumbered}
 use Rattle.group_edits.proofs.Edits.{Any, KeepsSegments, KeepsVolumes, OnStays, Row, StaysAs, WasRow}
+use Rattle.group_edits.proofs.GrownPrintable.{version_printable}
+use Rattle.group_edits.proofs.PrintedNames.{lv_names, some_names}
 use Rattle.group_edits.proofs.Renumbered.{unchanged}
 use Rattle.group_edits.proofs.Selections.{AreSome, map_at, map_from, map_part, some_all, some_behind, some_length, some_map, some_pairs}
 use Rattle.group_edits.proofs.Selections.{some_sum}
 use Rattle.group_edits.proofs.Staying.{new, new_apart, some_stay, stay_at, stay_from}
 use Rattle.group_edits.specs.Removing.{on_after, that_stay, with_staying}
 use Rattle.group_edits.specs.Renumbered.{renumbered_row}
+use Rattle.meta_print.proofs.Printable.{AreNames, IsLv, IsPrintable}
 
 module _ (group : Group) (stays : ℕ → Bool) where
   abbrev pub rest : Group
@@ -103,3 +109,21 @@ module _ (group : Group) (stays : ℕ → Bool) where
                   (map (λ (row : Row). row.1.id) group.lvs) (some_map (λ (row : Row). row.1.id) rows group.lvs some),
             ))
             (accepted Ids))
+
+    -- it can be printed
+    pub staying_printable : IsAccepted group → group.seqno < 4294967295 → IsPrintable group → IsPrintable rest
+    staying_printable accepted below can =
+        version_printable group (map (renumbered_row number) rows) below can names
+        (recursion_from_All (λ (lv : Row). IsLv rest lv.1) rest.lvs
+        (All-map (λ (lv : Row). IsLv rest lv.1) (renumbered_row number) rows (λ m d within.
+        (let row : Row = get_or rows m d in
+        let old = stay_from stays m group.lvs row (slice_get-get_or rows m d within) in
+        row_prints group rest number unchanged (new stays) Any Stays
+        (KeepsSegments number) keeps_volumes (legs_allowed group accepted) can.pv_names names
+        (λ name none. none) can.each_lv old.0 row old.2 old.1))))
+      where
+        names : AreNames [] (lv_names rest)
+        names =
+            subst (AreNames []) (sym (map_part (renumbered_row number) (λ (row : Row). row.0) (λ row. refl) rows))
+            (some_names (map (λ (row : Row). row.0) rows) (lv_names group)
+            (some_map (λ (row : Row). row.0) rows group.lvs (some_stay stays 0 group.lvs)) can.lv_names)
