@@ -1,4 +1,5 @@
 pub mod Commands
+pub mod Given
 pub mod Meaning
 pub mod Options
 pub mod Table

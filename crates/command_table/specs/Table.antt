@@ -3,8 +3,8 @@
 use Rattle.std.specs.Prelude.{ℕ, ◌-◌, ◌^◌, Bool, true, false, not, if◌then◌else◌, List, [], ◌∷◌, Option, Some, None, codes, find, slice_get}
 use Rattle.std.specs.Option.{option_or}
 use Rattle.std.specs.Str.{bytes_eq}
-use Rattle.command_table.specs.declared.command_name.CommandName.{CommandName}
-use Rattle.command_table.specs.declared.command_name.CommandName.TheVariants as name
+use Rattle.command_table.specs.declared.table.CommandName.{CommandName}
+use Rattle.command_table.specs.declared.table.CommandName.TheVariants as name
 use Rattle.command_table.specs.declared.kind.Kind.{Kind}
 use Rattle.command_table.specs.declared.kind.Kind.TheVariants.{Flag, Number, Growth, Size, SizeGrowth, PowerSize, Policy, Disk, Group}
 use Rattle.command_table.specs.declared.kind.Kind.TheVariants.{Volume, Path, Hex}

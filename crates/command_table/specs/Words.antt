@@ -5,7 +5,7 @@ use Rattle.std.specs.Borrow.{Bor}
 use Rattle.std.specs.Option.{option_and_then}
 use Rattle.command_table.specs.declared.fault.Fault.{Fault}
 use Rattle.command_table.specs.declared.fault.Fault.TheVariants.{BadOption, BadNumber, BadCount, BadName, BadHex}
-use Rattle.command_table.specs.declared.command_name.CommandName.{CommandName}
+use Rattle.command_table.specs.declared.table.CommandName.{CommandName}
 use Rattle.command_table.specs.declared.kind.Kind.{Kind}
 use Rattle.command_table.specs.declared.kind.Kind.TheVariants.{Flag}
 use Rattle.command_table.specs.declared.option_key.OptionKey.{OptionKey}

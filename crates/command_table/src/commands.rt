@@ -1,19 +1,60 @@
 //! A function for each command: from its options and arguments to what it means.
 ghost use Rattle.std.specs.Prelude.{◌≡◌, [], IfOk, option_map};
 ghost use Rattle.command_table.specs.declared.command.Command.TheVariants.{Pvck, Vgremove, Vgcfgbackup, Vgcfgrestore, Lvremove, Resync};
-ghost use Rattle.command_table.specs.Meaning.{alone, amount_of, fill_words, given_by, goes_together, lvcreate, lvextend, lvreduce, lvrename, new_volume, number_or, one_path, one_word, path_in, pvcreate, pvmove, read_words, vgcreate, vgextend, vgreduce, vgrename, write_words};
+ghost use Rattle.command_table.specs.Commands.{alone, command_by_name, fill_words, goes_together, lvcreate, lvextend, lvreduce, lvrename, new_volume, pvcreate, pvmove, read_words, vgcreate, vgextend, vgreduce, vgrename, write_words};
+ghost use Rattle.command_table.specs.Given.{amount_of, given_by, number_or, one_path, one_word, path_in};
 ghost use Rattle.command_table.specs.Options.{words_in};
 
 use crate::given_options::GivenOptions;
 use crate::values::{halves, number_of};
-use crate::{Command, Moving, Names, NewVolume, OptionKey, Path};
+use crate::{Command, CommandName, Moving, Names, NewVolume, OptionKey, Path};
 use sector_base::{ItemList, Text};
 use std::alloc::{AllocError, Global};
 
 /// What a function here answers: the command, or that the words are too few, too many or don't go together.
 type Meant = Result<Option<Command>, AllocError>;
 
-pub fn pvcreate(alloc: Global, given: &GivenOptions, arguments: &[&[u8]]) -> Meant
+/// The command of this name with these options and arguments. None where they are too few or too many or don't go together,
+/// and for a session and the demo.
+pub fn command_by_name(
+    alloc: Global,
+    name: CommandName,
+    given: &GivenOptions,
+    arguments: &[&[u8]],
+) -> Result<Option<Command>, AllocError>
+    ensures { IfOk result (λ command. command ≡ command_by_name name (given_by given.now) (words_in arguments.now)) }
+{
+    match name {
+        CommandName::Pvcreate => pvcreate(alloc, given, arguments),
+        CommandName::Pvmove => pvmove(alloc, given, arguments),
+        CommandName::Pvck => pvck(alloc, arguments),
+        CommandName::Pvs => Ok(alone(Command::Pvs, arguments)),
+        CommandName::Vgcreate => vgcreate(alloc, given, arguments),
+        CommandName::Vgextend => vgextend(alloc, arguments),
+        CommandName::Vgreduce => vgreduce(alloc, arguments),
+        CommandName::Vgremove => vgremove(alloc, arguments),
+        CommandName::Vgrename => vgrename(alloc, arguments),
+        CommandName::Vgcfgbackup => vgcfgbackup(alloc, arguments),
+        CommandName::Vgcfgrestore => vgcfgrestore(alloc, arguments),
+        CommandName::Vgck => Ok(alone(Command::Vgck, arguments)),
+        CommandName::Vgs => Ok(alone(Command::Vgs, arguments)),
+        CommandName::Lvcreate => lvcreate(alloc, given, arguments),
+        CommandName::Lvextend => lvextend(alloc, given, arguments),
+        CommandName::Lvreduce => lvreduce(alloc, given, arguments),
+        CommandName::Lvremove => lvremove(alloc, arguments),
+        CommandName::Lvrename => lvrename(alloc, arguments),
+        CommandName::Lvs => Ok(alone(Command::Lvs, arguments)),
+        CommandName::Session | CommandName::Demo => Ok(None),
+        CommandName::Read => read(alloc, arguments),
+        CommandName::Fill => fill(alloc, arguments),
+        CommandName::Write => write(alloc, arguments),
+        CommandName::List => Ok(alone(Command::List, arguments)),
+        CommandName::Wait => Ok(alone(Command::Wait, arguments)),
+        CommandName::Resync => resync(alloc, arguments),
+    }
+}
+
+fn pvcreate(alloc: Global, given: &GivenOptions, arguments: &[&[u8]]) -> Meant
     ensures { IfOk result (λ command. command ≡ pvcreate (given_by given.now) (words_in arguments.now)) }
 {
     match arguments {
@@ -25,7 +66,7 @@ pub fn pvcreate(alloc: Global, given: &GivenOptions, arguments: &[&[u8]]) -> Mea
     }
 }
 
-pub fn pvmove(alloc: Global, given: &GivenOptions, arguments: &[&[u8]]) -> Meant
+fn pvmove(alloc: Global, given: &GivenOptions, arguments: &[&[u8]]) -> Meant
     ensures { IfOk result (λ command. command ≡ pvmove (given_by given.now) (words_in arguments.now)) }
 {
     let aborts = given.value(OptionKey::Abort).is_some();
@@ -40,7 +81,7 @@ pub fn pvmove(alloc: Global, given: &GivenOptions, arguments: &[&[u8]]) -> Meant
     }
 }
 
-pub fn vgcreate(alloc: Global, given: &GivenOptions, arguments: &[&[u8]]) -> Meant
+fn vgcreate(alloc: Global, given: &GivenOptions, arguments: &[&[u8]]) -> Meant
     ensures { IfOk result (λ command. command ≡ vgcreate (given_by given.now) (words_in arguments.now)) }
 {
     match arguments {
@@ -55,7 +96,7 @@ pub fn vgcreate(alloc: Global, given: &GivenOptions, arguments: &[&[u8]]) -> Mea
     }
 }
 
-pub fn lvcreate(alloc: Global, given: &GivenOptions, arguments: &[&[u8]]) -> Meant
+fn lvcreate(alloc: Global, given: &GivenOptions, arguments: &[&[u8]]) -> Meant
     ensures { IfOk result (λ command. command ≡ lvcreate (given_by given.now) (words_in arguments.now)) }
 {
     match arguments {
@@ -97,7 +138,7 @@ fn new_volume(alloc: Global, given: &GivenOptions, vg: &[u8], pvs: &[&[u8]]) -> 
     })))
 }
 
-pub fn lvextend(alloc: Global, given: &GivenOptions, arguments: &[&[u8]]) -> Meant
+fn lvextend(alloc: Global, given: &GivenOptions, arguments: &[&[u8]]) -> Meant
     ensures { IfOk result (λ command. command ≡ lvextend (given_by given.now) (words_in arguments.now)) }
 {
     let [word, pvs @ ..] = arguments else {
@@ -116,7 +157,7 @@ pub fn lvextend(alloc: Global, given: &GivenOptions, arguments: &[&[u8]]) -> Mea
     }
 }
 
-pub fn lvreduce(alloc: Global, given: &GivenOptions, arguments: &[&[u8]]) -> Meant
+fn lvreduce(alloc: Global, given: &GivenOptions, arguments: &[&[u8]]) -> Meant
     ensures { IfOk result (λ command. command ≡ lvreduce (given_by given.now) (words_in arguments.now)) }
 {
     let Some(amount) = given.amount() else {
@@ -128,7 +169,7 @@ pub fn lvreduce(alloc: Global, given: &GivenOptions, arguments: &[&[u8]]) -> Mea
     }
 }
 
-pub fn vgextend(alloc: Global, arguments: &[&[u8]]) -> Meant
+fn vgextend(alloc: Global, arguments: &[&[u8]]) -> Meant
     ensures { IfOk result (λ command. command ≡ vgextend (words_in arguments.now)) }
 {
     match arguments {
@@ -140,7 +181,7 @@ pub fn vgextend(alloc: Global, arguments: &[&[u8]]) -> Meant
     }
 }
 
-pub fn vgreduce(alloc: Global, arguments: &[&[u8]]) -> Meant
+fn vgreduce(alloc: Global, arguments: &[&[u8]]) -> Meant
     ensures { IfOk result (λ command. command ≡ vgreduce (words_in arguments.now)) }
 {
     match arguments {
@@ -152,7 +193,7 @@ pub fn vgreduce(alloc: Global, arguments: &[&[u8]]) -> Meant
     }
 }
 
-pub fn vgrename(alloc: Global, arguments: &[&[u8]]) -> Meant
+fn vgrename(alloc: Global, arguments: &[&[u8]]) -> Meant
     ensures { IfOk result (λ command. command ≡ vgrename (words_in arguments.now)) }
 {
     match arguments {
@@ -164,7 +205,7 @@ pub fn vgrename(alloc: Global, arguments: &[&[u8]]) -> Meant
     }
 }
 
-pub fn lvrename(alloc: Global, arguments: &[&[u8]]) -> Meant
+fn lvrename(alloc: Global, arguments: &[&[u8]]) -> Meant
     ensures { IfOk result (λ command. command ≡ lvrename (words_in arguments.now)) }
 {
     match arguments {
@@ -197,7 +238,7 @@ fn one_path(alloc: Global, arguments: &[&[u8]]) -> Result<Option<Path>, AllocErr
     }
 }
 
-pub fn pvck(alloc: Global, arguments: &[&[u8]]) -> Meant
+fn pvck(alloc: Global, arguments: &[&[u8]]) -> Meant
     ensures { IfOk result (λ command. command ≡ option_map Pvck (one_word (words_in arguments.now))) }
 {
     match one_word(alloc, arguments)? {
@@ -206,7 +247,7 @@ pub fn pvck(alloc: Global, arguments: &[&[u8]]) -> Meant
     }
 }
 
-pub fn vgremove(alloc: Global, arguments: &[&[u8]]) -> Meant
+fn vgremove(alloc: Global, arguments: &[&[u8]]) -> Meant
     ensures { IfOk result (λ command. command ≡ option_map Vgremove (one_word (words_in arguments.now))) }
 {
     match one_word(alloc, arguments)? {
@@ -215,7 +256,7 @@ pub fn vgremove(alloc: Global, arguments: &[&[u8]]) -> Meant
     }
 }
 
-pub fn vgcfgbackup(alloc: Global, arguments: &[&[u8]]) -> Meant
+fn vgcfgbackup(alloc: Global, arguments: &[&[u8]]) -> Meant
     ensures { IfOk result (λ command. command ≡ option_map Vgcfgbackup (one_word (words_in arguments.now))) }
 {
     match one_word(alloc, arguments)? {
@@ -224,7 +265,7 @@ pub fn vgcfgbackup(alloc: Global, arguments: &[&[u8]]) -> Meant
     }
 }
 
-pub fn lvremove(alloc: Global, arguments: &[&[u8]]) -> Meant
+fn lvremove(alloc: Global, arguments: &[&[u8]]) -> Meant
     ensures { IfOk result (λ command. command ≡ option_map Lvremove (one_path (words_in arguments.now))) }
 {
     match one_path(alloc, arguments)? {
@@ -233,7 +274,7 @@ pub fn lvremove(alloc: Global, arguments: &[&[u8]]) -> Meant
     }
 }
 
-pub fn resync(alloc: Global, arguments: &[&[u8]]) -> Meant
+fn resync(alloc: Global, arguments: &[&[u8]]) -> Meant
     ensures { IfOk result (λ command. command ≡ option_map Resync (one_path (words_in arguments.now))) }
 {
     match one_path(alloc, arguments)? {
@@ -242,7 +283,7 @@ pub fn resync(alloc: Global, arguments: &[&[u8]]) -> Meant
     }
 }
 
-pub fn vgcfgrestore(alloc: Global, arguments: &[&[u8]]) -> Meant
+fn vgcfgrestore(alloc: Global, arguments: &[&[u8]]) -> Meant
     ensures { IfOk result (λ command. command ≡ option_map (λ vg. Vgcfgrestore vg []) (one_word (words_in arguments.now))) }
 {
     match one_word(alloc, arguments)? {
@@ -254,8 +295,8 @@ pub fn vgcfgrestore(alloc: Global, arguments: &[&[u8]]) -> Meant
     }
 }
 
-/// This command, where there is no argument.
-pub fn alone(command: Command, arguments: &[&[u8]]) -> Option<Command>
+// This command, where there is no argument.
+fn alone(command: Command, arguments: &[&[u8]]) -> Option<Command>
     ensures { result ≡ alone command (words_in arguments.now) }
 {
     if arguments.is_empty() {
@@ -265,7 +306,7 @@ pub fn alone(command: Command, arguments: &[&[u8]]) -> Option<Command>
     }
 }
 
-pub fn read(alloc: Global, arguments: &[&[u8]]) -> Meant
+fn read(alloc: Global, arguments: &[&[u8]]) -> Meant
     ensures { IfOk result (λ command. command ≡ read_words (words_in arguments.now)) }
 {
     let [path, start, count] = arguments else {
@@ -277,7 +318,7 @@ pub fn read(alloc: Global, arguments: &[&[u8]]) -> Meant
     }
 }
 
-pub fn fill(alloc: Global, arguments: &[&[u8]]) -> Meant
+fn fill(alloc: Global, arguments: &[&[u8]]) -> Meant
     ensures { IfOk result (λ command. command ≡ fill_words (words_in arguments.now)) }
 {
     let [path, start, count, value] = arguments else {
@@ -301,7 +342,7 @@ pub fn fill(alloc: Global, arguments: &[&[u8]]) -> Meant
     }
 }
 
-pub fn write(alloc: Global, arguments: &[&[u8]]) -> Meant
+fn write(alloc: Global, arguments: &[&[u8]]) -> Meant
     ensures { IfOk result (λ command. command ≡ write_words (words_in arguments.now)) }
 {
     let [path, start, hex] = arguments else {

@@ -1,6 +1,6 @@
 //! The options of a command with their values.
 ghost use Rattle.std.specs.Prelude.{◌≡◌, find, is_some, option_map};
-ghost use Rattle.command_table.specs.Meaning.{amount_of, given_by, growth_by, growth_of, number, size};
+ghost use Rattle.command_table.specs.Given.{amount_of, given_by, growth_by, growth_of, number, size};
 ghost use Rattle.command_table.specs.Options.{is_key};
 
 use crate::values::{has_plus, number_of, size_of, without_plus};

@@ -6,7 +6,6 @@
 
 mod amount;
 mod command;
-mod command_name;
 mod commands;
 mod fault;
 mod given_options;
@@ -18,13 +17,11 @@ mod reading;
 mod refusal;
 mod request;
 mod role;
-mod synopsis;
 mod table;
 mod values;
 
 pub use amount::{Amount, Growth};
 pub use command::{Command, Moving, Names, NewVolume, Path};
-pub use command_name::CommandName;
 pub use fault::Fault;
 pub use given_options::GivenOptions;
 pub use kind::Kind;
@@ -34,5 +31,5 @@ pub use option_key::OptionKey;
 pub use reading::{Reading, has_key, option_named};
 pub use refusal::CommandRefusal;
 pub use request::Request;
-pub use table::OptionRow;
+pub use table::{CommandName, OptionRow};
 pub use values::{fault_in, is_disk_name};

@@ -1,57 +1,20 @@
 //! From the words to what they ask for.
 ghost use Rattle.std.specs.Prelude.{◌≡◌, ◌⊎◌, Err, IfErr, IfOk, Ok};
-ghost use Rattle.command_table.specs.Meaning.{command_by_name, command_of, demo, given_by, meaning_of, narrow, request_by_name, session, session_on, workers_in};
+ghost use Rattle.command_table.specs.Commands.{command_by_name};
+ghost use Rattle.command_table.specs.Given.{given_by};
+ghost use Rattle.command_table.specs.Meaning.{command_of, demo, meaning_of, narrow, request_by_name, session, session_on, workers_in};
 ghost use Rattle.command_table.specs.Options.{words_in};
 ghost use Rattle.command_table.specs.Words.{placed, read, read_by, split_by};
 
+use crate::commands::{command_by_name, one_word};
 use crate::given_options::GivenOptions;
 use crate::reading::Reading;
 use crate::refusal::CommandRefusal;
 use crate::values::number_of;
-use crate::{Command, CommandName, OptionKey, Request, commands};
+use crate::{Command, CommandName, OptionKey, Request};
 use lvm_name::{GroupName, NameRefusal};
 use sector_base::Text;
 use std::alloc::{AllocError, Global};
-
-/// The command of this name with these options and arguments. None where they are too few or too many or don't go together,
-/// and for a session and the demo.
-pub(crate) fn command_by_name(
-    alloc: Global,
-    name: CommandName,
-    given: &GivenOptions,
-    arguments: &[&[u8]],
-) -> Result<Option<Command>, AllocError>
-    ensures { IfOk result (λ command. command ≡ command_by_name name (given_by given.now) (words_in arguments.now)) }
-{
-    match name {
-        CommandName::Pvcreate => commands::pvcreate(alloc, given, arguments),
-        CommandName::Pvmove => commands::pvmove(alloc, given, arguments),
-        CommandName::Pvck => commands::pvck(alloc, arguments),
-        CommandName::Pvs => Ok(commands::alone(Command::Pvs, arguments)),
-        CommandName::Vgcreate => commands::vgcreate(alloc, given, arguments),
-        CommandName::Vgextend => commands::vgextend(alloc, arguments),
-        CommandName::Vgreduce => commands::vgreduce(alloc, arguments),
-        CommandName::Vgremove => commands::vgremove(alloc, arguments),
-        CommandName::Vgrename => commands::vgrename(alloc, arguments),
-        CommandName::Vgcfgbackup => commands::vgcfgbackup(alloc, arguments),
-        CommandName::Vgcfgrestore => commands::vgcfgrestore(alloc, arguments),
-        CommandName::Vgck => Ok(commands::alone(Command::Vgck, arguments)),
-        CommandName::Vgs => Ok(commands::alone(Command::Vgs, arguments)),
-        CommandName::Lvcreate => commands::lvcreate(alloc, given, arguments),
-        CommandName::Lvextend => commands::lvextend(alloc, given, arguments),
-        CommandName::Lvreduce => commands::lvreduce(alloc, given, arguments),
-        CommandName::Lvremove => commands::lvremove(alloc, arguments),
-        CommandName::Lvrename => commands::lvrename(alloc, arguments),
-        CommandName::Lvs => Ok(commands::alone(Command::Lvs, arguments)),
-        CommandName::Session | CommandName::Demo => Ok(None),
-        CommandName::Read => commands::read(alloc, arguments),
-        CommandName::Fill => commands::fill(alloc, arguments),
-        CommandName::Write => commands::write(alloc, arguments),
-        CommandName::List => Ok(commands::alone(Command::List, arguments)),
-        CommandName::Wait => Ok(commands::alone(Command::Wait, arguments)),
-        CommandName::Resync => commands::resync(alloc, arguments),
-    }
-}
 
 /// What the words of this name ask for, with these options and arguments, each of which is what it has to be. `None` is that
 /// they are too few or too many or don't go together. Only memory can be wanting.
@@ -80,7 +43,7 @@ fn session(
 ) -> Result<Option<Request>, AllocError>
     ensures { IfOk result (λ request. request ≡ session (given_by given.now) (words_in arguments.now)) }
 {
-    match commands::one_word(alloc, arguments)? {
+    match one_word(alloc, arguments)? {
         Some(vg) => session_on(alloc, workers_in(given), &vg),
         None => Ok(None),
     }

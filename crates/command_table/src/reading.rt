@@ -1,7 +1,7 @@
 //! Reading the words of a command from left to right.
 ghost use Rattle.std.specs.Prelude.{◌≡◌, OnOk};
 ghost use Rattle.command_table.specs.Words.{after_role, after_word, fault_of, first_fault, has_key, is_complete, nothing_read, option_named, read_by, role_of, role_of_row, split_by};
-ghost use Rattle.command_table.specs.Meaning.{given_by, value_in};
+ghost use Rattle.command_table.specs.Given.{given_by, value_in};
 ghost use Rattle.command_table.specs.Table.{options_of};
 
 use crate::given_options::GivenOptions;

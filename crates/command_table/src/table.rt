@@ -1,8 +1,71 @@
-//! The table of commands: the options and the arguments of each.
+//! The table of commands: the row of each, with its name, its words as a manual shows them, its options and its arguments.
 ghost use Rattle.std.specs.Prelude.{◌≡◌};
-ghost use Rattle.command_table.specs.Table.{argument_of, first_arguments, options_of, takes_disks};
+ghost use Rattle.command_table.specs.Table.{argument_of, command_named, commands, first_arguments, is_for_scripts, is_for_scripts_alone, is_for_words, options_of, spelling_of, takes_disks};
 
-use crate::{CommandName, Kind, OptionKey};
+use crate::{Kind, OptionKey};
+
+/// A command of the table.
+#[derive(Clone, Copy, Debug, PartialEq, Eq)]
+pub enum CommandName {
+    Pvcreate,
+    Pvmove,
+    Pvck,
+    Pvs,
+    Vgcreate,
+    Vgextend,
+    Vgreduce,
+    Vgremove,
+    Vgrename,
+    Vgcfgbackup,
+    Vgcfgrestore,
+    Vgck,
+    Vgs,
+    Lvcreate,
+    Lvextend,
+    Lvreduce,
+    Lvremove,
+    Lvrename,
+    Lvs,
+    Session,
+    Demo,
+    Read,
+    Fill,
+    Write,
+    List,
+    Wait,
+    Resync,
+}
+
+/// The commands, in the order in which they are listed to a user.
+static COMMANDS: [CommandName; 27] = [
+    CommandName::Pvcreate,
+    CommandName::Pvmove,
+    CommandName::Pvck,
+    CommandName::Pvs,
+    CommandName::Vgcreate,
+    CommandName::Vgextend,
+    CommandName::Vgreduce,
+    CommandName::Vgremove,
+    CommandName::Vgrename,
+    CommandName::Vgcfgbackup,
+    CommandName::Vgcfgrestore,
+    CommandName::Vgck,
+    CommandName::Vgs,
+    CommandName::Lvcreate,
+    CommandName::Lvextend,
+    CommandName::Lvreduce,
+    CommandName::Lvremove,
+    CommandName::Lvrename,
+    CommandName::Lvs,
+    CommandName::Session,
+    CommandName::Demo,
+    CommandName::Read,
+    CommandName::Fill,
+    CommandName::Write,
+    CommandName::List,
+    CommandName::Wait,
+    CommandName::Resync,
+];
 
 /// An option of a command, and what its value has to be.
 #[derive(Clone, Copy, Debug, PartialEq, Eq)]
@@ -134,55 +197,121 @@ static FILL: [Kind; 4] = [Kind::Path, ANY_NUMBER, Kind::Number(1, 128), ANY_NUMB
 
 static WRITE: [Kind; 3] = [Kind::Path, ANY_NUMBER, Kind::Hex];
 
+// What stands in the table of one command.
+#[derive(Clone, Copy)]
+struct CommandRow {
+    spelling: &'static str,
+    synopsis: &'static str,
+    options: &'static [OptionRow],
+    arguments: &'static [Kind],
+}
+
+fn row(
+    spelling: &'static str,
+    synopsis: &'static str,
+    options: &'static [OptionRow],
+    arguments: &'static [Kind],
+) -> CommandRow
+    ensures spelling { result.spelling.now ≡ spelling.now }
+    ensures options { result.options.now ≡ options.now }
+    ensures arguments { result.arguments.now ≡ arguments.now }
+{
+    CommandRow {
+        spelling,
+        synopsis,
+        options,
+        arguments,
+    }
+}
+
 impl CommandName {
+    /// All commands, in the order in which they are listed to a user.
+    pub fn all() -> &'static [CommandName]
+        ensures { result.now ≡ commands }
+    {
+        &COMMANDS
+    }
+
+    // Its row: the word that names it, the words that may follow, its options, and what its first arguments have to be.
+    fn row(self) -> CommandRow
+        ensures spelling { result.spelling.now ≡ spelling_of self }
+        ensures options { result.options.now ≡ options_of self }
+        ensures arguments { result.arguments.now ≡ first_arguments self }
+    {
+        match self {
+            CommandName::Pvcreate => row(
+                "pvcreate",
+                "[--metadatacopies 0|1] PV",
+                &PVCREATE,
+                &ONE_DISK,
+            ),
+            CommandName::Pvmove => row("pvmove", "[PV [PV ...] | --abort]", &PVMOVE, &NO_ARGUMENTS),
+            CommandName::Pvck => row("pvck", "PV", &NO_OPTIONS, &ONE_DISK),
+            CommandName::Pvs => row("pvs", "", &NO_OPTIONS, &NO_ARGUMENTS),
+            CommandName::Vgcreate => row(
+                "vgcreate",
+                "[-s SIZE] VG PV [PV ...]",
+                &VGCREATE,
+                &ONE_GROUP,
+            ),
+            CommandName::Vgextend => row("vgextend", "VG PV [PV ...]", &NO_OPTIONS, &ONE_GROUP),
+            CommandName::Vgreduce => row("vgreduce", "VG PV", &NO_OPTIONS, &GROUP_AND_DISK),
+            CommandName::Vgremove => row("vgremove", "VG", &NO_OPTIONS, &ONE_GROUP),
+            CommandName::Vgrename => row("vgrename", "VG NEW", &NO_OPTIONS, &GROUP_AND_NAME),
+            CommandName::Vgcfgbackup => row("vgcfgbackup", "VG", &NO_OPTIONS, &ONE_GROUP),
+            CommandName::Vgcfgrestore => row("vgcfgrestore", "VG", &NO_OPTIONS, &ONE_GROUP),
+            CommandName::Vgck => row("vgck", "", &NO_OPTIONS, &NO_ARGUMENTS),
+            CommandName::Vgs => row("vgs", "", &NO_OPTIONS, &NO_ARGUMENTS),
+            CommandName::Lvcreate => row(
+                "lvcreate",
+                "-n NAME (-l N | -L SIZE) [-i N [-I SIZE] | -m N] [--alloc contiguous|normal] VG [PV ...]",
+                &LVCREATE,
+                &ONE_GROUP,
+            ),
+            CommandName::Lvextend => row(
+                "lvextend",
+                "(-l [+]N | -L [+]SIZE) VG/LV [PV ...]",
+                &LVEXTEND,
+                &ONE_PATH,
+            ),
+            CommandName::Lvreduce => row(
+                "lvreduce",
+                "(-l N | -L SIZE) VG/LV",
+                &LVREDUCE,
+                &ONE_PATH,
+            ),
+            CommandName::Lvremove => row("lvremove", "VG/LV", &NO_OPTIONS, &ONE_PATH),
+            CommandName::Lvrename => row("lvrename", "VG OLD NEW", &NO_OPTIONS, &GROUP_AND_VOLUMES),
+            CommandName::Lvs => row("lvs", "", &NO_OPTIONS, &NO_ARGUMENTS),
+            CommandName::Session => row("session", "--workers W VG", &SESSION, &ONE_GROUP),
+            CommandName::Demo => row("demo", "SEED LINES WORKERS", &NO_OPTIONS, &DEMO),
+            CommandName::Read => row("read", "VG/LV START COUNT", &NO_OPTIONS, &READ),
+            CommandName::Fill => row("fill", "VG/LV START COUNT VALUE", &NO_OPTIONS, &FILL),
+            CommandName::Write => row("write", "VG/LV START HEX", &NO_OPTIONS, &WRITE),
+            CommandName::List => row("list", "", &NO_OPTIONS, &NO_ARGUMENTS),
+            CommandName::Wait => row("wait", "", &NO_OPTIONS, &NO_ARGUMENTS),
+            CommandName::Resync => row("resync", "VG/LV", &NO_OPTIONS, &ONE_PATH),
+        }
+    }
+
+    /// The word that names it.
+    pub fn spelling(self) -> &'static str
+        ensures { result.now ≡ spelling_of self }
+    {
+        self.row().spelling
+    }
+
+    /// The words that may follow its name, as a manual writes them: `[ ]` around words that may be left out, ` | ` between
+    /// words of which one is chosen, `( )` around those of which one is needed, `...` behind a word that may stand again.
+    pub fn synopsis(self) -> &'static str {
+        self.row().synopsis
+    }
+
     /// The options of the command.
     pub fn options(self) -> &'static [OptionRow]
         ensures { result.now ≡ options_of self }
     {
-        match self {
-            CommandName::Pvcreate => &PVCREATE,
-            CommandName::Pvmove => &PVMOVE,
-            CommandName::Vgcreate => &VGCREATE,
-            CommandName::Lvcreate => &LVCREATE,
-            CommandName::Lvextend => &LVEXTEND,
-            CommandName::Lvreduce => &LVREDUCE,
-            CommandName::Session => &SESSION,
-            _ => &NO_OPTIONS,
-        }
-    }
-
-    // What its first arguments have to be, by their places.
-    fn first_arguments(self) -> &'static [Kind]
-        ensures { result.now ≡ first_arguments self }
-    {
-        match self {
-            CommandName::Pvcreate | CommandName::Pvck => &ONE_DISK,
-            CommandName::Vgcreate
-            | CommandName::Vgextend
-            | CommandName::Vgremove
-            | CommandName::Vgcfgbackup
-            | CommandName::Vgcfgrestore
-            | CommandName::Lvcreate
-            | CommandName::Session => &ONE_GROUP,
-            CommandName::Vgreduce => &GROUP_AND_DISK,
-            CommandName::Vgrename => &GROUP_AND_NAME,
-            CommandName::Lvextend
-            | CommandName::Lvreduce
-            | CommandName::Lvremove
-            | CommandName::Resync => &ONE_PATH,
-            CommandName::Lvrename => &GROUP_AND_VOLUMES,
-            CommandName::Demo => &DEMO,
-            CommandName::Read => &READ,
-            CommandName::Fill => &FILL,
-            CommandName::Write => &WRITE,
-            CommandName::Pvmove
-            | CommandName::Pvs
-            | CommandName::Vgs
-            | CommandName::Vgck
-            | CommandName::Lvs
-            | CommandName::List
-            | CommandName::Wait => &NO_ARGUMENTS,
-        }
+        self.row().options
     }
 
     // Whether any number of disks may follow its first arguments.
@@ -203,10 +332,61 @@ impl CommandName {
     pub fn argument(self, number: usize) -> Option<Kind>
         ensures { result ≡ argument_of self number }
     {
-        match self.first_arguments().get(number) {
+        match self.row().arguments.get(number) {
             Some(kind) => Some(*kind),
             None if self.takes_disks() => Some(Kind::Disk),
             None => None,
         }
+    }
+
+    /// Whether it stands in scripts.
+    pub fn is_for_scripts(self) -> bool
+        ensures { result ≡ is_for_scripts self }
+    {
+        match self {
+            CommandName::Pvcreate
+            | CommandName::Pvmove
+            | CommandName::Vgextend
+            | CommandName::Vgreduce
+            | CommandName::Vgrename
+            | CommandName::Lvcreate
+            | CommandName::Lvextend
+            | CommandName::Lvreduce
+            | CommandName::Lvremove
+            | CommandName::Lvrename => true,
+            _ => self.is_for_scripts_alone(),
+        }
+    }
+
+    /// Whether it stands on the command line.
+    pub fn is_for_words(self) -> bool
+        ensures { result ≡ is_for_words self }
+    {
+        !self.is_for_scripts_alone()
+    }
+
+    // Whether it stands in scripts alone.
+    fn is_for_scripts_alone(self) -> bool
+        ensures { result ≡ is_for_scripts_alone self }
+    {
+        matches!(
+            self,
+            CommandName::Read
+                | CommandName::Fill
+                | CommandName::Write
+                | CommandName::List
+                | CommandName::Wait
+                | CommandName::Resync
+        )
+    }
+
+    /// The command that a word names.
+    pub fn named(word: &[u8]) -> Option<CommandName>
+        ensures { result ≡ command_named word.now }
+    {
+        COMMANDS
+            .iter()
+            .copied()
+            .find(|name| name.spelling().as_bytes() == word)
     }
 }

@@ -15,6 +15,7 @@ use Rattle.command_table.specs.declared.command.Command.TheVariants.{Lvcreate, L
 use Rattle.command_table.specs.declared.command.Command.TheVariants.{Vgcfgrestore, Vgcreate, Vgextend, Vgreduce, Vgremove}
 use Rattle.command_table.specs.declared.command.NewVolume.{NewVolume}
 use Rattle.command_table.specs.declared.command.Path.{Path}
+use Rattle.command_table.specs.Commands.{CommandKind, NextVersion, VolumeAdded, kind_of}
 use Rattle.line_answers.specs.declared.op_refusal.OpRefusal.{OpRefusal}
 use Rattle.line_answers.specs.declared.op_refusal.OpRefusal.TheVariants.{UnknownGroup, UnknownVolume}
 use Rattle.meta_model.specs.Standing.{HasTree}
@@ -31,13 +32,14 @@ use Rattle.group_edits.proofs.Shortened.{shortened_whole}
 use Rattle.group_edits.proofs.Visible.{named_is_visible}
 use Rattle.group_edits.proofs.Whole.{IsWhole}
 use Rattle.group_edits.specs.LongerVolume.{MayGrow, longer_volume}
+use Rattle.group_edits.specs.NextVersion.{next_version}
 use Rattle.group_edits.specs.RenamedGroup.{renamed_group}
 use Rattle.group_edits.specs.RenamedVolume.{renamed_volume}
 use Rattle.group_edits.specs.Removing.{without_volume}
 use Rattle.group_edits.specs.ShortenedVolume.{MayKeep, kept_of}
 use Rattle.group_edits.specs.Visible.{visible_named}
 use Rattle.group_plan.proofs.Chained.{back_passes, front_passes, none_both}
-use Rattle.group_plan.proofs.Rows.{none_holds, seqno_left}
+use Rattle.group_plan.proofs.Rows.{seqno_left}
 use Rattle.group_plan.specs.Added.{added_of}
 use Rattle.group_plan.specs.Committing.{length_row, named_rows, no_area_row, no_change, version_change, zeroing_change}
 use Rattle.group_plan.specs.Judging.{first_refusal}
@@ -45,20 +47,22 @@ use Rattle.group_plan.specs.NewGroup.{change_with, extended}
 use Rattle.group_plan.specs.State.{IsState}
 use Rattle.group_plan.specs.declared.state.Change.{Change}
 use Rattle.group_plan.specs.declared.state.GroupState.{GroupState}
+use Rattle.vg_plans.proofs.PassedRows as vg_rows
 use Rattle.vg_plans.specs.Vgrename.{rename_rows}
 use Rattle.lv_plans.proofs.CreatedVolume.{Creates, creates}
 use Rattle.lv_plans.proofs.Extending.{few_segments, grows_by}
+use Rattle.lv_plans.proofs.PassedRows.{growth_passes, lengthen_passes, reduce_passes, remove_passes, rename_passes}
 use Rattle.lv_plans.proofs.Reducing.{may_be_cut, some_extents}
 use Rattle.lv_plans.proofs.RowsOnVolume.{name_free, not_locked}
-use Rattle.lv_plans.specs.Allocating.{Takes}
+use Rattle.lv_plans.specs.Allocating.{Takes, space_row}
 use Rattle.lv_plans.specs.Lvcreate.{create_change, created_group, lvcreate_change, zeroed_at}
-use Rattle.lv_plans.specs.Lvextend.{extend_asks, extend_in_rows, extend_lv_rows, lengthen_rows, volume_asks}
+use Rattle.lv_plans.specs.Lvextend.{extend_asks, extend_in_rows, extend_lv_rows, growth_rows, lengthen_rows, more_for, volume_asks}
 use Rattle.lv_plans.specs.Lvreduce.{reduce_change, reduce_in_rows, reduce_lv_rows, reduced_group}
 use Rattle.lv_plans.specs.Lvremove.{remove_change, remove_in_rows, remove_lv_rows}
 use Rattle.lv_plans.specs.Lvrename.{rename_in_rows, rename_lv_rows}
 use Rattle.lv_plans.specs.Sizes.{IsAmount, IsGrowth, extents_for}
 use Rattle.lv_plans.specs.Volumes.{rows_on}
-use Rattle.group_ops.specs.Planning.{IsPlanned, asks_of, change_of, refusal_of}
+use Rattle.group_ops.specs.Planning.{IsPlanned, asks_of, change_of, refusal_of, zeroes}
 
 -- the change commits a next version of the group in force to its own disks
 pub record CommitsNext (state : GroupState) (change : Change) (now : ℕ) : Type 0 where
@@ -74,20 +78,15 @@ pub record CommitsNext (state : GroupState) (change : Change) (now : ℕ) : Type
   pub fits : length_row state next now ≡ None
   pub whole : IsState state → IsAccepted old → HasTree old → now < 2 ^ 48 → IsWhole next
 
+-- the kinds of commands of such lines
+abbrev pub kind_is_next : CommandKind → Bool
+kind_is_next (NextVersion difference) = true
+kind_is_next (VolumeAdded lv) = true
+kind_is_next _ = false
+
 -- the commands of such lines
 abbrev pub is_next : Command → Bool
-is_next (Vgrename vg new) = true
-is_next (Lvcreate new) = true
-is_next (Lvextend path growth pvs) = true
-is_next (Lvreduce path amount) = true
-is_next (Lvremove path) = true
-is_next (Lvrename vg old new) = true
-is_next _ = false
-
--- a command whose volume has sectors that are to hold zeros before its commit
-abbrev pub zeroes : Command → Bool
-zeroes (Lvcreate new) = true
-zeroes _ = false
+is_next command = kind_is_next (kind_of command)
 
 -- ---- all kinds
 
@@ -120,35 +119,44 @@ by_kind P kinds id command planned = absurd planned
 
 -- ---- no label, and no zeros
 
--- what holds where nothing changes, and of each version that is committed, holds of the change of each other such command
+-- a next version of the group, with this name and these logical volumes
+abbrev pub version_with : Group → List ℕ → List (List ℕ × Lv) → Group
+version_with group name lvs = record (next_version group) { name = name; lvs = lvs }
+
+-- what holds where nothing changes, and of each next version that is committed, holds of the change of each other such command
 module _ (state : GroupState) (Holds : Change → Type 0) (none : Holds (no_change state))
-    (made : (next : Group) → Holds (version_change state next)) where
-  version_holds : (next : Group → Group) (o : Option Group)
-      → Holds (option_map_or (λ (g : Group). version_change state (next g)) o (no_change state))
-  version_holds next None = none
-  version_holds next (Some group) = made (next group)
+    (made : (old : Group) → state.group ≡ Some old → (name : List ℕ) (lvs : List (List ℕ × Lv))
+    → Holds (version_change state (version_with old name lvs))) where
+  version_holds : (name : Group → List ℕ) (lvs : Group → List (List ℕ × Lv)) (o : Option Group) → state.group ≡ o
+      → Holds (option_map_or (λ (g : Group). version_change state (version_with g (name g) (lvs g))) o (no_change state))
+  version_holds name lvs None there = none
+  version_holds name lvs (Some group) there = made group there (name group) (lvs group)
 
-  volume_holds : (next : ℕ × Lv → Group) (o : Option (ℕ × Lv))
-      → Holds (option_map_or (λ (v : ℕ × Lv). version_change state (next v)) o (no_change state))
-  volume_holds next None = none
-  volume_holds next (Some v) = made (next v)
+  volume_holds : (group : Group) → state.group ≡ Some group → (lvs : ℕ × Lv → List (List ℕ × Lv)) (o : Option (ℕ × Lv))
+      → Holds (option_map_or (λ (v : ℕ × Lv). version_change state (version_with group group.name (lvs v))) o (no_change state))
+  volume_holds group there lvs None = none
+  volume_holds group there lvs (Some v) = made group there group.name (lvs v)
 
-  remove_holds : (name : List ℕ) (o : Option Group) → Holds (option_map_or (remove_change state name) o (no_change state))
-  remove_holds name None = none
-  remove_holds name (Some group) = volume_holds (λ v. without_volume group v.0) (visible_named group name)
+  remove_holds : (name : List ℕ) (o : Option Group) → state.group ≡ o
+      → Holds (option_map_or (remove_change state name) o (no_change state))
+  remove_holds name None there = none
+  remove_holds name (Some group) there = volume_holds group there (λ v. (without_volume group v.0).lvs) (visible_named group name)
 
-  reduce_holds : (name : List ℕ) (amount : Amount) (o : Option Group)
+  reduce_holds : (name : List ℕ) (amount : Amount) (o : Option Group) → state.group ≡ o
       → Holds (option_map_or (reduce_change state name amount) o (no_change state))
-  reduce_holds name amount None = none
-  reduce_holds name amount (Some group) = volume_holds (λ v. reduced_group name amount group v.1) (visible_named group name)
+  reduce_holds name amount None there = none
+  reduce_holds name amount (Some group) there =
+      volume_holds group there (λ v. (reduced_group name amount group v.1).lvs) (visible_named group name)
 
   pub next_holds : (number : ℕ) (id : Option (List ℕ)) (command : Command) (now : ℕ) (given : List Part) → is_next command ≡ true
       → zeroes command ≡ false → Holds (change_of state (record { number = number; id = id; command = command }) now given)
-  next_holds number id (Vgrename vg new) now given is other = version_holds (λ g. renamed_group g new) state.group
-  next_holds number id (Lvextend path growth pvs) now given is other = version_holds (longer_volume path.lv given) state.group
-  next_holds number id (Lvreduce path amount) now given is other = reduce_holds path.lv amount state.group
-  next_holds number id (Lvremove path) now given is other = remove_holds path.lv state.group
-  next_holds number id (Lvrename vg old new) now given is other = version_holds (renamed_volume old new) state.group
+  next_holds number id (Vgrename vg new) now given is other = version_holds (λ g. new) (λ g. g.lvs) state.group refl
+  next_holds number id (Lvextend path growth pvs) now given is other =
+      version_holds (λ g. g.name) (λ g. (longer_volume path.lv given g).lvs) state.group refl
+  next_holds number id (Lvreduce path amount) now given is other = reduce_holds path.lv amount state.group refl
+  next_holds number id (Lvremove path) now given is other = remove_holds path.lv state.group refl
+  next_holds number id (Lvrename vg old new) now given is other =
+      version_holds (λ g. g.name) (λ g. (renamed_volume old new g).lvs) state.group refl
   next_holds number id (Lvcreate new) now given is other = absurd (true≢false other)
   next_holds number id command now given is other = absurd cc
 
@@ -164,7 +172,7 @@ next_labels state number id command now given is = by (zeroes command) refl
   where
     by : (b : Bool) → zeroes command ≡ b
         → (change_of state (record { number = number; id = id; command = command }) now given).labels ≡ []
-    by false other = next_holds state (λ change. change.labels ≡ []) refl (λ next. refl) number id command now given is other
+    by false other = next_holds state (λ change. change.labels ≡ []) refl (λ old there name lvs. refl) number id command now given is other
     by true other = made command other
       where
         made : (command : Command) → zeroes command ≡ true
@@ -177,7 +185,7 @@ pub no_zero : (state : GroupState) (number : ℕ) (id : Option (List ℕ)) (comm
     → is_next command ≡ true → zeroes command ≡ false
     → (change_of state (record { number = number; id = id; command = command }) now given).zero ≡ []
 no_zero state number id command now given is other =
-    next_holds state (λ change. change.zero ≡ []) refl (λ next. refl) number id command now given is other
+    next_holds state (λ change. change.zero ≡ []) refl (λ old there name lvs. refl) number id command now given is other
 
 -- ---- what the rows say
 
@@ -186,7 +194,7 @@ rename_next : (state : GroupState) (vg new : List ℕ) (now : ℕ) → group_nam
     → CommitsNext state (option_map_or (λ (g : Group). version_change state (renamed_group g new)) o (no_change state)) now
 rename_next state vg new now named None there none = absurd cc
 rename_next state vg new now named (Some group) there none =
-    let rows = none_holds (rename_rows state vg new now group) none in
+    let rows = vg_rows.rename_passes state vg new now group none in
     record {
       old = group;
       there = there;
@@ -196,9 +204,9 @@ rename_next state vg new now named (Some group) there none =
       same_id = refl;
       next_seqno = refl;
       same_pvs = refl;
-      has_area = rows.1.1.1.0;
-      fits = rows.1.1.1.1.1.0;
-      whole = λ state_is accepted tree time. group_whole group new named (seqno_left group rows.1.1.1.1.0) accepted tree;
+      has_area = rows.has_area;
+      fits = rows.fits;
+      whole = λ state_is accepted tree time. group_whole group new named (seqno_left group rows.seqno) accepted tree;
     }
 
 -- a visible volume has the name, and its rows pass
@@ -213,11 +221,10 @@ remove_next : (state : GroupState) (path : Path) (now : ℕ) (o : Option Group) 
     → CommitsNext state (option_map_or (remove_change state path.lv) o (no_change state)) now
 remove_next state path now None there none = absurd cc
 remove_next state path now (Some group) there none =
-    let parts = none_holds (remove_in_rows state path now group) none in
     let seen =
     named_on group path.lv (remove_lv_rows state path.lv now group) (visible_named group path.lv) refl
     (front_passes (named_rows group path.vg) (rows_on group path.lv (remove_lv_rows state path.lv now group)) none) in
-    let rows = none_holds (remove_lv_rows state path.lv now group seen.0) seen.2 in
+    let rows = remove_passes state path.lv now group seen.0 seen.2 in
     record {
       old = group;
       there = there;
@@ -229,11 +236,11 @@ remove_next state path now (Some group) there none =
       same_id = refl;
       next_seqno = refl;
       same_pvs = refl;
-      has_area = rows.1.0;
-      fits = rows.1.1.1.0;
+      has_area = rows.has_area;
+      fits = rows.fits;
       whole =
           λ state_is accepted tree time. removed_whole group seen.0.0 (named_is_visible group path.lv seen.0 seen.1)
-          (not_locked group path.lv seen.0.0 rows.0) (seqno_left group rows.1.1.0) accepted tree;
+          (not_locked group path.lv seen.0.0 rows.unlocked) (seqno_left group rows.seqno) accepted tree;
     }
 
 reduce_next : (state : GroupState) (path : Path) (amount : Amount) (now : ℕ) → IsAmount amount → (o : Option Group) → state.group ≡ o
@@ -245,7 +252,7 @@ reduce_next state path amount now planned (Some group) there none =
     named_on group path.lv (reduce_lv_rows state path.lv amount now group) (visible_named group path.lv) refl
     (front_passes (named_rows group path.vg) (rows_on group path.lv (reduce_lv_rows state path.lv amount now group)) none)
     in
-    let rows = none_holds (reduce_lv_rows state path.lv amount now group seen.0) seen.2 in
+    let rows = reduce_passes state path.lv amount now group seen.0 seen.2 in
     let said : ℕ = extents_for group.extent_size amount in
     record {
       old = group;
@@ -258,15 +265,15 @@ reduce_next state path amount now planned (Some group) there none =
       same_id = refl;
       next_seqno = refl;
       same_pvs = refl;
-      has_area = rows.1.1.0;
-      fits = rows.1.1.1.1.1.0;
+      has_area = rows.has_area;
+      fits = rows.fits;
       whole = λ state_is accepted tree time.
           let least = (accepted Numbers).extent_size.0 in
           let some : 1 ≤ said = some_extents group.extent_size amount (omega (arith, least)) planned in
           shortened_whole group path.lv (kept_of seen.0.1.segments said)
           (subst (λ (o : Option (ℕ × Lv)). IsSomeAnd o (λ (v : ℕ × Lv). MayKeep (kept_of seen.0.1.segments said) v.1)) (sym seen.1)
-          (may_be_cut group accepted path.lv seen.0.0 seen.0.1 seen.1 said some rows.1.0 rows.1.1.1.0))
-          (seqno_left group rows.1.1.1.1.0) accepted tree;
+          (may_be_cut group accepted path.lv seen.0.0 seen.0.1 seen.1 said some rows.apart rows.shorter))
+          (seqno_left group rows.seqno) accepted tree;
     }
 
 create_next : (state : GroupState) (id : List ℕ) (new : NewVolume) (now : ℕ) (given : List Part) → Creates state id new now given
@@ -307,7 +314,15 @@ extend_next state path growth pvs now given planned (Some group) there takes non
     (back_passes (named_rows group path.vg) (rows_on group path.lv back) none)
     (back_passes (extend_lv_rows state path.lv growth pvs group seen.0) (lengthen_rows state path.lv now group given) seen.2))
     in
-    let rows = none_holds (extend_lv_rows state path.lv growth pvs group seen.0 ++ lengthen_rows state path.lv now group given) seen.2 in
+    let front = extend_lv_rows state path.lv growth pvs group seen.0 in
+    let rows =
+    growth_passes state path.lv growth pvs group seen.0.0 seen.0.1
+    (back_passes (growth_rows state path.lv growth pvs group seen.0)
+    (space_row state group (more_for state group growth pvs seen.0.1) ∷ []) (back_passes front (lengthen_rows state path.lv now group given)
+    seen.2))
+    in
+    let behind =
+    lengthen_passes state path.lv now group given (front_passes front (lengthen_rows state path.lv now group given) seen.2) in
     record {
       old = group;
       there = there;
@@ -317,14 +332,14 @@ extend_next state path growth pvs now given planned (Some group) there takes non
       same_id = refl;
       next_seqno = refl;
       same_pvs = refl;
-      has_area = rows.1.1.1.1.0;
-      fits = rows.1.1.1.1.1.1.1.1.1.0;
+      has_area = rows.has_area;
+      fits = behind.fits;
       whole = λ state_is accepted tree time.
           longer_whole group path.lv given
           (subst (λ (o : Option (ℕ × Lv)). IsSomeAnd o (λ (v : ℕ × Lv). MayGrow group v.1 given)) (sym seen.1)
-          (grows_by group accepted path.lv seen.0.0 seen.0.1 seen.1 state state_is there tree growth pvs given rows.1.1.1.0 taken.0
-          (few_segments group (length given) rows.1.1.1.1.1.1.1.1.0)))
-          (seqno_left group rows.1.1.1.1.1.1.0) accepted tree;
+          (grows_by group accepted path.lv seen.0.0 seen.0.1 seen.1 state state_is there tree growth pvs given rows.apart taken.0
+          (few_segments group (length given) behind.segments)))
+          rows.seqno accepted tree;
     }
 
 rename_lv_next : (state : GroupState) (vg old new : List ℕ) (now : ℕ) → volume_name_refusal new ≡ None → (o : Option Group)
@@ -335,7 +350,7 @@ rename_lv_next state vg old new now valid (Some group) there none =
     let seen =
     named_on group old (rename_lv_rows state old new now group) (visible_named group old) refl
     (front_passes (named_rows group vg) (rows_on group old (rename_lv_rows state old new now group)) none) in
-    let rows = none_holds (rename_lv_rows state old new now group seen.0) seen.2 in
+    let rows = rename_passes state old new now group seen.0 seen.2 in
     record {
       old = group;
       there = there;
@@ -345,11 +360,11 @@ rename_lv_next state vg old new now valid (Some group) there none =
       same_id = refl;
       next_seqno = refl;
       same_pvs = refl;
-      has_area = rows.1.1.0;
-      fits = rows.1.1.1.1.0;
+      has_area = rows.has_area;
+      fits = rows.fits;
       whole =
-          λ state_is accepted tree time. volume_whole group old new (ap is_some seen.1) (name_free group new rows.0) valid
-          (seqno_left group rows.1.1.1.0) accepted tree;
+          λ state_is accepted tree time. volume_whole group old new (ap is_some seen.1) (name_free group new rows.free) valid
+          (seqno_left group rows.seqno) accepted tree;
     }
 
 -- an id that was drawn

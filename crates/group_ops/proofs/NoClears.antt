@@ -5,7 +5,7 @@ use Rattle.std.specs.FinSet as set
 use Rattle.std.specs.Option.{option_map_or}
 use Rattle.std.proofs.lemmas.Bool.{true≢false}
 use Rattle.command_table.specs.declared.command.Command.{Command}
-use Rattle.command_table.specs.declared.command.Command.TheVariants.{Vgreduce, Vgremove}
+use Rattle.command_table.specs.Commands.{CommandKind, Leaving, Removal, kind_of}
 use Rattle.command_table.specs.declared.command.NewVolume.{NewVolume}
 use Rattle.meta_model.specs.declared.group.Group.{Group}
 use Rattle.extent_alloc.specs.declared.part.Part.{Part}
@@ -18,11 +18,15 @@ use Rattle.lv_plans.specs.Lvcreate.{create_change}
 use Rattle.group_ops.proofs.NextVersions.{next_holds, by_kind}
 use Rattle.group_ops.specs.Planning.{IsPlanned, change_of}
 
--- the commands whose lines clear disks
+-- the kinds of commands whose lines clear disks
+abbrev kind_clears : CommandKind → Bool
+kind_clears Leaving = true
+kind_clears Removal = true
+kind_clears _ = false
+
+-- the commands
 abbrev pub clears : Command → Bool
-clears (Vgreduce vg pv) = true
-clears (Vgremove vg) = true
-clears _ = false
+clears command = kind_clears (kind_of command)
 
 -- the change clears no disk
 abbrev pub ClearsNone : Change → Type 0
@@ -44,7 +48,7 @@ pub none_cleared : (state : GroupState) (number : ℕ) (id : Option (List ℕ)) 
 none_cleared state number id command now given planned other =
     by_kind (λ c. clears c ≡ false → ClearsNone (change_of state (record { number = number; id = id; command = c }) now given))
     (record {
-      next = λ c is no other. next_holds state ClearsNone refl (λ next. refl) number id c now given is no;
+      next = λ c is no other. next_holds state ClearsNone refl (λ old there name lvs. refl) number id c now given is no;
       new_volume = λ new other. create_clears state (unwrap_or id []) new now given state.group;
       new_pv = λ pv copies other. refl;
       new_group = λ vg extent_size pvs other. refl;

@@ -1,12 +1,11 @@
 -- The lines that zero no sector.
-use Rattle.std.proofs.Common.{◌≡◌, ℕ, false, List, [], Option, Some, None, Result, Ok, Err, refl, sym, subst}
+use Rattle.std.proofs.Common.{◌≡◌, ◌≢◌, ℕ, false, List, [], Option, Some, None, Result, Ok, Err, refl, sym, subst}
 use Rattle.std.specs.Prelude.{IfOk}
 use Rattle.std.specs.Option.{option_map_or}
 use Rattle.std.proofs.lemmas.Bool.{true≢false}
 use Rattle.command_table.specs.declared.command.Command.{Command}
-use Rattle.command_table.specs.declared.command.Command.TheVariants.{Lvextend}
-use Rattle.command_table.specs.declared.amount.Growth.{Growth}
-use Rattle.command_table.specs.declared.command.Path.{Path}
+use Rattle.command_table.specs.declared.command.Command.TheVariants.{Lvcreate}
+use Rattle.command_table.specs.declared.command.NewVolume.{NewVolume}
 use Rattle.line_answers.specs.declared.op_refusal.OpRefusal.{OpRefusal}
 use Rattle.lvm_script.specs.declared.line.Line.{Line}
 use Rattle.meta_model.specs.declared.group.Group.{Group}
@@ -24,12 +23,11 @@ use Rattle.vg_plans.proofs.Restoring.{restore_holds}
 use Rattle.vg_plans.specs.Vgcfgrestore.{vgcfgrestore_change}
 use Rattle.vg_plans.specs.Vgreduce.{leaving_change, reduce_change}
 use Rattle.lv_plans.specs.Allocating.{Asking, PlansWith}
-use Rattle.lv_plans.specs.Lvextend.{lvextend_asks, lvextend_change, lvextend_rows}
 use Rattle.lv_plans.proofs.GivenParts.{plans_within}
-use Rattle.group_ops.proofs.NextVersions.{no_zero, zeroes, by_kind}
-use Rattle.group_ops.specs.Planning.{IsPlanned, change_of, rows_of}
+use Rattle.group_ops.proofs.NextVersions.{no_zero, by_kind}
+use Rattle.group_ops.specs.Planning.{zeroes, IsPlanned, asks_of, change_of, rows_of}
 
-pub extend_none : (state : GroupState) (pvs : List (List ℕ)) (o : Option Group) → (extend_by state o pvs).zero ≡ []
+extend_none : (state : GroupState) (pvs : List (List ℕ)) (o : Option Group) → (extend_by state o pvs).zero ≡ []
 extend_none state pvs None = refl
 extend_none state pvs (Some group) = refl
 
@@ -38,12 +36,12 @@ leaving_none : (state : GroupState) (group : Group) (o : Option ℕ)
 leaving_none state group None = refl
 leaving_none state group (Some number) = refl
 
-pub leave_none : (state : GroupState) (name : List ℕ) (o : Option Group)
+leave_none : (state : GroupState) (name : List ℕ) (o : Option Group)
     → (option_map_or (reduce_change state name) o (no_change state)).zero ≡ []
 leave_none state name None = refl
 leave_none state name (Some group) = leaving_none state group (pv_named state name)
 
-pub restore_none : (state : GroupState) → (vgcfgrestore_change state).zero ≡ []
+restore_none : (state : GroupState) → (vgcfgrestore_change state).zero ≡ []
 restore_none state = restore_holds state (λ change. change.zero ≡ []) refl (λ disks next. refl)
 
 -- each command that can be planned, but lvcreate
@@ -63,24 +61,17 @@ none_zeroed state number id command now given planned other =
       restore = λ vg text other. restore_none state;
     }) id command planned other
 
+-- a command that isn't lvcreate
+pub adds_none : (command : Command) → ((new : NewVolume) → command ≢ Lvcreate new) → zeroes command ≡ false
+adds_none (Lvcreate new) other = absurd (other new refl)
+adds_none _ other = refl
+
 -- ---- plans
 
 -- and of one that zeroes nothing
 plans_none : (disks : List Disk) (rows : List (Option OpRefusal)) (wanted : Change) (result : Result Change PlanRefusal)
     → Plans rows wanted result → wanted.zero ≡ [] → IfOk result (λ change. AreWithin disks change.zero)
 plans_none disks rows wanted result plans none = plans_within disks rows wanted result plans (subst (AreWithin disks) (sym none) tt)
-
--- the line of a command that draws no id
-abbrev undrawn : Command → Line
-undrawn command = record { number = 0; id = None; command = command }
-
--- so of a command that takes no extents, and of one that takes some
-pub without_zeros : (state : GroupState) (command : Command) (now : ℕ) (result : Result Change PlanRefusal)
-    → (change_of state (undrawn command) now []).zero ≡ []
-    → Plans (rows_of state (undrawn command) now []) (change_of state (undrawn command) now []) result
-    → IfOk result (λ change. AreWithin state.disks change.zero)
-without_zeros state command now result none plans =
-    plans_none state.disks (rows_of state (undrawn command) now []) (change_of state (undrawn command) now []) result plans none
 
 module _ (disks : List Disk) (rows : List Part → List (Option OpRefusal)) (wanted : List Part → Change)
     (none : (given : List Part) → (wanted given).zero ≡ []) where
@@ -90,10 +81,10 @@ module _ (disks : List Disk) (rows : List Part → List (Option OpRefusal)) (wan
   plans_none_with (Some asking) (Ok change) plans = plans_none disks (rows plans.0) (wanted plans.0) (Ok change) plans.2 (none plans.0)
   plans_none_with (Some asking) (Err refusal) plans = tt
 
-pub extends_without_zeros : (state : GroupState) (path : Path) (growth : Growth) (pvs : List (List ℕ)) (now : ℕ)
-    (result : Result Change PlanRefusal) → PlansWith (lvextend_asks state path growth pvs) (lvextend_rows state path growth pvs now)
-    (lvextend_change state path.lv) result
+-- so of the line of each command but lvcreate
+pub zeroes_nothing : (state : GroupState) (line : Line) (now : ℕ) (result : Result Change PlanRefusal) → IsPlanned line.id line.command
+    → zeroes line.command ≡ false → PlansWith (asks_of state line) (rows_of state line now) (change_of state line now) result
     → IfOk result (λ change. AreWithin state.disks change.zero)
-extends_without_zeros state path growth pvs now result plans =
-    plans_none_with state.disks (lvextend_rows state path growth pvs now) (lvextend_change state path.lv)
-    (λ given. no_zero state 0 None (Lvextend path growth pvs) now given refl refl) (lvextend_asks state path growth pvs) result plans
+zeroes_nothing state line now result planned other plans =
+    plans_none_with state.disks (rows_of state line now) (change_of state line now)
+    (λ given. none_zeroed state line.number line.id line.command now given planned other) (asks_of state line) result plans

@@ -1,45 +1,38 @@
 -- The physical volumes of the group that a line gives lie well on their disks, where those of the group in force do.
-use Rattle.std.proofs.Common.{◌≡◌, ℕ, false, List, [], ◌∷◌, Option, Some, None, refl}
+use Rattle.std.proofs.Common.{◌≡◌, ℕ, true, false, List, [], ◌∷◌, Option, Some, None, refl, subst}
 use Rattle.std.specs.Prelude.{option_map, unwrap_or}
 use Rattle.std.specs.Option.{option_map_or}
 use Rattle.std.specs.List.{AllByRecursion as Each}
-use Rattle.command_table.specs.declared.amount.Amount.{Amount}
 use Rattle.command_table.specs.declared.command.Command.{Command}
 use Rattle.command_table.specs.declared.command.Command.TheVariants.{Pvcreate, Pvmove, Pvck, Pvs, Vgcreate, Vgextend, Vgreduce, Vgremove}
-use Rattle.command_table.specs.declared.command.Command.TheVariants.{Vgrename, Vgcfgbackup, Vgcfgrestore, Vgck, Vgs, Lvcreate, Lvextend}
-use Rattle.command_table.specs.declared.command.Command.TheVariants.{Lvreduce, Lvremove, Lvrename, Lvs, Read, Fill, Write}
+use Rattle.command_table.specs.declared.command.Command.TheVariants.{Vgcfgbackup, Vgcfgrestore, Vgck, Vgs, Lvcreate, Lvs, Read, Fill, Write}
 use Rattle.command_table.specs.declared.command.Command.TheVariants.{List as ListVolumes, Wait, Resync}
 use Rattle.command_table.specs.declared.command.NewVolume.{NewVolume}
 use Rattle.meta_model.specs.declared.group.Group.{Group}
-use Rattle.meta_model.specs.declared.lv.Lv.{Lv}
 use Rattle.extent_alloc.specs.declared.part.Part.{Part}
 use Rattle.scan_rules.specs.Decision.{Found as PvOf, Reading}
-use Rattle.vg_found.specs.Disks.{shapes}
-use Rattle.group_edits.specs.LongerVolume.{longer_volume}
+use Rattle.vg_found.specs.Disks.{disks_of, shapes}
 use Rattle.group_edits.specs.NextVersion.{next_version}
-use Rattle.group_edits.specs.RenamedGroup.{renamed_group}
-use Rattle.group_edits.specs.RenamedVolume.{renamed_volume}
-use Rattle.group_edits.specs.Removing.{without_volume}
-use Rattle.group_edits.specs.Visible.{visible_named}
+use Rattle.group_edits.specs.RestoredGroup.{restored_group}
+use Rattle.group_plan.proofs.Chained.{back_passes, front_passes}
 use Rattle.group_plan.proofs.PlacedVolumes.{IsPlacedOn, added_placed, none_misplaced}
-use Rattle.group_plan.specs.Committing.{no_change, version_change, rows_where_found}
+use Rattle.group_plan.specs.Committing.{length_row_on, named_rows, no_change, rows_where_found}
 use Rattle.group_plan.specs.State.{IsState}
 use Rattle.group_plan.specs.declared.state.GroupState.{GroupState}
-use Rattle.group_plan.proofs.Rows.{none_holds}
 use Rattle.group_plan.specs.Judging.{first_refusal}
 use Rattle.group_plan.specs.declared.backup.Backup.{Backup}
 use Rattle.group_plan.specs.declared.backup.Backup.TheVariants.{Broken, Sound, Unread}
 use Rattle.group_plan.specs.Members.{pv_named}
+use Rattle.vg_plans.proofs.PassedRows.{sound_passes}
 use Rattle.vg_plans.proofs.PlacedAgain.{reduced_placed, restored_placed}
 use Rattle.vg_plans.specs.Vgextend.{extend_by}
 use Rattle.vg_plans.specs.Vgcreate.{empty_group}
-use Rattle.vg_plans.specs.Vgcfgrestore.{backup_change, restore_rows}
+use Rattle.vg_plans.specs.Vgcfgrestore.{backup_change, restore_rows, sound_rows, sound_tests}
 use Rattle.vg_plans.specs.Vgreduce.{leaving_change, reduce_change as leave_change}
 use Rattle.lv_plans.specs.Lvcreate.{create_change}
-use Rattle.lv_plans.specs.Lvreduce.{reduce_change, reduced_group}
-use Rattle.lv_plans.specs.Lvremove.{remove_change}
+use Rattle.group_ops.proofs.NextVersions.{is_next, next_holds}
+use Rattle.group_ops.specs.Planning.{zeroes, change_of, refusal_of}
 use Rattle.group_ops.specs.Laws.{ArePlaced, ChangeIsPlaced}
-use Rattle.group_ops.specs.Planning.{change_of, refusal_of}
 
 empty_on : (id name : List ℕ) (extent_size : ℕ) (pv : Option PvOf) → unwrap_or (option_map (λ (found : PvOf). false) pv) false ≡ false
 empty_on id name extent_size None = refl
@@ -54,35 +47,13 @@ extend_placed : (state : GroupState) → IsState state → (group : Option Group
 extend_placed state is None names placed = tt
 extend_placed state is (Some group) names placed = added_placed state is (next_version group) names placed
 
--- a change that leaves the physical volumes as they are
-version_placed : (state : GroupState) (next : Group → Group)
-    → ((g : Group) → ArePlaced state.disks (Some g) → ArePlaced state.disks (Some (next g))) → (group : Option Group)
-    → ArePlaced state.disks group
-    → ArePlaced state.disks (option_map_or (λ (g : Group). version_change state (next g)) group (no_change state)).group
-version_placed state next keeps None placed = tt
-version_placed state next keeps (Some group) placed = keeps group placed
-
-without_placed : (state : GroupState) (group : Group) (volume : Option (ℕ × Lv)) → ArePlaced state.disks (Some group)
-    → ArePlaced state.disks (option_map_or (λ (v : ℕ × Lv). version_change state (without_volume group v.0)) volume (no_change state)).group
-without_placed state group None placed = tt
-without_placed state group (Some volume) placed = placed
-
-remove_placed : (state : GroupState) (name : List ℕ) (group : Option Group) → ArePlaced state.disks group
-    → ArePlaced state.disks (option_map_or (remove_change state name) group (no_change state)).group
-remove_placed state name None placed = tt
-remove_placed state name (Some group) placed = without_placed state group (visible_named group name) placed
-
-shortened_placed : (state : GroupState) (name : List ℕ) (amount : Amount) (group : Group) (volume : Option (ℕ × Lv))
-    → ArePlaced state.disks (Some group)
-    → ArePlaced state.disks (option_map_or (λ (v : ℕ × Lv). version_change state (reduced_group name amount group v.1)) volume
-    (no_change state)).group
-shortened_placed state name amount group None placed = tt
-shortened_placed state name amount group (Some volume) placed = placed
-
-reduce_placed : (state : GroupState) (name : List ℕ) (amount : Amount) (group : Option Group) → ArePlaced state.disks group
-    → ArePlaced state.disks (option_map_or (reduce_change state name amount) group (no_change state)).group
-reduce_placed state name amount None placed = tt
-reduce_placed state name amount (Some group) placed = shortened_placed state name amount group (visible_named group name) placed
+-- a next version of the group leaves the physical volumes as they are
+next_placed : (state : GroupState) (number : ℕ) (id : Option (List ℕ)) (command : Command) (now : ℕ) (given : List Part)
+    → ArePlaced state.disks state.group → is_next command ≡ true → zeroes command ≡ false
+    → ArePlaced state.disks (change_of state (record { number = number; id = id; command = command }) now given).group
+next_placed state number id command now given placed is other =
+    next_holds state (λ change. ArePlaced state.disks change.group) tt
+    (λ old there name lvs. subst (λ (o : Option Group). ArePlaced state.disks o) there placed) number id command now given is other
 
 create_placed : (state : GroupState) (id : List ℕ) (new : NewVolume) (now : ℕ) (given : List Part) (group : Option Group)
     → ArePlaced state.disks group
@@ -100,7 +71,11 @@ restore_placed state vg now (Some backup) None none = tt
 restore_placed state vg now (Some (Unread kind)) (Some found) none = tt
 restore_placed state vg now (Some (Broken said rule)) (Some found) none = tt
 restore_placed state vg now (Some (Sound said)) (Some found) none =
-    let rows = none_holds (restore_rows state vg (Sound said) now found) none in restored_placed found said state.disks rows.1.1.1.1.1.1.1.0
+    let rows = front_passes (named_rows found vg) (sound_rows state found said now) none in
+    let tests =
+    back_passes (sound_tests state found said)
+    (length_row_on state (disks_of said state.disks) (restored_group found said) now ∷ []) rows in
+    restored_placed found said state.disks (sound_passes state found said tests).shape
 
 leaving_placed : (state : GroupState) (group : Group) (number : Option ℕ) → ArePlaced state.disks (Some group)
     → ArePlaced state.disks (option_map_or (leaving_change state group) number (no_change state)).group
@@ -127,19 +102,11 @@ change_by state is number id (Pvck a) now given none placed = tt
 change_by state is number id Pvs now given none placed = tt
 change_by state is number id (Vgreduce vg pv) now given none placed = leave_placed state pv state.group placed
 change_by state is number id (Vgremove a) now given none placed = tt
-change_by state is number id (Vgrename vg new) now given none placed =
-    version_placed state (λ g. renamed_group g new) (λ g placed. placed) state.group placed
 change_by state is number id (Vgcfgbackup a) now given none placed = tt
 change_by state is number id (Vgcfgrestore vg text) now given none placed = restore_placed state vg now state.backup state.group none
 change_by state is number id Vgck now given none placed = tt
 change_by state is number id Vgs now given none placed = tt
 change_by state is number id (Lvcreate new) now given none placed = create_placed state (unwrap_or id []) new now given state.group placed
-change_by state is number id (Lvextend path growth pvs) now given none placed =
-    version_placed state (longer_volume path.lv given) (λ g placed. placed) state.group placed
-change_by state is number id (Lvreduce path amount) now given none placed = reduce_placed state path.lv amount state.group placed
-change_by state is number id (Lvremove path) now given none placed = remove_placed state path.lv state.group placed
-change_by state is number id (Lvrename vg old new) now given none placed =
-    version_placed state (renamed_volume old new) (λ g placed. placed) state.group placed
 change_by state is number id Lvs now given none placed = tt
 change_by state is number id (Read a b c) now given none placed = tt
 change_by state is number id (Fill a b c d) now given none placed = tt
@@ -147,6 +114,7 @@ change_by state is number id (Write a b c) now given none placed = tt
 change_by state is number id ListVolumes now given none placed = tt
 change_by state is number id Wait now given none placed = tt
 change_by state is number id (Resync a) now given none placed = tt
+change_by state is number id command now given none placed = next_placed state number id command now given placed refl refl
 
 -- where those of the group lie well, those of the change's group do
 pub change_is_placed : ChangeIsPlaced

@@ -1,10 +1,11 @@
 -- How a line is answered: by its first refusal, or by its change.
-use Rattle.std.specs.Prelude.{◌≡◌, ◌≤◌, ◌%◌, ◌^◌, ℕ, List, [], Option, None, unwrap_or, IsSomeAnd}
+use Rattle.std.specs.Prelude.{◌≡◌, ◌≤◌, ◌%◌, ◌^◌, ℕ, Bool, true, false, List, [], Option, None, unwrap_or, IsSomeAnd}
 use Rattle.lvm_id.specs.LvmId.{IsId}
 use Rattle.lvm_name.specs.Names.{group_name_refusal, volume_name_refusal}
 use Rattle.command_table.specs.declared.command.Command.{Command}
 use Rattle.command_table.specs.declared.command.Command.TheVariants.{Lvcreate, Lvextend, Lvreduce, Lvremove, Lvrename, Pvcreate}
 use Rattle.command_table.specs.declared.command.Command.TheVariants.{Vgcfgrestore, Vgcreate, Vgextend, Vgrename, Vgreduce, Vgremove}
+use Rattle.command_table.specs.Commands.{CommandKind, VolumeAdded, kind_of}
 use Rattle.line_answers.specs.declared.op_refusal.OpRefusal.{OpRefusal}
 use Rattle.lvm_script.specs.declared.line.Line.{Line}
 use Rattle.extent_alloc.specs.declared.part.Part.{Part}
@@ -50,6 +51,15 @@ IsPlanned id (Lvreduce path amount) = IsAmount amount
 IsPlanned id (Lvremove path) = Unit {0}
 IsPlanned id (Lvrename vg old new) = volume_name_refusal new ≡ None
 IsPlanned id _ = ⊥
+
+-- a kind of command whose volume has sectors that are to hold zeros before its commit
+abbrev pub kind_zeroes : CommandKind → Bool
+kind_zeroes (VolumeAdded lv) = true
+kind_zeroes _ = false
+
+-- such a command
+abbrev pub zeroes : Command → Bool
+zeroes command = kind_zeroes (kind_of command)
 
 -- what is known of the text of a line, where a group is restored from it, is what that gives
 abbrev pub IsBackupOf : Command → Option Backup → Type 0

@@ -1,10 +1,10 @@
 //! Judging a line.
-ghost use Rattle.std.specs.Prelude.{◌≡◌, ◌<◌, ◌^◌, [], IfOk, IsSomeAnd, unwrap_or};
+ghost use Rattle.std.specs.Prelude.{◌≡◌, ◌<◌, ◌^◌, [], IfOk, IsSomeAnd, false, unwrap_or};
 ghost use Rattle.lvm_id.specs.LvmId.{IsId};
 ghost use Rattle.group_plan.specs.State.{IsState};
 ghost use Rattle.group_plan.specs.Zeroing.{AreWithin};
 ghost use Rattle.lv_plans.specs.Allocating.{PlansWith};
-ghost use Rattle.group_ops.specs.Planning.{IsBackupOf, IsPlanned, asks_of, change_of, rows_of};
+ghost use Rattle.group_ops.specs.Planning.{IsBackupOf, IsPlanned, asks_of, change_of, rows_of, zeroes};
 
 use command_table::Command;
 use group_plan::{Change, GroupState, PlanRefusal};
@@ -32,6 +32,26 @@ pub fn plan(alloc: Global, state: &GroupState, line: &Line, now: u64) -> Result<
     ensures zeros { IfOk result (λ change. AreWithin state.now.disks change.zero) }
 {
     match &line.command {
+        Command::Lvcreate(new) => plan_lvcreate(alloc, state, &drawn(line.id), new, now),
+        _ => plan_others(alloc, state, line, now),
+    }
+}
+
+// The same of a line that creates no volume, and so zeroes nothing.
+fn plan_others(
+    alloc: Global,
+    state: &GroupState,
+    line: &Line,
+    now: u64,
+) -> Result<Change, PlanRefusal>
+    requires state { IsState state.now }
+    requires planned { IsPlanned line.now.id line.now.command }
+    requires others { zeroes line.now.command ≡ false }
+    requires backup { IsBackupOf line.now.command state.now.backup }
+    requires time { now < 2 ^ 48 }
+    ensures { PlansWith (asks_of state.now line.now) (rows_of state.now line.now now) (change_of state.now line.now now) result }
+{
+    match &line.command {
         Command::Pvcreate {
             pv,
             metadata_copies,
@@ -54,7 +74,6 @@ pub fn plan(alloc: Global, state: &GroupState, line: &Line, now: u64) -> Result<
         Command::Vgremove { vg } => plan_vgremove(alloc, state, vg),
         Command::Vgrename { vg, new } => plan_vgrename(alloc, state, vg, new, now),
         Command::Vgcfgrestore { vg, .. } => plan_vgcfgrestore(alloc, state, vg, now),
-        Command::Lvcreate(new) => plan_lvcreate(alloc, state, &drawn(line.id), new, now),
         Command::Lvextend { path, growth, pvs } => {
             plan_lvextend(alloc, state, path, *growth, pvs.as_slice(), now)
         }

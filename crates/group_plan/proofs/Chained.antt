@@ -65,3 +65,8 @@ pub back_passes : (front back : List (Option OpRefusal)) → first_refusal (fron
 back_passes [] back none = refl
 back_passes (None ∷ front) back none = back_passes front back none
 back_passes (Some refusal ∷ front) back none = absurd cc
+
+-- nor does the last one
+pub last_passes : (front : List (Option OpRefusal)) (last : Option OpRefusal) → first_refusal (front ++ last ∷ []) ≡ None → last ≡ None
+last_passes front None none = refl
+last_passes front (Some refusal) none = absurd (let last = front_passes front (Some refusal ∷ []) none in cc)

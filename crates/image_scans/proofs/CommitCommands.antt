@@ -6,7 +6,7 @@ use Rattle.std.specs.Ordering.{nat_cmp}
 use Rattle.std.specs.FinSet as set
 use Rattle.std.specs.List.{AllByRecursion as Each, remove}
 use Rattle.std.proofs.lemmas.List.Elements.{All-from_recursion, recursion_from_All}
-use Rattle.std.specs.Option.{option_map_or, option_or}
+use Rattle.std.specs.Option.{option_map_or}
 use Rattle.std.proofs.lemmas.Option.{same_Some}
 use Rattle.sector_base.specs.declared.spans.Span.{Span}
 use Rattle.lvm_id.specs.LvmId.{IsId}
@@ -29,17 +29,17 @@ use Rattle.group_edits.specs.ReducedGroup.{reduced_group}
 use Rattle.group_edits.specs.NextVersion.{next_version}
 use Rattle.group_plan.specs.Added.{added_of}
 use Rattle.group_plan.specs.Committing.{version_change_on}
-use Rattle.group_plan.specs.Judging.{first_refusal, set_of}
+use Rattle.group_plan.specs.Judging.{first_refusal, set_of, unknown_row}
 use Rattle.group_plan.specs.NewGroup.{change_with, extended, text_row}
 use Rattle.group_plan.specs.State.{IsState}
 use Rattle.group_plan.specs.declared.state.Change.{Change}
 use Rattle.group_plan.specs.declared.state.GroupState.{GroupState}
-use Rattle.group_plan.proofs.Rows.{none_holds}
+use Rattle.group_plan.proofs.Chained.{back_passes, front_passes}
 use Rattle.group_plan.specs.declared.backup.Backup.{Backup}
 use Rattle.vg_plans.proofs.Accepted.{created, next_is_whole}
 use Rattle.vg_plans.proofs.Leaving.{LeavesNext}
 use Rattle.vg_plans.specs.Vgcreate.{create_rows, empty_group, new_rows}
-use Rattle.vg_plans.specs.Vgextend.{extend_rows, found_rows}
+use Rattle.vg_plans.specs.Vgextend.{extend_rows, found_rows, group_rows}
 use Rattle.group_ops.proofs.NextVersions.{CommitsNext, version_is}
 use Rattle.group_ops.specs.Laws.{state_in}
 use Rattle.vg_change.proofs.Sound.{version_on}
@@ -55,16 +55,6 @@ pub record Commits (found : Found) (state : GroupState) (change : Change) : Type
   pub makes : MakesGroup state change group
   pub next : IsNext found.group group
 
--- ---- rows
-
-all_none : (rows : List (Option OpRefusal)) → Each (λ row. row ≡ None) rows → first_refusal rows ≡ None
-all_none [] all = refl
-all_none (row ∷ rows) all = ap (λ (o : Option OpRefusal). option_or o (first_refusal rows)) all.0 ∙ all_none rows all.1
-
-each_front : {X : Type 0} (P : X → Type 0) (xs ys : List X) → Each P (xs ++ ys) → Each P xs
-each_front P [] ys all = tt
-each_front P (x ∷ xs) ys all = (all.0, each_front P xs ys all.1)
-
 -- ---- vgcreate
 
 id_is : (id : Option (List ℕ)) → IsSomeAnd id IsId → IsId (unwrap_or id [])
@@ -74,10 +64,9 @@ id_is (Some id) is = is
 create_none : (state : GroupState) (base : Group) (names : List (List ℕ)) (now : ℕ) → first_refusal (new_rows state base names now) ≡ None
     → first_refusal (create_rows state base (added_of state names)) ≡ None
 create_none state base names now none =
-    let rows = none_holds (new_rows state base names now) none in
-    all_none (create_rows state base (added_of state names))
-    (each_front (λ row. row ≡ None) (create_rows state base (added_of state names))
-    (text_row state base [] (added_of state names) now ∷ []) rows.1)
+    let rows : List (Option OpRefusal) = create_rows state base (added_of state names) in
+    let last : List (Option OpRefusal) = text_row state base [] (added_of state names) now ∷ [] in
+    back_passes rows last (front_passes (unknown_row state names ∷ []) (rows ++ last) none)
 
 create_by : (state : GroupState) (base : Group) (names : List (List ℕ)) (now : ℕ) (o : Option Group)
     → first_refusal (option_map_or (λ (group : Group). Some (GroupStands group.name) ∷ []) o (new_rows state base names now)) ≡ None
@@ -126,10 +115,9 @@ extend_by state vg names now (Some group) none = (group, refl, none)
 extend_none : (state : GroupState) (vg : List ℕ) (names : List (List ℕ)) (now : ℕ) (group : Group)
     → first_refusal (found_rows state vg names now group) ≡ None → first_refusal (extend_rows state group (added_of state names)) ≡ None
 extend_none state vg names now group none =
-    let rows = none_holds (found_rows state vg names now group) none in
-    all_none (extend_rows state group (added_of state names))
-    (each_front (λ row. row ≡ None) (extend_rows state group (added_of state names))
-    (text_row state (next_version group) state.disk_of (added_of state names) now ∷ []) rows.1.1.1.1)
+    let rows : List (Option OpRefusal) = extend_rows state group (added_of state names) in
+    let last : List (Option OpRefusal) = text_row state (next_version group) state.disk_of (added_of state names) now ∷ [] in
+    back_passes rows last (front_passes (group_rows group vg ++ unknown_row state names ∷ []) (rows ++ last) none)
 
 pub none_missing_of : (found : Found) → HasShape found → FoundIsWhole found → (group : Group) → found.group ≡ Some group
     → missing_of (shapes found.disks) group.pvs ≡ []

@@ -1,6 +1,5 @@
 -- What a line makes: a version of the group, a new physical volume, or nothing.
-use Rattle.std.proofs.Common.{◌≡◌, ◌≤◌, ◌<◌, ℕ, ◌^◌, ◌||◌, nat_lt, true, false, List, [], ◌∷◌, Option, Some, None, refl, sym, ap, subst}
-use Rattle.std.proofs.Common.{◌∙◌}
+use Rattle.std.proofs.Common.{◌≡◌, ◌≤◌, ◌<◌, ℕ, ◌^◌, true, false, List, [], ◌∷◌, Option, Some, None, refl, sym, ap, subst, ◌∙◌}
 use Rattle.std.specs.Prelude.{IsSomeAnd, is_some, slice_get, unwrap_or}
 use Rattle.std.specs.Option.{option_map_or}
 use Rattle.std.proofs.lemmas.Bool.{ltb-false}
@@ -9,7 +8,7 @@ use Rattle.command_table.specs.Options.{number_named}
 use Rattle.command_table.specs.declared.command.Command.{Command}
 use Rattle.command_table.specs.declared.command.Command.TheVariants.{Lvcreate}
 use Rattle.line_answers.specs.declared.op_refusal.OpRefusal.{OpRefusal}
-use Rattle.line_answers.specs.declared.op_refusal.OpRefusal.TheVariants.{IdTaken, PvUsed, TooSmall, UnknownGroup, UnknownPv}
+use Rattle.line_answers.specs.declared.op_refusal.OpRefusal.TheVariants.{UnknownGroup, UnknownPv}
 use Rattle.lvm_script.specs.declared.line.Line.{Line}
 use Rattle.disk_model.specs.Steps.{Image}
 use Rattle.meta_model.specs.declared.group.Group.{Group}
@@ -24,10 +23,10 @@ use Rattle.group_plan.specs.Judging.{first_refusal, stands_on_disk}
 use Rattle.group_plan.specs.State.{IsState}
 use Rattle.group_plan.specs.declared.state.Change.{Change}
 use Rattle.group_plan.specs.declared.state.GroupState.{GroupState}
-use Rattle.group_plan.proofs.Rows.{none_holds, test_fails}
 use Rattle.group_plan.specs.declared.backup.Backup.{Backup}
 use Rattle.group_plan.specs.declared.backup.Backup.TheVariants.{Sound}
 use Rattle.group_plan.specs.Backup.{IsBackup}
+use Rattle.pv_plans.proofs.PassedRows.{disk_passes}
 use Rattle.pv_plans.specs.Pvcreate.{disk_rows, fewest_sectors, group_has, is_listed, new_label, pvcreate_change}
 use Rattle.vg_plans.proofs.Leaving.{leaves_next}
 use Rattle.vg_plans.specs.Vgextend.{extend_by, found_rows}
@@ -74,10 +73,8 @@ on_disk : (found : Found) (state : GroupState) (id name : List ℕ) (copies numb
     → change.labels ≡ option_map_or (λ disk. new_label id copies number disk ∷ []) o [] → LineMakes found state change
 on_disk found state id name copies number None there none change group labels = makes_nothing group labels
 on_disk found state id name copies number (Some disk) there none change group labels =
-    let rows = none_holds (disk_rows state id name number (Some disk)) none in
-    let ids =
-    both_false (group_has id state.group) (stands_on_disk id state.disks)
-    (test_fails (group_has id state.group || stands_on_disk id state.disks) (IdTaken id) rows.1.1.0) in
+    let rows = disk_passes state id name number disk none in
+    let ids = both_false (group_has id state.group) (stands_on_disk id state.disks) rows.own_id in
     makes_pv (record {
       none = group;
       number = number;
@@ -86,10 +83,8 @@ on_disk found state id name copies number (Some disk) there none change group la
       id = id;
       copies = copies;
       labels_is = labels;
-      unlisted = test_fails (is_listed state number) (PvUsed name) rows.0;
-      enough =
-          ltb-false disk.sectors fewest_sectors (test_fails (nat_lt disk.sectors fewest_sectors) (TooSmall disk.sectors fewest_sectors)
-          rows.1.0);
+      unlisted = rows.unlisted;
+      enough = ltb-false disk.sectors fewest_sectors rows.enough;
       not_in_group = ids.0;
       on_no_disk = ids.1;
     })

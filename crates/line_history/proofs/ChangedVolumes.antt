@@ -3,9 +3,8 @@ use Rattle.std.proofs.Common.{◌≡◌, ℕ, zero, suc, ◌+◌, ◌*◌, List,
 use Rattle.std.proofs.Common.{◌∙◌}
 use Rattle.std.specs.Prelude.{IfSome, IsSomeAnd, option_map, slice_get, slice_index, unwrap_or}
 use Rattle.std.specs.Option.{option_map_or}
-use Rattle.std.proofs.lemmas.Option.{same_Some}
+use Rattle.std.proofs.lemmas.Option.{same_Some, slice_get-map}
 use Rattle.std.specs.List.{remove}
-use Rattle.std.proofs.lemmas.Option.{slice_get-map}
 use Rattle.command_table.specs.declared.amount.Amount.{Amount}
 use Rattle.command_table.specs.declared.amount.Growth.{Growth}
 use Rattle.command_table.specs.declared.command.Command.{Command}
@@ -321,7 +320,7 @@ module _ (found : Found) (names : List (List ℕ)) (backup : Option Backup) wher
     extended_by path growth pvs given old there v seen =
         subst (λ (before : Option Version). ChangesVolumes (Lvextend path growth pvs) before
         (Some (on_disks (longer_volume path.lv given old)))) (sym (version_found old there))
-        (extend_changes path growth pvs given (was old) found.disk_of (accepted old there)
+        (extend_changes path.lv given (was old) found.disk_of (accepted old there)
         (same_disks old (longer_volume path.lv given old) there) (trees old there) v seen)
 
     -- vgcfgrestore: the volumes of its text
@@ -350,7 +349,7 @@ module _ (found : Found) (names : List (List ℕ)) (backup : Option Backup) wher
     created_by id new now given made =
         subst (λ (before : Option Version). ChangesVolumes (Lvcreate new) before
         (Some (on_disks (created_group id new now given made.old)))) (sym (version_found made.old made.there))
-        (create_changes new (new_lv id (kind_for new) given now) (was made.old) found.disk_of (accepted made.old made.there)
+        (create_changes new.lv (new_lv id (kind_for new) given now) (was made.old) found.disk_of (accepted made.old made.there)
         (same_disks made.old (created_group id new now given made.old) made.there) refl made.free)
 
     -- the rows of an lvextend on its volume

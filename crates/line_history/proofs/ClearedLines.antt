@@ -7,7 +7,7 @@ use Rattle.disk_model.specs.CrashValues.{IsImage}
 use Rattle.disk_model.specs.Moments.{at_moment}
 use Rattle.disk_model.specs.Steps.{Image, Record}
 use Rattle.meta_model.specs.declared.group.Group.{Group}
-use Rattle.group_ops.proofs.NextVersions.{zeroes}
+use Rattle.group_ops.specs.Planning.{zeroes}
 use Rattle.group_ops.proofs.NoClears.{clears}
 use Rattle.vg_repair.specs.Repaired.{repaired_of}
 use Rattle.image_scans.proofs.ClearScans.{clears_scan}

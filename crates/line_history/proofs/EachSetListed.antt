@@ -8,8 +8,7 @@ use Rattle.std.proofs.lemmas.Bool.{false_from_ne_true, true≢false}
 use Rattle.std.proofs.lemmas.List.Elements.{All-from_recursion}
 use Rattle.std.proofs.lemmas.Option.{same_Some}
 use Rattle.command_table.specs.declared.command.Command.{Command}
-use Rattle.command_table.specs.declared.command.Command.TheVariants.{Lvcreate, Lvextend, Lvreduce, Lvremove, Lvrename, Pvcreate}
-use Rattle.command_table.specs.declared.command.Command.TheVariants.{Vgcfgrestore, Vgcreate, Vgextend, Vgreduce, Vgremove, Vgrename}
+use Rattle.command_table.specs.declared.command.Command.TheVariants.{Lvcreate, Vgreduce}
 use Rattle.line_answers.specs.declared.op_refusal.OpRefusal.{OpRefusal}
 use Rattle.line_answers.specs.declared.op_refusal.OpRefusal.TheVariants.{GroupStands}
 use Rattle.lvm_script.specs.declared.line.Line.{Line}
@@ -37,7 +36,7 @@ use Rattle.vg_plans.proofs.Restoring.{Restores, restores}
 use Rattle.vg_plans.specs.Vgextend.{extend_by}
 use Rattle.vg_plans.specs.Vgcfgrestore.{vgcfgrestore_change, vgcfgrestore_rows}
 use Rattle.lv_plans.specs.Allocating.{Takes}
-use Rattle.group_ops.proofs.NextVersions.{append_nil, commits_next, is_next}
+use Rattle.group_ops.proofs.NextVersions.{append_nil, by_kind, commits_next, is_next}
 use Rattle.group_ops.specs.Laws.{state_in}
 use Rattle.group_ops.specs.Planning.{IsBackupOf, IsPlanned, asks_of, change_of, refusal_of}
 use Rattle.change_batches.proofs.DiskSets.{of_set}
@@ -137,29 +136,25 @@ module _ (found : Found) (names : List (List ℕ)) (backup : Option Backup) (sha
       → refusal_of state (record { number = number; id = id; command = command }) now given ≡ None
       → (group : Group) → (change_of state (record { number = number; id = id; command = command }) now given).group ≡ Some group
       → LosesNone (change_of state (record { number = number; id = id; command = command }) now given)
-  loses_by number id (Pvcreate pv copies) now given planned known takes passes group is = absurd cc
-  loses_by number id (Vgcreate vg extent_size pvs) now given planned known takes passes group is =
-      absurd (let e : ◌≡◌ {A = Option Group} (Some old) None = sym there ∙ none_found _ found.group passes in cc)
-  loses_by number id (Vgextend vg pvs) now given planned known takes passes group is = extends pvs found.group refl
-  loses_by number id (Vgreduce vg pv) now given planned known takes passes group is =
-      leaves (change_of state (record { number = number; id = id; command = Vgreduce vg pv }) now given) now
-      (leaves_next state vg pv now passes)
-  loses_by number id (Vgremove vg) now given planned known takes passes group is = absurd cc
-  loses_by number id (Vgcfgrestore vg text) now given planned known takes passes group is =
-      restored vg now passes (restores state vg now (some_backup vg text backup known) passes)
-  loses_by number id (Vgrename vg new) now given planned known takes passes group is =
-      next_loses number id (Vgrename vg new) now given planned refl takes passes
-  loses_by number id (Lvcreate new) now given planned known takes passes group is =
-      next_loses number id (Lvcreate new) now given planned refl takes passes
-  loses_by number id (Lvextend path growth pvs) now given planned known takes passes group is =
-      next_loses number id (Lvextend path growth pvs) now given planned refl takes passes
-  loses_by number id (Lvreduce path amount) now given planned known takes passes group is =
-      next_loses number id (Lvreduce path amount) now given planned refl takes passes
-  loses_by number id (Lvremove path) now given planned known takes passes group is =
-      next_loses number id (Lvremove path) now given planned refl takes passes
-  loses_by number id (Lvrename vg old_name new) now given planned known takes passes group is =
-      next_loses number id (Lvrename vg old_name new) now given planned refl takes passes
-  loses_by number id command now given planned known takes passes group is = absurd planned
+  loses_by number id command now given planned known takes passes group is =
+      by_kind (λ c. IsPlanned id c → IsBackupOf c backup → Takes (asks_of state (record { number = number; id = id; command = c })) given
+      → refusal_of state (record { number = number; id = id; command = c }) now given ≡ None
+      → (change_of state (record { number = number; id = id; command = c }) now given).group ≡ Some group
+      → LosesNone (change_of state (record { number = number; id = id; command = c }) now given))
+      (record {
+        next = λ c next other planned known takes passes is. next_loses number id c now given planned next takes passes;
+        new_volume = λ new planned known takes passes is. next_loses number id (Lvcreate new) now given planned refl takes passes;
+        new_pv = λ pv copies planned known takes passes is. absurd cc;
+        new_group = λ vg extent_size pvs planned known takes passes is.
+            absurd (let e : ◌≡◌ {A = Option Group} (Some old) None = sym there ∙ none_found _ found.group passes in cc);
+        joining = λ vg pvs planned known takes passes is. extends pvs found.group refl;
+        leaving = λ vg pv planned known takes passes is.
+            leaves (change_of state (record { number = number; id = id; command = Vgreduce vg pv }) now given) now
+            (leaves_next state vg pv now passes);
+        removal = λ vg planned known takes passes is. absurd cc;
+        restore = λ vg text planned known takes passes is.
+            restored vg now passes (restores state vg now (some_backup vg text backup known) passes);
+      }) id command planned planned known takes passes is
 
 -- ---- what a disk gave that isn't listed
 

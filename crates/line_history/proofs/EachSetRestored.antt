@@ -1,5 +1,5 @@
 -- The group of a text that takes the place of the one that was found lists each id that this lists.
-use Rattle.std.proofs.Common.{◌≡◌, ℕ, Bool, true, false, not, ◌||◌, cond, List, [], ◌∷◌, map, Option, Some, None, ⊎_elim, refl, subst}
+use Rattle.std.proofs.Common.{◌≡◌, ℕ, Bool, true, false, not, cond, List, [], ◌∷◌, map, Option, Some, None, ⊎_elim, refl, subst}
 use Rattle.std.specs.Prelude.{filter, is_some}
 use Rattle.std.specs.List.{list_any}
 use Rattle.std.specs.Option.{option_map_or}
@@ -14,13 +14,13 @@ use Rattle.vg_found.specs.Disks.{disks_of}
 use Rattle.group_edits.specs.RestoredGroup.{restored_group}
 use Rattle.group_plan.proofs.Chained.{back_passes, front_passes}
 use Rattle.group_plan.proofs.Passed.{both_false}
-use Rattle.group_plan.proofs.Rows.{none_holds, test_fails}
 use Rattle.group_plan.specs.Committing.{length_row_on, named_rows, rows_where_found}
 use Rattle.group_plan.specs.Ids.{has_pv_id}
 use Rattle.group_plan.specs.Judging.{first_refusal}
 use Rattle.group_plan.specs.declared.backup.Backup.{Backup}
 use Rattle.group_plan.specs.declared.backup.Backup.TheVariants.{Sound}
 use Rattle.group_plan.specs.declared.state.GroupState.{GroupState}
+use Rattle.vg_plans.proofs.PassedRows.{sound_passes}
 use Rattle.vg_plans.proofs.Restoring.{Restores}
 use Rattle.vg_plans.proofs.SoundBackup.{no_least, no_some}
 use Rattle.vg_plans.specs.Vgcfgrestore.{id_lacked, ids_lacked, least_of, restore_rows, sound_rows, sound_tests, vgcfgrestore_change}
@@ -65,9 +65,8 @@ module _ (state : GroupState) (vg : List ℕ) (now : ℕ) (made : Restores state
 
   pub still_listed : (id : List ℕ) → lists made.old id ≡ true → lists made.said id ≡ true
   still_listed id listed =
-      let rows = none_holds (sound_tests state made.old made.said) sound in
       let none =
       both_false (is_some (id_lacked made.old made.said)) (is_some (id_lacked made.said made.old))
-      (test_fails (is_some (id_lacked made.old made.said) || is_some (id_lacked made.said made.old)) _ rows.1.1.1.1.1.1.1.1.0)
+      (sound_passes state made.old made.said sound).same_pvs
       in
       none_lacked made.said id made.old.pvs (no_some (id_lacked made.said made.old) none.1) listed

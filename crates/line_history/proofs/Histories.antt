@@ -6,8 +6,8 @@ use Rattle.std.proofs.lemmas.Bool.{cases_lt, true≢false}
 use Rattle.sector_base.specs.declared.spans.Span.{Span}
 use Rattle.command_table.specs.Options.{Word}
 use Rattle.command_table.specs.declared.command.Command.{Command}
-use Rattle.command_table.specs.declared.command.Command.TheVariants.{Lvcreate, Lvextend, Lvreduce, Lvremove, Lvrename, Pvcreate}
-use Rattle.command_table.specs.declared.command.Command.TheVariants.{Vgcfgrestore, Vgcreate, Vgextend, Vgreduce, Vgremove, Vgrename}
+use Rattle.command_table.specs.declared.command.Command.TheVariants.{Vgremove, Read, Fill, Write, Wait}
+use Rattle.command_table.specs.Commands.{CommandKind, NextVersion, VolumeAdded, kind_of as command_kind}
 use Rattle.line_answers.specs.declared.answer.Answer.{Answer}
 use Rattle.line_answers.specs.declared.answer.Answer.TheVariants as answer
 use Rattle.line_answers.specs.declared.op_refusal.OpRefusal.{OpRefusal}
@@ -21,6 +21,7 @@ use Rattle.extent_alloc.specs.declared.part.Part.{Part}
 use Rattle.disk_batch.specs.InTurn.{Put, WritesInTurn}
 use Rattle.group_plan.specs.declared.state.GroupState.{GroupState}
 use Rattle.group_ops.proofs.NoClears.{clears}
+use Rattle.group_ops.proofs.NextVersions.{by_kind, is_next, kind_is_next}
 use Rattle.group_ops.specs.Laws.{state_in}
 use Rattle.group_ops.specs.Planning.{IsPlanned, change_of}
 use Rattle.change_batches.specs.Batches.{batch_if, zero_put}
@@ -28,10 +29,11 @@ use Rattle.vg_repair.proofs.RepairedSizes.{repaired_count}
 use Rattle.vg_repair.specs.Repaired.{repaired_of}
 use Rattle.image_scans.specs.Versions.{version_in}
 use Rattle.repair_scans.specs.Laws.{RepairedScans}
+use Rattle.volume_history.proofs.CommandKinds.{commit_says}
 use Rattle.volume_history.proofs.SingleLines.{done_commit, done_create, failed_create, fenced_commit, made_commit, no_line, undone_line}
 use Rattle.volume_history.specs.Chronicles.{ChronicleEntry, Origin, pending}
 use Rattle.volume_history.specs.Laws.{Tells}
-use Rattle.volume_history.specs.Commands.{created_disk, is_created_at, is_data, is_good, is_wait, may_say, removes}
+use Rattle.volume_history.specs.Commands.{created_disk, is_created_at, is_data, is_good, is_wait, kind_commits, may_say, removes}
 use Rattle.volume_history.specs.Runs.{journal_of, lines_of}
 use Rattle.volume_history.specs.Single.{LeavesAll, LeavesDisk, MayEnd as MayFollow, answered_entries, done_entries, made_entries}
 use Rattle.volume_history.specs.Single.{taken_entries}
@@ -53,36 +55,35 @@ use Rattle.line_history.specs.LineRun.{batches_in, clears_in, is_repaired, is_ze
 
 -- a line that can be planned reads and writes no sectors of a volume
 quiet_line : (id : Option (List ℕ)) (command : Command) → IsPlanned id command → is_data command ≡ false
-quiet_line id (Pvcreate pv copies) planned = refl
-quiet_line id (Vgcreate vg extent_size pvs) planned = refl
-quiet_line id (Vgextend vg pvs) planned = refl
-quiet_line id (Vgreduce vg pv) planned = refl
-quiet_line id (Vgremove vg) planned = refl
-quiet_line id (Vgcfgrestore vg text) planned = refl
-quiet_line id (Vgrename vg new) planned = refl
-quiet_line id (Lvcreate new) planned = refl
-quiet_line id (Lvextend path growth pvs) planned = refl
-quiet_line id (Lvreduce path amount) planned = refl
-quiet_line id (Lvremove path) planned = refl
-quiet_line id (Lvrename vg old new) planned = refl
-quiet_line id command planned = absurd planned
+quiet_line id (Read path start count) planned = absurd planned
+quiet_line id (Fill path start count value) planned = absurd planned
+quiet_line id (Write path start hex) planned = absurd planned
+quiet_line id _ planned = refl
+
+next_commits : (kind : CommandKind) → kind_is_next kind ≡ true → kind_commits kind ≡ true
+next_commits (NextVersion difference) is = refl
+next_commits (VolumeAdded lv) is = refl
+next_commits _ is = cc
+
+waits_not : (command : Command) → is_next command ≡ true → is_wait command ≡ false
+waits_not Wait is = cc
+waits_not _ is = refl
 
 -- what one may answer: a refusal, or that a disk failed
 planned_says : (id : Option (List ℕ)) (command : Command) (pv : ℕ) → IsPlanned id command
     → (is_wait command ≡ false) × (may_say command (answer.PvFailed pv) ≡ true)
-planned_says id (Pvcreate name copies) pv planned = (refl, refl)
-planned_says id (Vgcreate vg extent_size pvs) pv planned = (refl, refl)
-planned_says id (Vgextend vg pvs) pv planned = (refl, refl)
-planned_says id (Vgreduce vg gone) pv planned = (refl, refl)
-planned_says id (Vgremove vg) pv planned = (refl, refl)
-planned_says id (Vgcfgrestore vg text) pv planned = (refl, refl)
-planned_says id (Vgrename vg new) pv planned = (refl, refl)
-planned_says id (Lvcreate new) pv planned = (refl, refl)
-planned_says id (Lvextend path growth pvs) pv planned = (refl, refl)
-planned_says id (Lvreduce path amount) pv planned = (refl, refl)
-planned_says id (Lvremove path) pv planned = (refl, refl)
-planned_says id (Lvrename vg old new) pv planned = (refl, refl)
-planned_says id command pv planned = absurd planned
+planned_says id command pv planned =
+    by_kind (λ c. (is_wait c ≡ false) × (may_say c (answer.PvFailed pv) ≡ true))
+    (record {
+      next = λ c is other. (waits_not c is, (commit_says c pv (next_commits (command_kind c) is)).1);
+      new_volume = λ new. (refl, refl);
+      new_pv = λ name copies. (refl, refl);
+      new_group = λ vg extent_size pvs. (refl, refl);
+      joining = λ vg pvs. (refl, refl);
+      leaving = λ vg gone. (refl, refl);
+      removal = λ vg. (refl, refl);
+      restore = λ vg text. (refl, refl);
+    }) id command planned
 
 -- one that commits a group removes none
 keeps_group : (state : GroupState) (line : Line) (now : ℕ) (given : List Part) (group : Group)

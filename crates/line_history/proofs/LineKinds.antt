@@ -8,8 +8,7 @@ use Rattle.std.specs.Str.{bytes_eq}
 use Rattle.std.proofs.lemmas.Option.{same_Some}
 use Rattle.command_table.specs.Options.{Word, number_named}
 use Rattle.command_table.specs.declared.command.Command.{Command}
-use Rattle.command_table.specs.declared.command.Command.TheVariants.{Lvcreate, Lvextend, Lvreduce, Lvremove, Lvrename, Pvcreate}
-use Rattle.command_table.specs.declared.command.Command.TheVariants.{Vgcfgrestore, Vgcreate, Vgextend, Vgreduce, Vgremove, Vgrename}
+use Rattle.command_table.specs.declared.command.Command.TheVariants.{Lvcreate, Pvcreate, Vgextend, Vgremove}
 use Rattle.line_answers.specs.declared.op_refusal.OpRefusal.{OpRefusal}
 use Rattle.line_answers.specs.declared.op_refusal.OpRefusal.TheVariants.{UnknownGroup, UnknownPv}
 use Rattle.lvm_script.specs.declared.line.Line.{Line}
@@ -36,7 +35,7 @@ use Rattle.vg_plans.proofs.Restoring.{restores}
 use Rattle.vg_plans.specs.Vgextend.{extend_by, found_rows}
 use Rattle.vg_plans.specs.Vgcreate.{empty_group}
 use Rattle.lv_plans.specs.Allocating.{Takes}
-use Rattle.group_ops.proofs.NextVersions.{commits_next, is_next}
+use Rattle.group_ops.proofs.NextVersions.{by_kind, commits_next, is_next}
 use Rattle.group_ops.specs.Planning.{IsBackupOf, IsPlanned, asks_of, change_of, refusal_of}
 use Rattle.volume_history.proofs.Bits.{and_both, eq_to, lt_true}
 use Rattle.volume_history.specs.Commands.{created_disk, is_created_at, is_created_sector}
@@ -152,32 +151,27 @@ kind_by : (state : GroupState) → length state.names ≡ length state.disks
     → Takes (asks_of state (record { number = number; id = id; command = command })) given
     → refusal_of state (record { number = number; id = id; command = command }) now given ≡ None
     → Kind state.names command (change_of state (record { number = number; id = id; command = command }) now given)
-kind_by state many stand number id (Pvcreate pv copies) now given planned gives_back takes none =
-    create_kind state (unwrap_or id []) pv copies (number_named state.names pv) refl many stand none
-kind_by state many stand number id (Vgcreate vg extent_size pvs) now given planned gives_back takes none =
-    commits_group (extended (empty_group (unwrap_or id []) vg extent_size) (added_of state pvs)) refl
-kind_by state many stand number id (Vgextend vg pvs) now given planned gives_back takes none =
-    extend_kind state vg pvs now (Vgextend vg pvs) state.group none
-kind_by state many stand number id (Vgreduce vg pv) now given planned gives_back takes none =
-    let left = leaves_next state vg pv now none in
-    commits_group (without_pv left.old left.number) (ap (λ (c : Change). c.group) left.change_is)
-kind_by state many stand number id (Vgremove vg) now given planned gives_back takes none = removes_group vg refl refl refl refl
-kind_by state many stand number id (Vgcfgrestore vg text) now given planned gives_back takes none =
-    let made = restores state vg now (some_backup vg text state.backup gives_back) none in
-    commits_group (restored_group made.old made.said) (ap (λ (c : Change). c.group) made.change_is)
-kind_by state many stand number id (Vgrename vg new) now given planned gives_back takes none =
-    next_kind state number id (Vgrename vg new) now given planned refl takes none
-kind_by state many stand number id (Lvcreate new) now given planned gives_back takes none =
-    next_kind state number id (Lvcreate new) now given planned refl takes none
-kind_by state many stand number id (Lvextend path growth pvs) now given planned gives_back takes none =
-    next_kind state number id (Lvextend path growth pvs) now given planned refl takes none
-kind_by state many stand number id (Lvreduce path amount) now given planned gives_back takes none =
-    next_kind state number id (Lvreduce path amount) now given planned refl takes none
-kind_by state many stand number id (Lvremove path) now given planned gives_back takes none =
-    next_kind state number id (Lvremove path) now given planned refl takes none
-kind_by state many stand number id (Lvrename vg old new) now given planned gives_back takes none =
-    next_kind state number id (Lvrename vg old new) now given planned refl takes none
-kind_by state many stand number id command now given planned gives_back takes none = absurd planned
+kind_by state many stand number id command now given planned gives_back takes none =
+    by_kind (λ c. IsPlanned id c → IsBackupOf c state.backup
+    → Takes (asks_of state (record { number = number; id = id; command = c })) given
+    → refusal_of state (record { number = number; id = id; command = c }) now given ≡ None
+    → Kind state.names c (change_of state (record { number = number; id = id; command = c }) now given))
+    (record {
+      next = λ c next other planned gives_back takes none. next_kind state number id c now given planned next takes none;
+      new_volume = λ new planned gives_back takes none. next_kind state number id (Lvcreate new) now given planned refl takes none;
+      new_pv = λ pv copies planned gives_back takes none.
+          create_kind state (unwrap_or id []) pv copies (number_named state.names pv) refl many stand none;
+      new_group = λ vg extent_size pvs planned gives_back takes none.
+          commits_group (extended (empty_group (unwrap_or id []) vg extent_size) (added_of state pvs)) refl;
+      joining = λ vg pvs planned gives_back takes none. extend_kind state vg pvs now (Vgextend vg pvs) state.group none;
+      leaving = λ vg pv planned gives_back takes none.
+          let left = leaves_next state vg pv now none in
+          commits_group (without_pv left.old left.number) (ap (λ (c : Change). c.group) left.change_is);
+      removal = λ vg planned gives_back takes none. removes_group vg refl refl refl refl;
+      restore = λ vg text planned gives_back takes none.
+          let made = restores state vg now (some_backup vg text state.backup gives_back) none in
+          commits_group (restored_group made.old made.said) (ap (λ (c : Change). c.group) made.change_is);
+    }) id command planned planned gives_back takes none
 
 pub kind_of : (state : GroupState) → length state.names ≡ length state.disks
     → ((k : ℕ) (disk : Disk) → slice_get state.disks k ≡ Some disk → IsDisk k disk) → (line : Line) (now : ℕ) (given : List Part)

@@ -6,10 +6,7 @@ use Rattle.std.specs.Cmp.Lexicographic.{pointwise}
 use Rattle.std.specs.List.{range_with_len}
 use Rattle.std.proofs.lemmas.Bool.{true≢false}
 use Rattle.lvm_name.specs.Names.{is_among}
-use Rattle.command_table.specs.declared.amount.Growth.{Growth}
-use Rattle.command_table.specs.declared.command.Command.TheVariants.{Lvcreate, Lvextend}
-use Rattle.command_table.specs.declared.command.NewVolume.{NewVolume}
-use Rattle.command_table.specs.declared.command.Path.{Path}
+use Rattle.command_table.specs.Commands.{NextVersion, VolumeAdded, VolumeLonger}
 use Rattle.meta_model.specs.Standing.{HasTree}
 use Rattle.meta_model.specs.Tables.{names_of}
 use Rattle.meta_model.specs.declared.lv.Lv.{Lv}
@@ -25,7 +22,7 @@ use Rattle.group_edits.specs.LongerVolume.{last_kind, longer, longer_row, longer
 use Rattle.group_edits.specs.NewVolume.{with_volume}
 use Rattle.group_edits.specs.Visible.{visible_named}
 use Rattle.image_scans.specs.Versions.{Version}
-use Rattle.volume_history.specs.Changing.{ChangesVolumes, changed_named, grown_by, has_named}
+use Rattle.volume_history.specs.Changing.{KindChanges, changed_named, grown_by, has_named}
 use Rattle.volume_history.specs.Placed.{Place, PlacedVolume, place_of, placed_from, places_of, volumes_of}
 use Rattle.line_history.proofs.KeptVolumes.{KeepsDisks, all_stand, places_kept, volumes_from}
 use Rattle.line_history.proofs.NamedChanges.{Row, volumes_changed}
@@ -169,31 +166,31 @@ module _ (row : Row) (before : Version) (disk_of : List ℕ) where
       ∙ ap (λ (l : List PlacedVolume). l ++ new_placed ∷ [])
       (volumes_from before with_one accepted disks refl (primary_more row before.group) 0 before.group.lvs (all_stand before.group))
 
--- ---- what the commands make of the volumes
+-- ---- what is made of the volumes
 
--- lvextend
-pub extend_changes : (path : Path) (growth : Growth) (pvs : List (List ℕ)) (given : List Part) (before : Version) (disk_of : List ℕ)
+-- a longer volume
+pub extend_changes : (lv : List ℕ) (given : List Part) (before : Version) (disk_of : List ℕ)
     → IsAccepted before.group
-    → KeepsDisks before (record { group = longer_volume path.lv given before.group; disk_of = disk_of }) → HasTree before.group
-    → (v : ℕ × Lv) → visible_named before.group path.lv ≡ Some v
-    → ChangesVolumes (Lvextend path growth pvs) (Some before)
-    (Some (record { group = longer_volume path.lv given before.group; disk_of = disk_of }))
-extend_changes path growth pvs given before disk_of accepted disks tree v found = (
-  places_behind path.lv given before disk_of v.0 v.1,
-  volumes_longer path.lv given before disk_of accepted disks tree v found,
-  named_in before path.lv v found,
+    → KeepsDisks before (record { group = longer_volume lv given before.group; disk_of = disk_of }) → HasTree before.group
+    → (v : ℕ × Lv) → visible_named before.group lv ≡ Some v
+    → KindChanges (NextVersion (VolumeLonger lv)) (Some before)
+    (Some (record { group = longer_volume lv given before.group; disk_of = disk_of }))
+extend_changes lv given before disk_of accepted disks tree v found = (
+  places_behind lv given before disk_of v.0 v.1,
+  volumes_longer lv given before disk_of accepted disks tree v found,
+  named_in before lv v found,
   refl,
 )
 
--- lvcreate
-pub create_changes : (new : NewVolume) (lv : Lv) (before : Version) (disk_of : List ℕ) → IsAccepted before.group
-    → KeepsDisks before (record { group = with_volume (new.lv, lv) before.group; disk_of = disk_of })
-    → lv.status.visible ≡ true → is_among (names_of before.group.lvs) new.lv ≡ false
-    → ChangesVolumes (Lvcreate new) (Some before) (Some (record { group = with_volume (new.lv, lv) before.group; disk_of = disk_of }))
-create_changes new lv before disk_of accepted disks visible free = (
-  new_placed (new.lv, lv) before disk_of,
+-- a new volume
+pub create_changes : (name : List ℕ) (lv : Lv) (before : Version) (disk_of : List ℕ) → IsAccepted before.group
+    → KeepsDisks before (record { group = with_volume (name, lv) before.group; disk_of = disk_of })
+    → lv.status.visible ≡ true → is_among (names_of before.group.lvs) name ≡ false
+    → KindChanges (VolumeAdded name) (Some before) (Some (record { group = with_volume (name, lv) before.group; disk_of = disk_of }))
+create_changes name lv before disk_of accepted disks visible free = (
+  new_placed (name, lv) before disk_of,
   refl,
-  volumes_more (new.lv, lv) before disk_of accepted disks visible,
-  named_free before new.lv free,
+  volumes_more (name, lv) before disk_of accepted disks visible,
+  named_free before name free,
   refl,
 )

@@ -25,9 +25,8 @@ use Rattle.group_plan.proofs.Chained.{front_passes}
 use Rattle.group_plan.specs.Committing.{named_rows, rows_where_found}
 use Rattle.group_plan.specs.Judging.{first_refusal}
 use Rattle.vg_plans.specs.Vgremove.{remove_rows, volume_row}
-use Rattle.group_ops.proofs.NextVersions.{zeroes}
+use Rattle.group_ops.specs.Planning.{zeroes, change_of, refusal_of}
 use Rattle.group_ops.specs.Laws.{state_in}
-use Rattle.group_ops.specs.Planning.{change_of, refusal_of}
 use Rattle.change_batches.specs.Batches.{batch_if, zero_put}
 use Rattle.vg_change.specs.LineBatches.{batches_of}
 use Rattle.vg_repair.specs.Repaired.{repaired_of}

@@ -16,13 +16,14 @@ use Rattle.group_edits.proofs.New.{new_whole}
 use Rattle.group_edits.proofs.Whole.{IsWhole}
 use Rattle.group_edits.specs.NewVolume.{MayHave}
 use Rattle.group_plan.proofs.Chained.{back_passes, front_passes}
-use Rattle.group_plan.proofs.Rows.{none_holds, seqno_left}
+use Rattle.group_plan.proofs.Rows.{seqno_left}
 use Rattle.group_plan.specs.Committing.{length_row, no_area_row, no_change}
 use Rattle.group_plan.specs.Judging.{first_refusal}
 use Rattle.group_plan.specs.State.{IsState}
 use Rattle.group_plan.specs.declared.state.GroupState.{GroupState}
 use Rattle.lv_plans.proofs.Creating.{may_have}
 use Rattle.lv_plans.proofs.Extending.{few_segments}
+use Rattle.lv_plans.proofs.PassedRows.{add_passes, limits_pass, name_passes}
 use Rattle.lv_plans.proofs.RowsOnVolume.{name_free}
 use Rattle.lv_plans.specs.Allocating.{Takes, space_row}
 use Rattle.lv_plans.specs.Lvcreate.{IsNewVolume, add_rows, create_asks, create_change, create_in_rows, created_group, kind_for, limit_rows}
@@ -51,16 +52,15 @@ creates state id new now given is_id values (Some group) there takes none =
     back_passes (new_lv_rows state id new group) (add_rows state id new now group given) none in
     let both : first_refusal (names ++ limits) ≡ None =
     back_passes (names ++ limits) (space_row state group (want_for state group new) ∷ []) front in
-    let named = none_holds names (back_passes names limits both) in
     let limited : first_refusal limits ≡ None = front_passes names limits both in
-    let rows = none_holds limits limited in
+    let rows = limits_pass state id new group limited in
     let more =
-    none_holds (add_rows state id new now group given)
+    add_passes state id new now group given
     (front_passes (new_lv_rows state id new group) (add_rows state id new now group given) none) in
-    let free : is_among (names_of group.lvs) new.lv ≡ false = name_free group new.lv named.1.1.0 in
+    let free : is_among (names_of group.lvs) new.lv ≡ false = name_free group new.lv (name_passes state new group (back_passes names limits both)) in
     let may : IsState state → IsAccepted group → now < 2 ^ 48 → MayHave group id (kind_for new) given now =
     λ is accepted time. may_have state is group there accepted id new now values time given limited (takes front).0
-    (few_segments group (length given) more.0)
+    (few_segments group (length given) more.segments)
     in
     record {
       old = group;
@@ -68,10 +68,10 @@ creates state id new now given is_id values (Some group) there takes none =
       change_is =
           ap (λ (o : Option Group). option_map_or (λ (g : Group). create_change state id new now g given) o (no_change state)) there;
       free = free;
-      has_area = rows.0;
-      fits = more.1.0;
+      has_area = rows.has_area;
+      fits = more.fits;
       may = may;
       whole =
           λ is accepted tree time. new_whole group new.lv id (kind_for new) given now (may is accepted time) accepted free values.named
-          is_id (seqno_left group rows.1.1.1.0) tree;
+          is_id (seqno_left group rows.seqno) tree;
     }

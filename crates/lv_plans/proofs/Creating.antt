@@ -37,7 +37,7 @@ use Rattle.group_edits.specs.ShortenedVolume.{parts_of}
 use Rattle.group_plan.proofs.Passed.{each_both, ids_differ, not_same, both_false, few_enough}
 use Rattle.group_plan.proofs.Chained.{none_both, none_row, one_row, plans_back, refused_back, refused_front}
 use Rattle.group_plan.proofs.PlacedGroup.{lie_on_disks}
-use Rattle.group_plan.proofs.Rows.{none_holds, test_fails, seqno_left}
+use Rattle.group_plan.proofs.Rows.{test_fails, seqno_left}
 use Rattle.group_plan.specs.Committing.{length_row, zeroing_change}
 use Rattle.group_plan.specs.Ids.{has_any_id, has_lv_id, has_other_id, has_pv_id}
 use Rattle.group_plan.specs.Judging.{IsRefusedBy, first_refusal, stands_on_disk}
@@ -49,6 +49,7 @@ use Rattle.group_plan.specs.declared.refusal.PlanRefusal.{PlanRefusal}
 use Rattle.group_plan.specs.declared.state.Change.{Change}
 use Rattle.group_plan.specs.declared.state.GroupState.{GroupState}
 use Rattle.lv_plans.proofs.Extending.{few_segments}
+use Rattle.lv_plans.proofs.PassedRows.{limits_pass, name_passes}
 use Rattle.lv_plans.proofs.GivenParts.{few_parts, planned_given, refused_early}
 use Rattle.lv_plans.proofs.Reducing.{some_extents, some_parts}
 use Rattle.lv_plans.proofs.RowsOnVolume.{name_free}
@@ -143,11 +144,11 @@ pub may_have : (state : GroupState) → IsState state → (group : Group) → st
     → first_refusal (limit_rows state id new group) ≡ None → IsGiven group (want_for state group new) given
     → segments_in group + length given ≤ 16384 → MayHave group id (kind_for new) given now
 may_have state is group found accepted id new now values time given none takes few =
-    let rows = none_holds (limit_rows state id new group) none in
-    let count = few_enough 1024 group.max_lv (length group.lvs + 1) rows.1.1.0 in
-    let legs = can_have_legs group.extent_size new values rows.1.0 in
+    let rows = limits_pass state id new group none in
+    let count = few_enough 1024 group.max_lv (length group.lvs + 1) rows.count in
+    let legs = can_have_legs group.extent_size new values rows.stripes in
     record {
-      fresh = fresh_id state group id rows.1.1.1.1.0;
+      fresh = fresh_id state group id rows.own_id;
       count = legs_for new;
       legs = legs;
       laid = given_may group (want_for state group new) given takes;
@@ -197,13 +198,13 @@ found_begins found group name id kind given parts now same slice accepted may =
 module _ (state : GroupState) (found group : Group) (same : found ≡ group) (new : NewVolume) where
   pub free_name : first_refusal (name_rows state new found) ≡ None → is_among (names_of group.lvs) new.lv ≡ false
   free_name none =
-      name_free group new.lv (none_holds (name_rows state new group)
-      (subst (λ (g : Group). first_refusal (name_rows state new g) ≡ None) same none)).1.1.0
+      name_free group new.lv
+      (name_passes state new group (subst (λ (g : Group). first_refusal (name_rows state new g) ≡ None) same none))
 
   pub seqno_free : (id : List ℕ) → first_refusal (limit_rows state id new found) ≡ None → group.seqno ≢ 4294967295
   seqno_free id none =
-      seqno_left group (none_holds (limit_rows state id new group)
-      (subst (λ (g : Group). first_refusal (limit_rows state id new g) ≡ None) same none)).1.1.1.0
+      seqno_left group
+      (limits_pass state id new group (subst (λ (g : Group). first_refusal (limit_rows state id new g) ≡ None) same none)).seqno
 
   -- and what is given then
   module _ (is : IsState state) (there : state.group ≡ Some group) (accepted : IsAccepted group) (values : IsNewVolume new) (want : Request)

@@ -163,19 +163,7 @@ pub more_made : (on : set.FinSet nat_cmp) (want : Request) (count growth : ℕ) 
     → count ≡ growth → kind ≡ own → want ≡ more_on on growth kind
 more_made on want count growth own kind is counted same = is ∙ ap (λ (n : ℕ). more_on on n own) counted ∙ ap (more_on on growth) (sym same)
 
--- ---- what passes where none of the rows before the allocator's refuses
-
-pub record GrowthPasses (state : GroupState) (name : List ℕ) (growth : Growth) (group : Group) (number : ℕ) (lv : Lv) : Type 0 where
-  pub unlocked : locked_row group name number ≡ None
-  pub apart : layered_row name lv ≡ None
-  pub longer : longer_row group.extent_size lv growth ≡ None
-  pub seqno : group.seqno ≢ 4294967295
-
-pub growth_passes : (state : GroupState) (name : List ℕ) (growth : Growth) (pvs : List (List ℕ)) (group : Group) (number : ℕ) (lv : Lv)
-    → first_refusal (growth_rows state name growth pvs group (number, lv)) ≡ None → GrowthPasses state name growth group number lv
-growth_passes state name growth pvs group number lv none =
-    let rows = none_holds (growth_rows state name growth pvs group (number, lv)) none in
-    record { unlocked = rows.1.1.0; apart = rows.1.1.1.0; longer = rows.1.1.1.1.1.0; seqno = seqno_left group rows.1.1.1.1.1.1.0 }
+-- ---- what is asked for
 
 pub more_is : (state : GroupState) (found group : Group) (growth : Growth) (pvs : List (List ℕ)) (lv : Lv) (on : set.FinSet nat_cmp)
     (want : Request) → found ≡ group → on ≡ pvs_named state pvs

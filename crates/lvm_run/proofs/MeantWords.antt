@@ -1,23 +1,25 @@
--- What words ask for has the values that the tests of single words let through.
+-- The line of what words ask for can be planned: it has the values that the tests of single words let through.
 use Rattle.std.proofs.Common.{◌≡◌, ◌≤◌, ◌<◌, ◌∙◌, ◌^◌, ◌%◌, ◌+◌, ◌-◌, ◌&&◌, ◌⊎◌, ℕ, zero, suc, Bool, true, false, if◌then◌else◌, nat_le}
-use Rattle.std.proofs.Common.{List, [], ◌∷◌, length, not, Option, Some, None, Result, Ok, Err, IfSome, is_none, is_some, find, option_map}
-use Rattle.std.proofs.Common.{option_and_then, unwrap_or, refl, ap, sym, subst, inl, inr, arith}
+use Rattle.std.proofs.Common.{List, [], ◌∷◌, length, not, Option, Some, None, Result, Ok, Err, IfSome, is_none, is_some, IsSomeAnd, find}
+use Rattle.std.proofs.Common.{option_map, option_and_then, unwrap_or, refl, ap, sym, subst, inl, inr, arith}
 use Rattle.std.proofs.lemmas.Bool.{and_parts, cases_Bool, eqb-true, leb-true, true≢false}
 use Rattle.std.proofs.Math.Nat.{two-pow-succ}
 use Rattle.std.specs.Int.{is_power_of_two}
 use Rattle.std.specs.List.{list_all}
 use Rattle.std.specs.Result.{result_ok}
+use Rattle.lvm_id.specs.LvmId.{IsId}
 use Rattle.lvm_name.specs.Names.{group_name_refusal, volume_name_refusal}
 use Rattle.command_table.specs.declared.amount.Amount.{Amount}
 use Rattle.command_table.specs.declared.amount.Amount.TheVariants.{Extents, Sectors}
 use Rattle.command_table.specs.declared.amount.Growth.{Growth}
 use Rattle.command_table.specs.declared.amount.Growth.TheVariants.{By, To}
 use Rattle.command_table.specs.declared.command.Command.{Command}
-use Rattle.command_table.specs.declared.command.Command.TheVariants.{Pvck, Pvs, Vgcreate, Vgremove, Vgrename, Vgcfgbackup, Vgcfgrestore}
-use Rattle.command_table.specs.declared.command.Command.TheVariants.{Vgck, Vgs, Lvcreate, Lvextend, Lvreduce, Lvremove, Lvrename, Lvs}
+use Rattle.command_table.specs.declared.command.Command.TheVariants.{Pvck, Pvmove, Pvs, Vgremove, Vgcfgbackup, Vgcfgrestore, Vgck, Vgs}
+use Rattle.command_table.specs.declared.command.Command.TheVariants.{Lvremove, Lvs}
+use Rattle.command_table.specs.declared.command.Moving.TheVariants.{Abort, From, GoOn}
 use Rattle.command_table.specs.declared.command.Path.{Path}
-use Rattle.command_table.specs.declared.command_name.CommandName.{CommandName}
-use Rattle.command_table.specs.declared.command_name.CommandName.TheVariants as name
+use Rattle.command_table.specs.declared.table.CommandName.{CommandName}
+use Rattle.command_table.specs.declared.table.CommandName.TheVariants as name
 use Rattle.command_table.specs.declared.fault.Fault.{Fault}
 use Rattle.command_table.specs.declared.fault.Fault.TheVariants.{BadCount, BadName}
 use Rattle.command_table.specs.declared.kind.Kind.TheVariants.{Growth as Grows, Number, PowerSize, Size, SizeGrowth, Volume}
@@ -28,11 +30,12 @@ use Rattle.command_table.specs.declared.refusal.CommandRefusal.TheVariants.{Faul
 use Rattle.command_table.specs.declared.request.Request.{Request}
 use Rattle.command_table.specs.declared.request.Request.TheVariants.{One, Session}
 use Rattle.command_table.specs.declared.table.OptionRow.{OptionRow}
-use Rattle.command_table.specs.Meaning.{OptionValues, alone, amount_of, amount_with, at_place, demo, demo_of, goes_together, growth_by}
-use Rattle.command_table.specs.Meaning.{growth_of, growth_with, longer, lvcreate, lvextend, lvreduce, lvrename, meaning_of_words}
-use Rattle.command_table.specs.Meaning.{meaning_with, narrow, new_volume, one_path, one_word, path_in, pvcreate, pvmove, request_by_name}
-use Rattle.command_table.specs.Meaning.{request_named, request_read, session, session_on, shorter, size, value_in, vgcreate, vgextend}
-use Rattle.command_table.specs.Meaning.{vgreduce, vgrename, workers_in}
+use Rattle.command_table.specs.Commands.{alone, goes_together, changes, draws, longer, lvcreate, lvextend, lvreduce, lvrename, new_volume}
+use Rattle.command_table.specs.Commands.{pvcreate, pvmove, shorter, vgcreate, vgextend, vgreduce, vgrename}
+use Rattle.command_table.specs.Given.{OptionValues, amount_of, amount_with, growth_by, growth_of, growth_with, one_path, one_word, path_in}
+use Rattle.command_table.specs.Given.{size, value_in}
+use Rattle.command_table.specs.Meaning.{at_place, demo, demo_of, meaning_of_words, meaning_with, narrow, request_by_name, request_named}
+use Rattle.command_table.specs.Meaning.{request_read, session, session_on, workers_in}
 use Rattle.command_table.specs.Options.{Word, is_key}
 use Rattle.command_table.specs.Table.{command_named, is_for_words, options_of}
 use Rattle.command_table.specs.Values.{has_plus, is_between, is_group_name, number_fault, number_of, size_of, unless, without_plus}
@@ -45,23 +48,19 @@ use Rattle.lvm_words.proofs.FaultFree.{all_pass, fault_free, given_passes, kind_
 use Rattle.lvm_words.proofs.Spellings.{same_key}
 use Rattle.volume_rules.specs.Rules.{IsPowerOfTwo}
 use Rattle.vg_check.proofs.OneBit.{power_from_ones}
-use Rattle.lv_plans.specs.Lvcreate.{IsNewVolume}
 use Rattle.lv_plans.specs.Sizes.{IsAmount, IsGrowth}
+use Rattle.group_ops.specs.Planning.{IsPlanned}
+use Rattle.lvm_run.specs.Commands.{is_built}
 
 -- from 8 sectors to 2^31, and a multiple of 8
 abbrev IsExtentSize : ℕ → Type 0
 IsExtentSize n = (8 ≤ n) × (n ≤ 2 ^ 31) × (n % 8 ≡ 0)
 
--- a new group has a group's name, and extents of a size that they can have; a new name is one that its kind may have;
--- and a volume has a size that it can have
+-- where the command is built and changes something, its line can be planned, with any id where it draws one
 abbrev pub IsMeant : Command → Type 0
-IsMeant (Vgcreate vg extent_size pvs) = (group_name_refusal vg ≡ None) × (8 ≤ extent_size) × (extent_size ≤ 2 ^ 31) × (extent_size % 8 ≡ 0)
-IsMeant (Vgrename vg new) = group_name_refusal new ≡ None
-IsMeant (Lvcreate new) = IsNewVolume new
-IsMeant (Lvextend path growth pvs) = IsGrowth growth
-IsMeant (Lvreduce path amount) = IsAmount amount
-IsMeant (Lvrename vg old new) = volume_name_refusal new ≡ None
-IsMeant _ = Unit {0}
+IsMeant command =
+    (id : Option (List ℕ)) → (draws command ≡ true → IsSomeAnd id IsId) → is_built command ≡ true → changes command ≡ true
+    → IsPlanned id command
 
 -- the same of what words ask for
 abbrev IsMeantRequest : Request → Type 0
@@ -245,16 +244,23 @@ name_fits : {A : Type 0} (o : Option A) → is_none (unless BadName (is_none o))
 name_fits None e = refl
 name_fits (Some a) e = absurd (true≢false (sym e))
 
+reads_meant : (command : Command) → changes command ≡ false → IsMeant command
+reads_meant command reads = λ id drawn built changing. absurd (true≢false (sym changing ∙ reads))
+
+unbuilt_meant : (command : Command) → is_built command ≡ false → IsMeant command
+unbuilt_meant command unbuilt = λ id drawn built changing. absurd (true≢false (sym built ∙ unbuilt))
+
 vgcreate_meant : (given : OptionValues) (arguments : List Word) → IsExtentSize (unwrap_or (size given key.PhysicalExtentSize 2048) 8192)
     → arguments_pass name.Vgcreate 0 arguments ≡ true → IfSome (vgcreate given arguments) IsMeant
 vgcreate_meant given [] fits pass = tt
 vgcreate_meant given (vg ∷ []) fits pass = tt
 vgcreate_meant given (vg ∷ pv ∷ pvs) fits pass =
-    (name_fits (group_name_refusal vg) (and_parts _ (arguments_pass name.Vgcreate 1 (pv ∷ pvs)) pass).0, fits.0, fits.1, fits.2)
+    let named = name_fits (group_name_refusal vg) (and_parts _ (arguments_pass name.Vgcreate 1 (pv ∷ pvs)) pass).0 in
+    λ id drawn built changing. (drawn refl, named, fits.0, fits.1, fits.2)
 
 pvcreate_meant : (given : OptionValues) (arguments : List Word) → IfSome (pvcreate given arguments) IsMeant
 pvcreate_meant given [] = tt
-pvcreate_meant given (pv ∷ []) = tt
+pvcreate_meant given (pv ∷ []) = λ id drawn built changing. drawn refl
 pvcreate_meant given (pv ∷ other ∷ more) = tt
 
 pvmove_meant : (given : OptionValues) (arguments : List Word) → IfSome (pvmove given arguments) IsMeant
@@ -262,20 +268,20 @@ pvmove_meant given arguments = go (cases_Bool (is_some (given key.Abort))) argum
   where
     go : (is_some (given key.Abort) ≡ true) ⊎ (is_some (given key.Abort) ≡ false) → (arguments : List Word)
         → IfSome (pvmove given arguments) IsMeant
-    go (inl e) [] = rw e tt
+    go (inl e) [] = rw e (unbuilt_meant (Pvmove Abort) refl)
     go (inl e) (pv ∷ onto) = rw e tt
-    go (inr e) [] = rw e tt
-    go (inr e) (pv ∷ onto) = rw e tt
+    go (inr e) [] = rw e (unbuilt_meant (Pvmove GoOn) refl)
+    go (inr e) (pv ∷ onto) = rw e (unbuilt_meant (Pvmove (From pv onto)) refl)
 
 vgextend_meant : (arguments : List Word) → IfSome (vgextend arguments) IsMeant
 vgextend_meant [] = tt
 vgextend_meant (vg ∷ []) = tt
-vgextend_meant (vg ∷ pv ∷ pvs) = tt
+vgextend_meant (vg ∷ pv ∷ pvs) = λ id drawn built changing. tt
 
 vgreduce_meant : (arguments : List Word) → IfSome (vgreduce arguments) IsMeant
 vgreduce_meant [] = tt
 vgreduce_meant (vg ∷ []) = tt
-vgreduce_meant (vg ∷ pv ∷ []) = tt
+vgreduce_meant (vg ∷ pv ∷ []) = λ id drawn built changing. tt
 vgreduce_meant (vg ∷ pv ∷ other ∷ more) = tt
 
 vgrename_meant : (arguments : List Word) → arguments_pass name.Vgrename 0 arguments ≡ true → IfSome (vgrename arguments) IsMeant
@@ -283,7 +289,8 @@ vgrename_meant [] pass = tt
 vgrename_meant (vg ∷ []) pass = tt
 vgrename_meant (vg ∷ new ∷ []) pass =
     let rest = (and_parts _ (arguments_pass name.Vgrename 1 (new ∷ [])) pass).1 in
-    name_fits (group_name_refusal new) (and_parts _ (arguments_pass name.Vgrename 2 []) rest).0
+    let named = name_fits (group_name_refusal new) (and_parts _ (arguments_pass name.Vgrename 2 []) rest).0 in
+    λ id drawn built changing. named
 vgrename_meant (vg ∷ new ∷ other ∷ more) pass = tt
 
 lvrename_meant : (arguments : List Word) → arguments_pass name.Lvrename 0 arguments ≡ true → IfSome (lvrename arguments) IsMeant
@@ -293,7 +300,8 @@ lvrename_meant (vg ∷ old ∷ []) pass = tt
 lvrename_meant (vg ∷ old ∷ new ∷ []) pass =
     let rest = (and_parts _ (arguments_pass name.Lvrename 1 (old ∷ new ∷ [])) pass).1 in
     let last = (and_parts _ (arguments_pass name.Lvrename 2 (new ∷ [])) rest).1 in
-    name_fits (volume_name_refusal new) (and_parts _ (arguments_pass name.Lvrename 3 []) last).0
+    let named = name_fits (volume_name_refusal new) (and_parts _ (arguments_pass name.Lvrename 3 []) last).0 in
+    λ id drawn built changing. named
 lvrename_meant (vg ∷ old ∷ new ∷ other ∷ more) pass = tt
 
 -- the values of its options are what they have to be
@@ -312,16 +320,19 @@ lvcreate_meant given (vg ∷ pvs) fits = go (goes_together given) refl
         → (amount : Option Amount) → IfSome amount IsAmount → IfSome (new_volume given lv amount vg pvs) IsMeant
     with_size together None named amount sized = tt
     with_size together (Some lv) named None sized = tt
-    with_size together (Some lv) named (Some amount) sized = record {
-      named = name_fits (volume_name_refusal lv) named;
-      amount = sized;
-      stripes = stripes_fit _ (number_fits 1 8 (given key.Stripes) fits.stripes);
-      mirrors = (
-        mirrors_fit _ (number_fits 1 7 (given key.Mirrors) fits.mirrors),
-        mirrors_alone (given key.Mirrors) (given key.Stripes) _ together,
-      );
-      stripe_size = piece_fits (given key.StripeSize) fits.piece;
-    }
+    with_size together (Some lv) named (Some amount) sized = λ id drawn built changing. (
+      drawn refl,
+      record {
+        named = name_fits (volume_name_refusal lv) named;
+        amount = sized;
+        stripes = stripes_fit _ (number_fits 1 8 (given key.Stripes) fits.stripes);
+        mirrors = (
+          mirrors_fit _ (number_fits 1 7 (given key.Mirrors) fits.mirrors),
+          mirrors_alone (given key.Mirrors) (given key.Stripes) _ together,
+        );
+        stripe_size = piece_fits (given key.StripeSize) fits.piece;
+      },
+    )
 
     go : (b : Bool) → goes_together given ≡ b
         → IfSome (if b then new_volume given (given key.Name) (amount_of given) vg pvs else None) IsMeant
@@ -336,7 +347,7 @@ lvextend_meant given (path ∷ pvs) fits = go (growth_of given) fits (path_in pa
     go : (growth : Option Growth) → IfSome growth IsGrowth → (path : Option Path) → IfSome (longer pvs growth path) IsMeant
     go None fits path = tt
     go (Some growth) fits None = tt
-    go (Some growth) fits (Some path) = fits
+    go (Some growth) fits (Some path) = λ id drawn built changing. fits
 
 lvreduce_meant : (given : OptionValues) (arguments : List Word) → IfSome (amount_of given) IsAmount
     → IfSome (lvreduce given arguments) IsMeant
@@ -345,7 +356,7 @@ lvreduce_meant given arguments fits = go (amount_of given) fits (one_path argume
     go : (amount : Option Amount) → IfSome amount IsAmount → (path : Option Path) → IfSome (shorter amount path) IsMeant
     go None fits path = tt
     go (Some amount) fits None = tt
-    go (Some amount) fits (Some path) = fits
+    go (Some amount) fits (Some path) = λ id drawn built changing. fits
 
 alone_meant : (command : Command) → IsMeant command → (arguments : List Word) → IfSome (alone command arguments) IsMeant
 alone_meant command meant [] = meant
@@ -387,8 +398,8 @@ request_meant : (name : CommandName) (split : Split) → is_for_words name ≡ t
     → IfSome (request_by_name name (value_in split.given) split.arguments) IsMeantRequest
 request_meant name.Pvcreate split here pass = one_meant _ (pvcreate_meant (value_in split.given) split.arguments)
 request_meant name.Pvmove split here pass = one_meant _ (pvmove_meant (value_in split.given) split.arguments)
-request_meant name.Pvck split here pass = one_meant _ (mapped IsMeant Pvck (λ pv. tt) (one_word split.arguments))
-request_meant name.Pvs split here pass = one_meant _ (alone_meant Pvs tt split.arguments)
+request_meant name.Pvck split here pass = one_meant _ (mapped IsMeant Pvck (λ pv. reads_meant (Pvck pv) refl) (one_word split.arguments))
+request_meant name.Pvs split here pass = one_meant _ (alone_meant Pvs (reads_meant Pvs refl) split.arguments)
 request_meant name.Vgcreate split here pass =
     let both =
     and_parts (list_all (given_passes (options_of name.Vgcreate)) split.given) (arguments_pass name.Vgcreate 0 split.arguments) pass in
@@ -398,16 +409,16 @@ request_meant name.Vgcreate split here pass =
     one_meant _ (vgcreate_meant (value_in split.given) split.arguments fits both.1)
 request_meant name.Vgextend split here pass = one_meant _ (vgextend_meant split.arguments)
 request_meant name.Vgreduce split here pass = one_meant _ (vgreduce_meant split.arguments)
-request_meant name.Vgremove split here pass = one_meant _ (mapped IsMeant Vgremove (λ vg. tt) (one_word split.arguments))
+request_meant name.Vgremove split here pass = one_meant _ (mapped IsMeant Vgremove (λ vg id drawn built changing. tt) (one_word split.arguments))
 request_meant name.Vgrename split here pass =
     one_meant _ (vgrename_meant split.arguments
     (and_parts (list_all (given_passes (options_of name.Vgrename)) split.given) (arguments_pass name.Vgrename 0 split.arguments)
     pass).1)
-request_meant name.Vgcfgbackup split here pass = one_meant _ (mapped IsMeant Vgcfgbackup (λ vg. tt) (one_word split.arguments))
+request_meant name.Vgcfgbackup split here pass = one_meant _ (mapped IsMeant Vgcfgbackup (λ vg. reads_meant (Vgcfgbackup vg) refl) (one_word split.arguments))
 request_meant name.Vgcfgrestore split here pass =
-    one_meant _ (mapped IsMeant (λ vg. Vgcfgrestore vg []) (λ vg. tt) (one_word split.arguments))
-request_meant name.Vgck split here pass = one_meant _ (alone_meant Vgck tt split.arguments)
-request_meant name.Vgs split here pass = one_meant _ (alone_meant Vgs tt split.arguments)
+    one_meant _ (mapped IsMeant (λ vg. Vgcfgrestore vg []) (λ vg id drawn built changing. tt) (one_word split.arguments))
+request_meant name.Vgck split here pass = one_meant _ (alone_meant Vgck (reads_meant Vgck refl) split.arguments)
+request_meant name.Vgs split here pass = one_meant _ (alone_meant Vgs (reads_meant Vgs refl) split.arguments)
 request_meant name.Lvcreate split here pass =
     let all =
     (and_parts (list_all (given_passes (options_of name.Lvcreate)) split.given) (arguments_pass name.Lvcreate 0 split.arguments)
@@ -438,20 +449,15 @@ request_meant name.Lvreduce split here pass =
     let extents = extents_fit (value_in split.given key.Extents) (value_fits (options_of name.Lvreduce) split.given key.Extents all) in
     let sectors = sectors_fit (value_in split.given key.Size) (value_fits (options_of name.Lvreduce) split.given key.Size all) in
     one_meant _ (lvreduce_meant (value_in split.given) split.arguments (amount_fits _ _ extents sectors))
-request_meant name.Lvremove split here pass = one_meant _ (mapped IsMeant Lvremove (λ path. tt) (one_path split.arguments))
+request_meant name.Lvremove split here pass = one_meant _ (mapped IsMeant Lvremove (λ path id drawn built changing. tt) (one_path split.arguments))
 request_meant name.Lvrename split here pass =
     one_meant _ (lvrename_meant split.arguments
     (and_parts (list_all (given_passes (options_of name.Lvrename)) split.given) (arguments_pass name.Lvrename 0 split.arguments)
     pass).1)
-request_meant name.Lvs split here pass = one_meant _ (alone_meant Lvs tt split.arguments)
+request_meant name.Lvs split here pass = one_meant _ (alone_meant Lvs (reads_meant Lvs refl) split.arguments)
 request_meant name.Session split here pass = session_meant (value_in split.given) split.arguments
 request_meant name.Demo split here pass = demo_meant split.arguments
-request_meant name.Read split here pass = absurd (true≢false (sym here))
-request_meant name.Fill split here pass = absurd (true≢false (sym here))
-request_meant name.Write split here pass = absurd (true≢false (sym here))
-request_meant name.List split here pass = absurd (true≢false (sym here))
-request_meant name.Wait split here pass = absurd (true≢false (sym here))
-request_meant name.Resync split here pass = absurd (true≢false (sym here))
+request_meant _ split here pass = absurd (true≢false (sym here))
 
 -- ---- words
 

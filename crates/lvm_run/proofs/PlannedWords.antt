@@ -1,11 +1,6 @@
 -- The line of a command that words ask for can be planned.
 use Rattle.std.proofs.Common.{◌≡◌, ◌∙◌, ℕ, List, Option, Some, None, IfSome, IsSomeAnd, is_some, true, true≢false, refl, ap, sym}
 use Rattle.lvm_id.specs.LvmId.{IsId}
-use Rattle.command_table.specs.declared.command.Command.{Command}
-use Rattle.command_table.specs.declared.command.Command.TheVariants.{Pvcreate, Vgcreate, Vgextend, Vgreduce, Vgremove}
-use Rattle.command_table.specs.declared.command.Command.TheVariants.{Vgrename, Vgcfgrestore, Lvcreate, Lvextend}
-use Rattle.command_table.specs.declared.command.Command.TheVariants.{Lvreduce, Lvremove, Lvrename}
-use Rattle.command_table.specs.Commands.{changes, draws}
 use Rattle.command_table.specs.Options.{Word}
 use Rattle.lvm_script.specs.declared.line.Line.{Line}
 use Rattle.lvm_script.specs.Lines.{line_of}
@@ -13,28 +8,8 @@ use Rattle.lvm_words.specs.declared.asked.Task.{Task}
 use Rattle.lvm_words.specs.declared.asked.Task.TheVariants.{One, Session, Demo}
 use Rattle.lvm_words.specs.declared.command_line.CommandLine.{CommandLine}
 use Rattle.lvm_words.specs.CommandLines.{HasId, command_line_of, request_in, task_of}
-use Rattle.group_ops.specs.Planning.{IsPlanned}
-use Rattle.lvm_run.specs.Commands.{is_built}
 use Rattle.lvm_run.specs.Runs.{CanPlan, CanPlanTask}
 use Rattle.lvm_run.proofs.MeantWords.{IsMeant, planned}
-
--- a command that draws an id has one
-by_command : (command : Command) (id : Option (List ℕ)) → IsMeant command → (draws command ≡ true → IsSomeAnd id IsId)
-    → is_built command ≡ true
-    → changes command ≡ true → IsPlanned id command
-by_command (Pvcreate pv copies) id meant drawn built changing = drawn refl
-by_command (Vgcreate vg extent_size pvs) id meant drawn built changing = (drawn refl, meant.0, meant.1, meant.2, meant.3)
-by_command (Vgextend vg pvs) id meant drawn built changing = tt
-by_command (Vgreduce vg pv) id meant drawn built changing = tt
-by_command (Vgremove vg) id meant drawn built changing = tt
-by_command (Vgrename vg new) id meant drawn built changing = meant
-by_command (Vgcfgrestore vg text) id meant drawn built changing = tt
-by_command (Lvcreate new) id meant drawn built changing = (drawn refl, meant)
-by_command (Lvextend path growth pvs) id meant drawn built changing = meant
-by_command (Lvreduce path amount) id meant drawn built changing = meant
-by_command (Lvremove path) id meant drawn built changing = tt
-by_command (Lvrename vg old new) id meant drawn built changing = meant
-by_command command id meant drawn built changing = absurd cc
 
 -- an id that is there is one
 some_id : (id : Option (List ℕ)) → is_some id ≡ true → IfSome id IsId → IsSomeAnd id IsId
@@ -49,7 +24,7 @@ line_or line _ = line
 by_line : (line : Line) (ids : ℕ → List ℕ) → line ≡ line_of 1 line.command ids → IsMeant line.command → IfSome line.id IsId → CanPlan line
 by_line line ids is meant valid = record {
   first = ap (λ (l : Line). l.number) is;
-  planned = by_command line.command line.id meant
+  planned = meant line.id
       (λ drawn. let there : is_some line.id ≡ true = ap (λ (l : Line). is_some l.id) is ∙ rw drawn refl in some_id line.id there valid);
 }
 

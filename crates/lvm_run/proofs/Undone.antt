@@ -2,9 +2,8 @@
 use Rattle.std.proofs.Common.{◌≡◌, ℕ, List, [], Option, refl, inl, inr}
 use Rattle.command_table.specs.Options.{Word}
 use Rattle.command_table.specs.declared.command.Command.{Command}
-use Rattle.command_table.specs.declared.command.Command.TheVariants.{Lvcreate, Lvextend, Lvreduce, Lvremove, Lvrename, Lvs, Pvcreate, Pvck}
-use Rattle.command_table.specs.declared.command.Command.TheVariants.{Pvs, Vgcfgbackup, Vgcfgrestore, Vgck, Vgcreate, Vgextend, Vgreduce}
-use Rattle.command_table.specs.declared.command.Command.TheVariants.{Vgremove, Vgrename, Vgs}
+use Rattle.command_table.specs.declared.command.Command.TheVariants.{Fill, List as ListVolumes, Lvs, Pvck, Pvmove, Pvs, Read, Resync}
+use Rattle.command_table.specs.declared.command.Command.TheVariants.{Vgcfgbackup, Vgcfgrestore, Vgck, Vgs, Wait, Write}
 use Rattle.command_table.specs.declared.request.Request.{Request}
 use Rattle.command_table.specs.declared.request.Request.TheVariants.{One}
 use Rattle.lvm_words.proofs.LineNames.{names_of_line}
@@ -35,30 +34,6 @@ change_undone names command id now state idle =
 pub undone : (names : List Word) (request : Request) (ids : ℕ → List ℕ) (now : ℕ) (text : List ℕ) (from : SourceState) (state : State)
     → state.in_flight ≡ []
     → RunsRequest names request ids now text from from state (Ended NoMemory) state
-undone names (One (Pvcreate pv copies)) ids now text from state idle =
-    inl (record { source = refl; meets = change_undone names (Pvcreate pv copies) _ now state idle })
-undone names (One (Vgcreate vg extent_size pvs)) ids now text from state idle =
-    inl (record { source = refl; meets = change_undone names (Vgcreate vg extent_size pvs) _ now state idle })
-undone names (One (Vgextend vg pvs)) ids now text from state idle =
-    inl (record { source = refl; meets = change_undone names (Vgextend vg pvs) _ now state idle })
-undone names (One (Vgreduce vg pv)) ids now text from state idle =
-    inl (record { source = refl; meets = change_undone names (Vgreduce vg pv) _ now state idle })
-undone names (One (Vgremove vg)) ids now text from state idle =
-    inl (record { source = refl; meets = change_undone names (Vgremove vg) _ now state idle })
-undone names (One (Vgrename vg new)) ids now text from state idle =
-    inl (record { source = refl; meets = change_undone names (Vgrename vg new) _ now state idle })
-undone names (One (Vgcfgrestore vg own)) ids now text from state idle =
-    inr (record { ending = NoMemory; is = refl; why = tt; nothing = refl })
-undone names (One (Lvcreate new)) ids now text from state idle =
-    inl (record { source = refl; meets = change_undone names (Lvcreate new) _ now state idle })
-undone names (One (Lvextend path growth pvs)) ids now text from state idle =
-    inl (record { source = refl; meets = change_undone names (Lvextend path growth pvs) _ now state idle })
-undone names (One (Lvreduce path amount)) ids now text from state idle =
-    inl (record { source = refl; meets = change_undone names (Lvreduce path amount) _ now state idle })
-undone names (One (Lvremove path)) ids now text from state idle =
-    inl (record { source = refl; meets = change_undone names (Lvremove path) _ now state idle })
-undone names (One (Lvrename vg old new)) ids now text from state idle =
-    inl (record { source = refl; meets = change_undone names (Lvrename vg old new) _ now state idle })
 undone names (One (Pvck pv)) ids now text from state idle =
     inl (record { source = refl; meets = meets_undone names _ pv now state state idle })
 undone names (One (Vgcfgbackup vg)) ids now text from state idle =
@@ -71,6 +46,17 @@ undone names (One Lvs) ids now text from state idle =
     inl (record { source = refl; meets = report_undone report.Lvs names _ now state idle })
 undone names (One Vgck) ids now text from state idle =
     inl (record { source = refl; meets = report_undone report.Vgck names _ now state idle })
+undone names (One (Vgcfgrestore vg own)) ids now text from state idle =
+    inr (record { ending = NoMemory; is = refl; why = tt; nothing = refl })
+undone names (One (Pvmove moving)) ids now text from state idle = record { refused = (inr refl, refl); unread = refl }
+undone names (One (Read path start count)) ids now text from state idle = record { refused = (inr refl, refl); unread = refl }
+undone names (One (Fill path start count value)) ids now text from state idle = record { refused = (inr refl, refl); unread = refl }
+undone names (One (Write path start hex)) ids now text from state idle = record { refused = (inr refl, refl); unread = refl }
+undone names (One ListVolumes) ids now text from state idle = record { refused = (inr refl, refl); unread = refl }
+undone names (One Wait) ids now text from state idle = record { refused = (inr refl, refl); unread = refl }
+undone names (One (Resync path)) ids now text from state idle = record { refused = (inr refl, refl); unread = refl }
+undone names (One command) ids now text from state idle =
+    inl (record { source = refl; meets = change_undone names command _ now state idle })
 undone names _ ids now text from state idle = record { refused = (inr refl, refl); unread = refl }
 
 -- words of which nothing was done

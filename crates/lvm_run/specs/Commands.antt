@@ -16,29 +16,17 @@ use Rattle.lvm_run.specs.Commands.Pvs.{pvs}
 use Rattle.lvm_run.specs.Commands.Vgcfgbackup.{vgcfgbackup}
 use Rattle.lvm_run.specs.Commands.Vgck.{vgck}
 use Rattle.lvm_run.specs.Commands.Vgs.{vgs}
-use Rattle.command_table.specs.Commands.{changes}
+use Rattle.command_table.specs.Commands.{CommandKind, Move, Scripted, changes, kind_of}
+
+-- the kinds of commands that are built: moves and what stands in scripts alone aren't yet
+abbrev kind_is_built : CommandKind → Bool
+kind_is_built Move = false
+kind_is_built Scripted = false
+kind_is_built _ = true
 
 -- the commands that are built; words that ask for another are refused until it is
 abbrev pub is_built : Command → Bool
-is_built (command.Pvcreate pv metadata_copies) = true
-is_built (command.Pvck pv) = true
-is_built (command.Vgcreate vg extent_size names) = true
-is_built (command.Vgextend vg names) = true
-is_built (command.Vgreduce vg pv) = true
-is_built (command.Vgremove vg) = true
-is_built (command.Vgrename vg new) = true
-is_built (command.Lvcreate new) = true
-is_built (command.Lvextend path growth names) = true
-is_built (command.Lvreduce path amount) = true
-is_built (command.Lvremove path) = true
-is_built (command.Lvrename vg old new) = true
-is_built (command.Vgcfgbackup vg) = true
-is_built (command.Vgcfgrestore vg text) = true
-is_built command.Pvs = true
-is_built command.Vgs = true
-is_built command.Lvs = true
-is_built command.Vgck = true
-is_built _ = false
+is_built command = kind_is_built (kind_of command)
 
 -- of a command that isn't built nothing is said: words that ask for it are refused before
 abbrev unbuilt : CommandSpec

@@ -12,25 +12,14 @@ pub const BUILT: &str =
 pub fn is_built(command: &Command) -> bool
     ensures { result ≡ is_built command.now }
 {
-    matches!(
+    !matches!(
         command,
-        Command::Pvcreate { .. }
-            | Command::Pvck { .. }
-            | Command::Vgcreate { .. }
-            | Command::Vgextend { .. }
-            | Command::Vgreduce { .. }
-            | Command::Vgremove { .. }
-            | Command::Vgrename { .. }
-            | Command::Lvcreate(_)
-            | Command::Lvextend { .. }
-            | Command::Lvreduce { .. }
-            | Command::Lvremove { .. }
-            | Command::Lvrename { .. }
-            | Command::Vgcfgbackup { .. }
-            | Command::Vgcfgrestore { .. }
-            | Command::Pvs
-            | Command::Vgs
-            | Command::Lvs
-            | Command::Vgck
+        Command::Pvmove(_)
+            | Command::Read { .. }
+            | Command::Fill { .. }
+            | Command::Write { .. }
+            | Command::List
+            | Command::Wait
+            | Command::Resync { .. }
     )
 }

@@ -12,14 +12,15 @@ use Rattle.command_table.specs.declared.command.Command.TheVariants.{List as Lis
 use Rattle.command_table.specs.declared.command.Moving.TheVariants.{From, GoOn, Abort}
 use Rattle.command_table.specs.declared.command.NewVolume.{NewVolume}
 use Rattle.command_table.specs.declared.command.Path.{Path}
-use Rattle.command_table.specs.declared.command_name.CommandName.{CommandName}
-use Rattle.command_table.specs.declared.command_name.CommandName.TheVariants as name
+use Rattle.command_table.specs.declared.table.CommandName.{CommandName}
+use Rattle.command_table.specs.declared.table.CommandName.TheVariants as name
 use Rattle.command_table.specs.declared.option_key.OptionKey.{OptionKey}
 use Rattle.command_table.specs.declared.option_key.OptionKey.TheVariants as key
 use Rattle.command_table.specs.declared.request.Request.{Request}
 use Rattle.command_table.specs.declared.request.Request.TheVariants.{One, Session, Demo}
 use Rattle.command_table.specs.Commands.{changes, draws, sectors_of}
-use Rattle.command_table.specs.Meaning.{request_by_name, value_in}
+use Rattle.command_table.specs.Given.{value_in}
+use Rattle.command_table.specs.Meaning.{request_by_name}
 use Rattle.command_table.specs.Options.{Word}
 use Rattle.command_table.specs.Values.{size_of}
 use Rattle.lvm_script.specs.Script.{Meant, meaning_of_line}

@@ -3,7 +3,7 @@ use Rattle.std.specs.Prelude.{◌≡◌, ℕ, ◌+◌, ◌==◌, Bool, true, fal
 use Rattle.std.specs.Prelude.{filter, Option, Some, None, Result, Ok, Err}
 use Rattle.std.specs.List.{slice_split}
 use Rattle.command_table.specs.declared.command.Command.{Command}
-use Rattle.command_table.specs.declared.command_name.CommandName.{CommandName}
+use Rattle.command_table.specs.declared.table.CommandName.{CommandName}
 use Rattle.command_table.specs.declared.refusal.CommandRefusal.{CommandRefusal}
 use Rattle.command_table.specs.declared.refusal.CommandRefusal.TheVariants as words
 use Rattle.command_table.specs.declared.line_fault.LineFault.{LineFault}

@@ -10,8 +10,8 @@ use Rattle.std.specs.Option.{option_map_or}
 use Rattle.command_table.specs.declared.fault.Fault.{Fault}
 use Rattle.command_table.specs.declared.kind.Kind.{Kind}
 use Rattle.command_table.specs.declared.kind.Kind.TheVariants.{Flag}
-use Rattle.command_table.specs.declared.command_name.CommandName.{CommandName}
-use Rattle.command_table.specs.declared.command_name.CommandName.TheVariants as name
+use Rattle.command_table.specs.declared.table.CommandName.{CommandName}
+use Rattle.command_table.specs.declared.table.CommandName.TheVariants as name
 use Rattle.command_table.specs.declared.option_key.OptionKey.{OptionKey}
 use Rattle.command_table.specs.declared.role.Role.{Role}
 use Rattle.command_table.specs.declared.role.Role.TheVariants as role
@@ -54,33 +54,8 @@ distinct (x ∷ xs) = not (list_any (λ (row : OptionRow). is_key x.key row.key)
 
 pub distinct_options : (name : CommandName) → distinct (options_of name) ≡ true
 unfolding distinct
-distinct_options name.Pvcreate = refl
-distinct_options name.Pvmove = refl
-distinct_options name.Pvck = refl
-distinct_options name.Pvs = refl
-distinct_options name.Vgcreate = refl
-distinct_options name.Vgextend = refl
-distinct_options name.Vgreduce = refl
-distinct_options name.Vgremove = refl
-distinct_options name.Vgrename = refl
-distinct_options name.Vgcfgbackup = refl
-distinct_options name.Vgcfgrestore = refl
-distinct_options name.Vgck = refl
-distinct_options name.Vgs = refl
-distinct_options name.Lvcreate = refl
-distinct_options name.Lvextend = refl
-distinct_options name.Lvreduce = refl
-distinct_options name.Lvremove = refl
-distinct_options name.Lvrename = refl
-distinct_options name.Lvs = refl
-distinct_options name.Session = refl
 distinct_options name.Demo = refl
-distinct_options name.Read = refl
-distinct_options name.Fill = refl
-distinct_options name.Write = refl
-distinct_options name.List = refl
-distinct_options name.Wait = refl
-distinct_options name.Resync = refl
+distinct_options _ = refl
 
 record IsNamed (rows : List OptionRow) (row : OptionRow) : Type 0 where
   kind : kind_in rows row.key ≡ row.kind

@@ -9,7 +9,7 @@ use Rattle.std.specs.Str.{bytes_eq}
 use Rattle.clap.specs.Walk.{Row, Text, all_of, first_of}
 use Rattle.command_table.specs.declared.option_key.OptionKey.{OptionKey}
 use Rattle.command_table.specs.declared.table.OptionRow.{OptionRow}
-use Rattle.command_table.specs.Meaning.{value_in}
+use Rattle.command_table.specs.Given.{value_in}
 use Rattle.command_table.specs.Options.{Word, is_key, name_of}
 use Rattle.command_table.specs.Words.{Split}
 use Rattle.lvm_words.specs.Parser.{Lists, listed, pair_of, pairs_of, row_of_key, values_of}

@@ -8,7 +8,7 @@ use Rattle.std.specs.List.{list_all}
 use Rattle.std.specs.Option.{option_map_or}
 use Rattle.std.specs.Result.{result_ok}
 use Rattle.clap.specs.Walk.{Row}
-use Rattle.command_table.specs.declared.command_name.CommandName.{CommandName}
+use Rattle.command_table.specs.declared.table.CommandName.{CommandName}
 use Rattle.command_table.specs.declared.fault.Fault.{Fault}
 use Rattle.command_table.specs.declared.refusal.CommandRefusal.{CommandRefusal}
 use Rattle.command_table.specs.declared.refusal.CommandRefusal.TheVariants.{Faulty, WrongWords, NoMemory}
@@ -16,7 +16,8 @@ use Rattle.command_table.specs.declared.option_key.OptionKey.{OptionKey}
 use Rattle.command_table.specs.declared.request.Request.{Request}
 use Rattle.command_table.specs.declared.line_fault.LineFault.TheVariants as fault
 use Rattle.command_table.specs.declared.table.OptionRow.{OptionRow}
-use Rattle.command_table.specs.Meaning.{at_place, meaning_with, request_by_name, request_named, request_of, request_read, value_in}
+use Rattle.command_table.specs.Given.{value_in}
+use Rattle.command_table.specs.Meaning.{at_place, meaning_with, request_by_name, request_named, request_of, request_read}
 use Rattle.command_table.specs.Options.{Word}
 use Rattle.command_table.specs.Table.{is_for_words, options_of}
 use Rattle.command_table.specs.Words.{Split, is_complete, nothing_split, numbered_from, read}

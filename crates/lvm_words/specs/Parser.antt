@@ -6,7 +6,7 @@ use Rattle.std.specs.Option.{option_and_then, option_map_or}
 use Rattle.clap.specs.Simple.{App, new_rule, new_shape}
 use Rattle.clap.specs.Walk.{Row, Rule, Text, all_of, first_of}
 use Rattle.clap.specs.declared.builder.action.ArgAction.TheVariants.{Append}
-use Rattle.command_table.specs.declared.command_name.CommandName.{CommandName}
+use Rattle.command_table.specs.declared.table.CommandName.{CommandName}
 use Rattle.command_table.specs.declared.kind.Kind.{Kind}
 use Rattle.command_table.specs.declared.kind.Kind.TheVariants.{Flag}
 use Rattle.command_table.specs.declared.option_key.OptionKey.{OptionKey}
@@ -14,7 +14,8 @@ use Rattle.command_table.specs.declared.request.Request.{Request}
 use Rattle.command_table.specs.declared.role.Role.{Role}
 use Rattle.command_table.specs.declared.role.Role.TheVariants as role
 use Rattle.command_table.specs.declared.table.OptionRow.{OptionRow}
-use Rattle.command_table.specs.Meaning.{request_by_name, value_in}
+use Rattle.command_table.specs.Given.{value_in}
+use Rattle.command_table.specs.Meaning.{request_by_name}
 use Rattle.command_table.specs.Options.{Word, is_dashed, is_key, letter_of, name_of}
 use Rattle.command_table.specs.Table.{argument_of, options_of}
 use Rattle.command_table.specs.Values.{fault_in}

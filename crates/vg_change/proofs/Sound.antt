@@ -30,7 +30,7 @@ use Rattle.group_plan.specs.State.{IsState}
 use Rattle.group_plan.specs.declared.backup.Backup.{Backup}
 use Rattle.group_plan.specs.declared.state.Change.{Change}
 use Rattle.group_plan.specs.declared.state.GroupState.{GroupState}
-use Rattle.group_plan.proofs.Rows.{none_holds}
+use Rattle.vg_plans.proofs.PassedRows.{extend_passes, new_passes}
 use Rattle.vg_plans.proofs.Leaving.{LeavesNext, leaves_next}
 use Rattle.vg_plans.specs.Vgextend.{extend_by, found_rows, vgextend_change}
 use Rattle.vg_plans.specs.Vgcreate.{empty_group, new_rows, vgcreate_change}
@@ -53,10 +53,10 @@ IsSound state change now = CanMake state.areas change now × LiesOn (sizes_of st
 new_sound : (state : GroupState) → IsState state → (base : Group) (names : List (List ℕ)) (now : ℕ)
     → first_refusal (new_rows state base names now) ≡ None → IsSound state (vgcreate_change state base names) now
 new_sound state is base names now none =
-    let rows = none_holds (new_rows state base names now) none in
+    let rows = new_passes state base names now none in
     let no_disk : All (λ n. n < length state.disks) [] = All-nil (λ n. n < length state.disks) in (
-      commit_can_make state is base [] names no_disk rows.1.0 now rows.1.1.0 rows.1.1.1.1.1.1.0,
-      commit_lies_on state is base [] names no_disk rows.1.0,
+      commit_can_make state is base [] names no_disk rows.used now rows.has_area rows.fits,
+      commit_lies_on state is base [] names no_disk rows.used,
     )
 
 vgcreate_sound : (state : GroupState) → IsState state → (base : Group) (names : List (List ℕ)) (now : ℕ) (o : Option Group)
@@ -76,11 +76,10 @@ found_sound : (state : GroupState) → IsState state → (vg : List ℕ) (names 
     → state.group ≡ Some group → first_refusal (found_rows state vg names now group) ≡ None
     → IsSound state (vgextend_change state group names) now
 found_sound state is vg names now group found none =
-    let rows = none_holds (found_rows state vg names now group) none in
+    let rows = extend_passes state vg names now group none in
     let listed : All (λ n. n < length state.disks) state.disk_of = listed_there state group is found in (
-      commit_can_make state is (next_version group) state.disk_of names listed rows.1.1.1.1.0 now rows.1.1.1.1.1.0
-          rows.1.1.1.1.1.1.1.1.1.1.0,
-      commit_lies_on state is (next_version group) state.disk_of names listed rows.1.1.1.1.0,
+      commit_can_make state is (next_version group) state.disk_of names listed rows.used now rows.has_area rows.fits,
+      commit_lies_on state is (next_version group) state.disk_of names listed rows.used,
     )
 
 vgextend_sound : (state : GroupState) → IsState state → (vg : List ℕ) (names : List (List ℕ)) (now : ℕ) (o : Option Group) → state.group ≡ o

@@ -1,14 +1,13 @@
 -- What the rows of a vgreduce say of the physical volume that leaves, and what it commits.
-use Rattle.std.proofs.Common.{◌≡◌, ◌≢◌, ◌<◌, ℕ, false, List, [], ◌∷◌, length, Option, Some, None, refl, sym, ap, subst, ◌∙◌, arith}
+use Rattle.std.proofs.Common.{◌≡◌, ◌<◌, ℕ, List, [], ◌∷◌, length, Option, Some, None, refl, sym, ap, subst, ◌∙◌, arith}
 use Rattle.std.specs.Prelude.{◌==◌, option_and_then, All}
 use Rattle.std.specs.List.{remove}
 use Rattle.std.specs.Option.{option_map_or}
-use Rattle.std.proofs.lemmas.Bool.{eq-eqb, true≢false}
 use Rattle.std.proofs.lemmas.List.{length-map}
 use Rattle.std.proofs.lemmas.List.Quantifiers.{position-Some}
 use Rattle.command_table.specs.Options.{number_named}
 use Rattle.line_answers.specs.declared.op_refusal.OpRefusal.{OpRefusal}
-use Rattle.line_answers.specs.declared.op_refusal.OpRefusal.TheVariants.{InUse, LastPv, NotInGroup, UnknownGroup}
+use Rattle.line_answers.specs.declared.op_refusal.OpRefusal.TheVariants.{NotInGroup, UnknownGroup}
 use Rattle.meta_model.specs.Standing.{HasTree}
 use Rattle.meta_model.specs.declared.group.Group.{Group}
 use Rattle.meta_model.specs.declared.pv.Pv.{Pv}
@@ -17,9 +16,8 @@ use Rattle.vg_found.specs.Disks.{disk_with}
 use Rattle.group_edits.proofs.ReducedGroup.{reduced_whole}
 use Rattle.group_edits.proofs.ReducedRules.{all_without}
 use Rattle.group_edits.proofs.Whole.{IsWhole}
-use Rattle.group_edits.specs.ReducedGroup.{has_leg_on_pv, reduced_group}
-use Rattle.group_plan.proofs.Chained.{back_passes, front_passes}
-use Rattle.group_plan.proofs.Rows.{none_holds, test_fails, seqno_left}
+use Rattle.group_edits.specs.ReducedGroup.{reduced_group}
+use Rattle.group_plan.proofs.Chained.{back_passes, front_passes, last_passes}
 use Rattle.group_plan.proofs.StateFacts.{IsBelow, listed_are, listed_below}
 use Rattle.group_plan.specs.Committing.{length_row_on, no_change}
 use Rattle.group_plan.specs.Judging.{area_row, first_refusal, unknown_row}
@@ -27,24 +25,9 @@ use Rattle.group_plan.specs.Members.{number_on, pv_named}
 use Rattle.group_plan.specs.State.{IsState}
 use Rattle.group_plan.specs.declared.state.Change.{Change}
 use Rattle.group_plan.specs.declared.state.GroupState.{GroupState}
+use Rattle.vg_plans.proofs.PassedRows.{MayLeave, leaving_passes}
 use Rattle.vg_plans.specs.Vgextend.{group_rows}
 use Rattle.vg_plans.specs.Vgreduce.{leaving_change, leaving_rows, leaving_tests, reduce_change, reduce_rows, vgreduce_change, vgreduce_rows}
-
--- the group may have a next version without the physical volume with this number
-pub record MayLeave (group : Group) (number : ℕ) : Type 0 where
-  pub unused : has_leg_on_pv group number ≡ false
-  pub others : length group.pvs ≢ 1
-  pub seqno : group.seqno ≢ 4294967295
-
-pub may_leave : (state : GroupState) (group : Group) (name : List ℕ) (number : ℕ)
-    → first_refusal (leaving_tests state group name number) ≡ None → MayLeave group number
-may_leave state group name number none =
-    let rows = none_holds (leaving_tests state group name number) none in
-    record {
-      unused = test_fails (has_leg_on_pv group number) (InUse name) rows.0;
-      others = λ one. true≢false (sym (eq-eqb (length group.pvs) 1 one) ∙ test_fails (length group.pvs == 1) (LastPv name) rows.1.0);
-      seqno = seqno_left group rows.1.1.1.0;
-    }
 
 -- the disks of the others
 pub rest_below : (state : GroupState) (group : Group) (number : ℕ) (rest : List ℕ) → IsState state → state.group ≡ Some group
@@ -104,10 +87,10 @@ module _ (state : GroupState) (vg name : List ℕ) (now : ℕ) where
       listed_on group (pv_named state name) refl
       (front_passes (unknown_row state (name ∷ []) ∷ []) back
       (front_passes (group_rows group vg) (unknown_row state (name ∷ []) ∷ back) none)) in
-      let rows = none_holds (leaving_rows state group name now at.0) at.2 in
-      let may : MayLeave group at.0 =
-      may_leave state group name at.0 (back_passes (leaving_tests state group name at.0)
-      (length_row_on state (remove state.disk_of at.0) (reduced_group group at.0) now ∷ []) at.2) in
+      let tests : List (Option OpRefusal) = leaving_tests state group name at.0 in
+      let last : Option OpRefusal = length_row_on state (remove state.disk_of at.0) (reduced_group group at.0) now in
+      let passes = leaving_passes state group name at.0 (back_passes tests (last ∷ []) at.2) in
+      let may : MayLeave group at.0 = passes.may in
       record {
         old = group;
         there = there;
@@ -115,8 +98,8 @@ module _ (state : GroupState) (vg name : List ℕ) (now : ℕ) where
         listed = named_at state name at.0 at.1;
         change_is = ap (λ (o : Option ℕ). option_map_or (leaving_change state group) o (no_change state)) at.1;
         may = may;
-        has_area = rows.1.1.0;
-        fits = rows.1.1.1.1.0;
+        has_area = passes.has_area;
+        fits = last_passes tests last at.2;
         whole =
             λ state_is accepted tree. reduced_whole group at.0
             (within_group state group at.0 state_is there (named_at state name at.0 at.1)) may.unused may.others may.seqno accepted

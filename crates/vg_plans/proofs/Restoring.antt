@@ -2,31 +2,31 @@
 use Rattle.std.proofs.Common.{inl, inr, ◌≡◌, ◌<◌, ℕ, true, List, [], ◌∷◌, length, Option, Some, None, refl, subst}
 use Rattle.std.specs.Prelude.{All, is_some}
 use Rattle.std.specs.Option.{option_map_or}
-use Rattle.std.specs.Str.{bytes_eq}
-use Rattle.line_answers.specs.declared.op_refusal.OpRefusal.TheVariants.{UnknownGroup}
+use Rattle.line_answers.specs.declared.op_refusal.OpRefusal.TheVariants.{BadRule, BadText, MoveStands, UnknownGroup}
 use Rattle.meta_model.specs.Standing.{HasTree}
 use Rattle.meta_model.specs.declared.group.Group.{Group}
-use Rattle.volume_rules.specs.Rules.{IsAccepted}
+use Rattle.volume_rules.specs.Moving.{has_move}
+use Rattle.volume_rules.specs.Rules.{IsAccepted, number_of}
 use Rattle.scan_rules.proofs.Scanning.{same_bytes_tells}
 use Rattle.scan_rules.specs.Decision.{first_misplaced}
 use Rattle.vg_found.specs.Disks.{disks_of, shapes}
 use Rattle.group_edits.proofs.RestoredGroup.{restored_whole}
 use Rattle.group_edits.proofs.Whole.{IsWhole}
 use Rattle.group_edits.specs.RestoredGroup.{restored_group}
-use Rattle.group_plan.proofs.Chained.{back_passes, front_passes}
-use Rattle.group_plan.proofs.Rows.{none_holds, test_holds}
+use Rattle.group_plan.proofs.Chained.{back_passes, front_passes, last_passes}
 use Rattle.group_plan.specs.Backup.{IsBackup}
-use Rattle.group_plan.specs.Committing.{length_row_on, no_change, rows_where_found, version_change_on, named_rows}
-use Rattle.group_plan.specs.Judging.{area_row, first_refusal}
+use Rattle.group_plan.specs.Committing.{length_row_on, named_rows, no_change, rows_where_found, seqno_row, version_change_on}
+use Rattle.group_plan.specs.Judging.{area_row, first_refusal, refused_if}
 use Rattle.group_plan.specs.State.{IsState}
 use Rattle.group_plan.specs.declared.backup.Backup.{Backup}
 use Rattle.group_plan.specs.declared.backup.Backup.TheVariants.{Broken, Sound, Unread}
 use Rattle.group_plan.specs.declared.state.Change.{Change}
 use Rattle.group_plan.specs.declared.state.GroupState.{GroupState}
+use Rattle.vg_plans.proofs.PassedRows.{sound_passes}
 use Rattle.vg_plans.proofs.PlacedAgain.{restored_placed}
 use Rattle.vg_plans.proofs.SoundBackup.{disks_all_held, sound_listed, sound_seqnos}
-use Rattle.vg_plans.specs.Vgcfgrestore.{backup_change, backup_rows, broken_rows, restore_rows, sound_rows, sound_tests, unread_rows}
-use Rattle.vg_plans.specs.Vgcfgrestore.{vgcfgrestore_change, vgcfgrestore_rows}
+use Rattle.vg_plans.specs.Vgcfgrestore.{backup_change, backup_rows, both_rows, restore_rows, sound_tests, vgcfgrestore_change}
+use Rattle.vg_plans.specs.Vgcfgrestore.{vgcfgrestore_rows}
 
 -- the change commits the group of a sound backup in place of the one in force, to the disks of its physical volumes
 pub record Restores (state : GroupState) (change : Change) (now : ℕ) : Type 0 where
@@ -51,14 +51,14 @@ sound_tree text said (inr gives) = (gives.2.1, record { text = text; tree = give
 backup_restores : (state : GroupState) (now : ℕ) (old : Group) (backup : Backup) → state.backup ≡ Some backup → state.group ≡ Some old
     → first_refusal (backup_rows state old backup now) ≡ None → Restores state (backup_change state backup old) now
 backup_restores state now old (Unread kind) gives there none =
-    absurd (let rows = none_holds (unread_rows old kind) none in let third = rows.1.1.0 in cc)
+    absurd (let last = last_passes (refused_if (has_move old) MoveStands ∷ seqno_row old ∷ []) (Some (BadText kind)) none in cc)
 backup_restores state now old (Broken said rule) gives there none =
-    absurd (let rows = none_holds (broken_rows state old said rule) none in let last = rows.1.1.1.1.1.0 in cc)
+    absurd (let last = last_passes (both_rows state old said) (Some (BadRule (number_of rule))) none in cc)
 backup_restores state now old (Sound said) gives there none =
     let next : Group = restored_group old said in
     let tests : first_refusal (sound_tests state old said) ≡ None =
     back_passes (sound_tests state old said) (length_row_on state (disks_of said state.disks) next now ∷ []) none in
-    let rows = none_holds (sound_rows state old said now) none in
+    let rows = sound_passes state old said tests in
     let seqnos = sound_seqnos state old said tests in
     record {
       old = old;
@@ -66,14 +66,14 @@ backup_restores state now old (Sound said) gives there none =
       said = said;
       gives = gives;
       change_is = refl;
-      same_id = same_bytes_tells said.id old.id (test_holds (bytes_eq said.id old.id) _ rows.1.1.1.1.1.1.0);
-      same_name = same_bytes_tells said.name old.name (test_holds (bytes_eq said.name old.name) _ rows.1.1.1.1.1.1.1.0);
+      same_id = same_bytes_tells said.id old.id rows.same_id;
+      same_name = same_bytes_tells said.name old.name rows.same_name;
       listed = λ is. sound_listed state is old said there tests;
       has_area =
           λ is. subst (λ (disks : List ℕ). area_row state.areas disks ≡ None)
-          (disks_all_held state said (sound_listed state is old said there tests)) rows.1.0;
-      fits = rows.1.1.1.1.1.1.1.1.1.0;
-      placed = restored_placed old said state.disks rows.1.1.1.1.1.0;
+          (disks_all_held state said (sound_listed state is old said there tests)) rows.has_area;
+      fits = last_passes (sound_tests state old said) (length_row_on state (disks_of said state.disks) next now) none;
+      placed = restored_placed old said state.disks rows.shape;
       whole = λ old_is said_is tree. restored_whole old said seqnos.0 seqnos.1 old_is said_is tree;
     }
 

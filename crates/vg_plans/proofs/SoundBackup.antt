@@ -13,19 +13,18 @@ use Rattle.std.proofs.lemmas.Cmp.{same_from_slice_cmp_tested}
 use Rattle.std.proofs.lemmas.List.Elements.{All-from_recursion, recursion_from_All}
 use Rattle.std.specs.Str.{bytes_eq}
 use Rattle.sector_base.proofs.Walks.{next_got}
-use Rattle.line_answers.specs.declared.op_refusal.OpRefusal.TheVariants.{SeqnoEnd}
 use Rattle.meta_model.specs.declared.group.Group.{Group}
 use Rattle.meta_model.specs.declared.pv.Pv.{Pv}
 use Rattle.scan_rules.proofs.Scanning.{same_bytes_tells}
 use Rattle.vg_found.specs.declared.disk.Disk.{Disk}
 use Rattle.vg_found.specs.Disks.{disk_with, disks_of}
 use Rattle.group_plan.proofs.Passed.{both_false}
-use Rattle.group_plan.proofs.Rows.{none_holds, test_fails}
 use Rattle.group_plan.proofs.StateFacts.{IsBelow, listed_are, listed_below}
 use Rattle.group_plan.specs.Ids.{has_pv_id}
 use Rattle.group_plan.specs.Judging.{first_refusal}
 use Rattle.group_plan.specs.State.{IsState}
 use Rattle.group_plan.specs.declared.state.GroupState.{GroupState}
+use Rattle.vg_plans.proofs.PassedRows.{sound_passes}
 use Rattle.vg_plans.specs.Vgcfgrestore.{disks_held, id_lacked, ids_lacked, least_of, lesser, sound_tests}
 
 -- ---- rows
@@ -34,10 +33,8 @@ use Rattle.vg_plans.specs.Vgcfgrestore.{disks_held, id_lacked, ids_lacked, least
 pub sound_seqnos : (state : GroupState) (found said : Group) → first_refusal (sound_tests state found said) ≡ None
     → (found.seqno ≢ 4294967295) × (said.seqno ≢ 4294967295)
 sound_seqnos state found said none =
-    let rows = none_holds (sound_tests state found said) none in
     let parts =
-    both_false (found.seqno == 4294967295) (said.seqno == 4294967295)
-    (test_fails (found.seqno == 4294967295 || said.seqno == 4294967295) SeqnoEnd rows.1.1.1.1.0) in (
+    both_false (found.seqno == 4294967295) (said.seqno == 4294967295) (sound_passes state found said none).seqnos in (
       λ same. true≢false (sym (eq-eqb found.seqno 4294967295 same) ∙ parts.0),
       λ same. true≢false (sym (eq-eqb said.seqno 4294967295 same) ∙ parts.1),
     )
@@ -89,10 +86,8 @@ module _ (P : ℕ → Type 0) (disks : List Disk) where
 sound_on : (P : ℕ → Type 0) (state : GroupState) → IsState state → (found said : Group) → state.group ≡ Some found → All P state.disk_of
     → first_refusal (sound_tests state found said) ≡ None → All P (disks_of said state.disks)
 sound_on P state is found said there holds none =
-    let rows = none_holds (sound_tests state found said) none in
     let lacked =
-    both_false (is_some (id_lacked found said)) (is_some (id_lacked said found))
-    (test_fails (is_some (id_lacked found said) || is_some (id_lacked said found)) _ rows.1.1.1.1.1.1.1.1.0) in
+    both_false (is_some (id_lacked found said)) (is_some (id_lacked said found)) (sound_passes state found said none).same_pvs in
     let all : All P (disks_of found state.disks) = subst (All P) (listed_are state found is there) holds in
     All-from_recursion P (disks_of said state.disks)
     (on_all P state.disks found said.pvs (recursion_from_All P (disks_of found state.disks) all)

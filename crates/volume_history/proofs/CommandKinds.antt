@@ -1,19 +1,47 @@
 -- What commands are that leave the volumes as they are, and those that create no sector.
 use Rattle.std.proofs.Common.{◌≡◌, ℕ, Bool, true, false, List, Option, Some, None, refl, ap, not, ◌||◌, ◌∙◌}
+use Rattle.std.proofs.lemmas.Bool.{and_parts, not-true}
+use Rattle.command_table.specs.Commands.{CommandKind, NextVersion, Removal, Restore, VolumeAdded, VolumeGone, VolumeLonger, VolumeNamed}
+use Rattle.command_table.specs.Commands.{VolumeShorter, kind_of}
 use Rattle.command_table.specs.Options.{Word}
 use Rattle.command_table.specs.declared.command.Command.{Command}
 use Rattle.command_table.specs.declared.command.Command.TheVariants as command
 use Rattle.line_answers.specs.declared.answer.Answer.TheVariants as answer
 use Rattle.disk_model.specs.Steps.{Image}
 use Rattle.line_table.specs.Machine.{PlainState, plain_after}
-use Rattle.group_ops.proofs.NextVersions.{zeroes}
+use Rattle.group_ops.specs.Planning.{kind_zeroes, zeroes}
 use Rattle.image_scans.specs.Versions.{Version}
 use Rattle.volume_history.specs.Candidates.{is_born, is_zeroed}
-use Rattle.volume_history.specs.Commands.{commits, created_disk, is_data, may_say, removes, volume_named, writes, is_list, is_pvcreate, is_read, is_resync}
-use Rattle.volume_history.specs.Quiet.{is_quiet}
-use Rattle.volume_history.specs.Replay.{command_step}
+use Rattle.volume_history.specs.Commands.{commits, created_disk, is_data, may_say, removes, volume_named, writes, is_list, is_pvcreate}
+use Rattle.volume_history.specs.Commands.{is_read, is_resync}
+use Rattle.volume_history.specs.Quiet.{is_quiet, is_quiet_kind}
+use Rattle.volume_history.specs.Replay.{command_step, kind_step}
 
--- what is known of a command that leaves the volumes as they are
+-- the step of a kind of command that leaves the volumes as they are
+record IsQuietStep (kind : CommandKind) : Type 0 where
+  step : (before after : Option Version) (state : PlainState) (image : Image)
+      → (plain_after state (kind_step kind before after state image)).volumes ≡ state.volumes
+  births : (before after : Option Version) (state : PlainState) (image : Image) (key x : ℕ)
+      → is_born (kind_step kind before after state image) state key x ≡ false
+
+quiet_step : (kind : CommandKind) → is_quiet_kind kind ≡ true → IsQuietStep kind
+quiet_step (VolumeAdded lv) q = cc
+quiet_step Removal q = cc
+quiet_step Restore q = cc
+quiet_step (NextVersion (VolumeNamed old new)) q = cc
+quiet_step (NextVersion (VolumeGone lv)) q = cc
+quiet_step (NextVersion (VolumeShorter lv)) q = cc
+quiet_step (NextVersion (VolumeLonger lv)) q = cc
+quiet_step _ q = record { step = λ b a s i. refl; births = λ b a s i k x. refl }
+
+-- what is known of a command that reads and writes no sectors of a volume
+pub undata : (c : Command) → is_data c ≡ false → (writes c ≡ false) × (volume_named c ≡ None)
+undata (command.Read path start count) q = cc
+undata (command.Fill path start count value) q = cc
+undata (command.Write path start hex) q = cc
+undata _ q = (refl, refl)
+
+-- and of one that leaves the volumes as they are
 pub record IsQuietCommand (c : Command) : Type 0 where
   pub step : (before after : Option Version) (state : PlainState) (image : Image)
       → (plain_after state (command_step c before after state image)).volumes ≡ state.volumes
@@ -24,57 +52,43 @@ pub record IsQuietCommand (c : Command) : Type 0 where
   pub unnamed : volume_named c ≡ None
 
 pub quiet_command : (c : Command) → is_quiet c ≡ true → IsQuietCommand c
-quiet_command (command.Pvcreate pv copies) q =
-    record { step = λ b a s i. refl; births = λ b a s i k x. refl; writes_is = refl; data_is = refl; unnamed = refl }
-quiet_command (command.Pvmove moving) q =
-    record { step = λ b a s i. refl; births = λ b a s i k x. refl; writes_is = refl; data_is = refl; unnamed = refl }
-quiet_command (command.Pvck pv) q =
-    record { step = λ b a s i. refl; births = λ b a s i k x. refl; writes_is = refl; data_is = refl; unnamed = refl }
-quiet_command command.Pvs q =
-    record { step = λ b a s i. refl; births = λ b a s i k x. refl; writes_is = refl; data_is = refl; unnamed = refl }
-quiet_command (command.Vgcreate vg extent_size pvs) q =
-    record { step = λ b a s i. refl; births = λ b a s i k x. refl; writes_is = refl; data_is = refl; unnamed = refl }
-quiet_command (command.Vgextend vg pvs) q =
-    record { step = λ b a s i. refl; births = λ b a s i k x. refl; writes_is = refl; data_is = refl; unnamed = refl }
-quiet_command (command.Vgreduce vg pv) q =
-    record { step = λ b a s i. refl; births = λ b a s i k x. refl; writes_is = refl; data_is = refl; unnamed = refl }
-quiet_command (command.Vgrename vg new) q =
-    record { step = λ b a s i. refl; births = λ b a s i k x. refl; writes_is = refl; data_is = refl; unnamed = refl }
-quiet_command (command.Vgcfgbackup vg) q =
-    record { step = λ b a s i. refl; births = λ b a s i k x. refl; writes_is = refl; data_is = refl; unnamed = refl }
-quiet_command command.Vgck q =
-    record { step = λ b a s i. refl; births = λ b a s i k x. refl; writes_is = refl; data_is = refl; unnamed = refl }
-quiet_command command.Vgs q =
-    record { step = λ b a s i. refl; births = λ b a s i k x. refl; writes_is = refl; data_is = refl; unnamed = refl }
-quiet_command command.Lvs q =
-    record { step = λ b a s i. refl; births = λ b a s i k x. refl; writes_is = refl; data_is = refl; unnamed = refl }
-quiet_command command.List q =
-    record { step = λ b a s i. refl; births = λ b a s i k x. refl; writes_is = refl; data_is = refl; unnamed = refl }
-quiet_command command.Wait q =
-    record { step = λ b a s i. refl; births = λ b a s i k x. refl; writes_is = refl; data_is = refl; unnamed = refl }
-quiet_command (command.Resync path) q =
-    record { step = λ b a s i. refl; births = λ b a s i k x. refl; writes_is = refl; data_is = refl; unnamed = refl }
-quiet_command _ q = cc
+quiet_command c q =
+    let both = and_parts (is_quiet_kind (kind_of c)) (not (is_data c)) q in
+    let quiet = quiet_step (kind_of c) both.0 in
+    let none : is_data c ≡ false = not-true (is_data c) both.1 in
+    record {
+      step = quiet.step;
+      births = quiet.births;
+      writes_is = (undata c none).0;
+      data_is = none;
+      unnamed = (undata c none).1;
+    }
 
--- a command that creates sectors, or may place them anew as new ones
+-- a kind of command that creates sectors, or may place them anew as new ones
+abbrev pub kind_bears : CommandKind → Bool
+kind_bears (VolumeAdded lv) = true
+kind_bears (NextVersion (VolumeLonger lv)) = true
+kind_bears Restore = true
+kind_bears _ = false
+
 abbrev pub bears : Command → Bool
-bears (command.Lvcreate new) = true
-bears (command.Lvextend path growth pvs) = true
-bears (command.Vgcfgrestore vg text) = true
-bears _ = false
+bears c = kind_bears (kind_of c)
 
--- the step of another command needs no image, and no sector is born in it
-pub record IsBearless (c : Command) : Type 0 where
+-- the step of another needs no image, and no sector is born in it
+pub record IsBearless (kind : CommandKind) : Type 0 where
   pub step : (before after : Option Version) (state : PlainState) (i j : Image)
-      → command_step c before after state i ≡ command_step c before after state j
+      → kind_step kind before after state i ≡ kind_step kind before after state j
   pub births : (before after : Option Version) (state : PlainState) (i : Image) (key x : ℕ)
-      → is_born (command_step c before after state i) state key x ≡ false
+      → is_born (kind_step kind before after state i) state key x ≡ false
 
-pub bearless : (c : Command) → bears c ≡ false → IsBearless c
-bearless (command.Lvcreate new) q = cc
-bearless (command.Lvextend path growth pvs) q = cc
-bearless (command.Vgcfgrestore vg text) q = cc
-bearless _ q = record { step = λ b a s i j. refl; births = λ b a s i k x. refl }
+kind_bearless : (kind : CommandKind) → kind_bears kind ≡ false → IsBearless kind
+kind_bearless (VolumeAdded lv) q = cc
+kind_bearless (NextVersion (VolumeLonger lv)) q = cc
+kind_bearless Restore q = cc
+kind_bearless _ q = record { step = λ b a s i j. refl; births = λ b a s i k x. refl }
+
+pub bearless : (c : Command) → bears c ≡ false → IsBearless (kind_of c)
+bearless c q = kind_bearless (kind_of c) q
 
 -- a command that creates a physical volume is a pvcreate
 pub created_is : (names : List Word) (disk : ℕ) (c : Command) → created_disk names c ≡ Some disk
@@ -96,14 +110,7 @@ created_says names disk pv c e =
       ap removes is.2,
     )
 
--- what is known of a command that reads and writes no sectors of a volume
-pub undata : (c : Command) → is_data c ≡ false → (writes c ≡ false) × (volume_named c ≡ None)
-undata (command.Read path start count) q = cc
-undata (command.Fill path start count value) q = cc
-undata (command.Write path start hex) q = cc
-undata _ q = (refl, refl)
-
--- and of one that commits a version
+-- what is known of a command that commits a version
 pub commit_kind : (names : List Word) (c : Command) → commits c ≡ true → (is_data c ≡ false) × (created_disk names c ≡ None)
 commit_kind names (command.Pvcreate pv copies) q = cc
 commit_kind names (command.Read path start count) q = cc
@@ -127,8 +134,12 @@ commit_says c pv q = (
   ap (λ (b : Bool). is_data c || (b || (is_pvcreate c || is_resync c))) q ∙ or_true (is_data c),
 )
 
+kind_unzeroed : (kind : CommandKind) → kind_zeroes kind ≡ false → (before after : Option Version) (state : PlainState) (image : Image)
+    (x : ℕ) → is_zeroed (kind_step kind before after state image) x ≡ false
+kind_unzeroed (VolumeAdded lv) q before after state image x = cc
+kind_unzeroed _ q before after state image x = refl
+
 -- no sector is born as a zero but in lvcreate
 pub none_zeroed : (c : Command) → zeroes c ≡ false → (before after : Option Version) (state : PlainState) (image : Image) (x : ℕ)
     → is_zeroed (command_step c before after state image) x ≡ false
-none_zeroed (command.Lvcreate new) q before after state image x = cc
-none_zeroed _ q before after state image x = refl
+none_zeroed c q before after state image x = kind_unzeroed (kind_of c) q before after state image x

@@ -1,4 +1,4 @@
--- The version that a command makes, command by command.
+-- The version that a command makes, by its kind.
 use Rattle.std.proofs.Common.{◌≡◌, ◌≤◌, ◌<◌, ℕ, zero, suc, ◌+◌, ◌==◌, ◌&&◌, ◌||◌, nat_le, nat_lt, Bool, true, false, if◌then◌else◌}
 use Rattle.std.proofs.Common.{slice_index_or, List, [], ◌∷◌, ◌++◌, drop, take, length, Option, Some, None, inl, inr, ⊎_elim, refl, sym, ap}
 use Rattle.std.proofs.Common.{subst, ◌∙◌, arith, length-append}
@@ -7,11 +7,8 @@ use Rattle.std.proofs.lemmas.Bool.{cases_lt}
 use Rattle.std.proofs.lemmas.Bool.Decides.{nat_tests}
 use Rattle.std.proofs.lemmas.Option.{same_Some}
 use Rattle.command_table.specs.declared.command.Command.{Command}
-use Rattle.command_table.specs.declared.command.Command.TheVariants as command
-use Rattle.command_table.specs.declared.amount.Amount.{Amount}
-use Rattle.command_table.specs.declared.amount.Growth.{Growth}
-use Rattle.command_table.specs.declared.command.NewVolume.{NewVolume}
-use Rattle.command_table.specs.declared.command.Path.{Path}
+use Rattle.command_table.specs.Commands.{CommandKind, GroupNamed, Joining, Leaving, NewGroup, NewPv, NextVersion, Removal, Report, Restore}
+use Rattle.command_table.specs.Commands.{Scripted, VolumeAdded, VolumeGone, VolumeLonger, VolumeNamed, VolumeShorter, kind_of}
 use Rattle.disk_model.specs.Steps.{Image}
 use Rattle.line_table.specs.Machine.{Created, Extended, Nothing, PlainState, PlainStep, PlainVolume, key_of, plain_after, sectors_of}
 use Rattle.line_table.specs.Machine.{with_key}
@@ -22,26 +19,26 @@ use Rattle.volume_history.proofs.Bits.{and_both, eq_to, itself, lt_false, lt_tru
 use Rattle.volume_history.proofs.Quiet.{value_on, values_length}
 use Rattle.volume_history.proofs.RestoredVersions.{restored_version}
 use Rattle.volume_history.specs.Candidates.{is_born, no_image, place_at}
-use Rattle.volume_history.specs.Commands.{commits, zero_sector}
-use Rattle.volume_history.specs.Changing.{ChangesVolumes, cut_to, grown_by, has_named, named_so}
+use Rattle.volume_history.specs.Commands.{commits, kind_commits, zero_sector}
+use Rattle.volume_history.specs.Changing.{ChangesVolumes, KindChanges, cut_to, grown_by, has_named, named_so}
 use Rattle.volume_history.specs.Placed.{Place, PlacedVolume, group_name, values_on, volumes_of}
-use Rattle.volume_history.specs.Replay.{command_step, key_or, opening_volumes, places_named, zeroed}
-use Rattle.volume_history.specs.Reshaping.{AllCome, MakesVersion, state_before}
+use Rattle.volume_history.specs.Replay.{key_or, kind_step, opening_volumes, places_named, zeroed}
+use Rattle.volume_history.specs.Reshaping.{AllCome, KindMakes, MakesVersion, state_before}
 
--- a command that leaves all volumes as they are
-kept : (c : Command) (before after : Option Version) → volumes_of after ≡ volumes_of before
+-- a kind of command that leaves all volumes as they are
+kept : (kind : CommandKind) (before after : Option Version) → volumes_of after ≡ volumes_of before
     → ((opening image : Image) → (plain_after (state_before before opening)
-    (command_step c before after (state_before before opening) image)).volumes ≡ opening_volumes opening 0 (volumes_of before))
-    → ((opening image : Image) (key x : ℕ) → is_born (command_step c before after (state_before before opening) image)
+    (kind_step kind before after (state_before before opening) image)).volumes ≡ opening_volumes opening 0 (volumes_of before))
+    → ((opening image : Image) (key x : ℕ) → is_born (kind_step kind before after (state_before before opening) image)
     (state_before before opening) key x ≡ false)
     → ((opening image : Image) → group_name after
-    ≡ (plain_after (state_before before opening) (command_step c before after (state_before before opening) image)).group)
-    → MakesVersion c before after
-kept c before after same machine unborn named = record {
+    ≡ (plain_after (state_before before opening) (kind_step kind before after (state_before before opening) image)).group)
+    → KindMakes kind before after
+kept kind before after same machine unborn named = record {
   named = named;
   volumes = λ opening image.
       let state : PlainState = state_before before opening in
-      let step : PlainStep = command_step c before after state image in
+      let step : PlainStep = kind_step kind before after state image in
       subst (λ (vs : List PlacedVolume). AllCome (volumes_of before) state step image vs (plain_after state step).volumes) (sym same)
       (subst (λ (ps : List PlainVolume). AllCome (volumes_of before) state step image (volumes_of before) ps) (sym (machine opening image))
       (come_kept (volumes_of before) state step image opening 0 (volumes_of before) (λ key x le lt. unborn opening image key x)
@@ -206,13 +203,13 @@ module _ (before after : Option Version) where
   abbrev key_at : Image → List ℕ → ℕ
   key_at opening name = key_or (key_of (opening_volumes opening 0 vs) name)
 
-  renamed : (vg old new : List ℕ) → ChangesVolumes (command.Lvrename vg old new) before after
-      → MakesVersion (command.Lvrename vg old new) before after
-  renamed vg old new is = record {
+  renamed : (old new : List ℕ) → KindChanges (NextVersion (VolumeNamed old new)) before after
+      → KindMakes (NextVersion (VolumeNamed old new)) before after
+  renamed old new is = record {
     named = λ opening image. is.2;
     volumes = λ opening image.
         let state : PlainState = state_before before opening in
-        let step : PlainStep = command_step (command.Lvrename vg old new) before after state image in
+        let step : PlainStep = kind_step (NextVersion (VolumeNamed old new)) before after state image in
         subst (λ (l : List PlacedVolume). AllCome vs state step image l (plain_after state step).volumes) (sym is.0)
         (come_changed vs state step image opening old (named_so new) (λ (v : PlainVolume). record v { name = new }) (key_at opening old)
         (λ other x no. refl) 0 vs (found_key opening old vs is.1) (λ key x place stood. stood)
@@ -220,32 +217,32 @@ module _ (before after : Option Version) where
     births = λ opening image key x. refl;
   }
 
-  removed : (path : Path) → ChangesVolumes (command.Lvremove path) before after → MakesVersion (command.Lvremove path) before after
-  removed path is = record {
+  removed : (lv : List ℕ) → KindChanges (NextVersion (VolumeGone lv)) before after → KindMakes (NextVersion (VolumeGone lv)) before after
+  removed lv is = record {
     named = λ opening image. is.2;
     volumes = λ opening image.
         let state : PlainState = state_before before opening in
-        let step : PlainStep = command_step (command.Lvremove path) before after state image in
+        let step : PlainStep = kind_step (NextVersion (VolumeGone lv)) before after state image in
         subst (λ (l : List PlacedVolume). AllCome vs state step image l (plain_after state step).volumes) (sym is.0)
-        (come_without vs state step image opening path.lv (λ v. v) (λ (v : PlainVolume). v) (key_at opening path.lv) (λ other x no. refl) 0
-        vs (found_key opening path.lv vs is.1) (λ key x place stood. stood));
+        (come_without vs state step image opening lv (λ v. v) (λ (v : PlainVolume). v) (key_at opening lv) (λ other x no. refl) 0
+        vs (found_key opening lv vs is.1) (λ key x place stood. stood));
     births = λ opening image key x. refl;
   }
 
-  reduced : (path : Path) (amount : Amount) → ChangesVolumes (command.Lvreduce path amount) before after
-      → MakesVersion (command.Lvreduce path amount) before after
-  reduced path amount is = record {
+  reduced : (lv : List ℕ) → KindChanges (NextVersion (VolumeShorter lv)) before after
+      → KindMakes (NextVersion (VolumeShorter lv)) before after
+  reduced lv is = record {
     named = λ opening image. is.3;
     volumes = λ opening image.
         let state : PlainState = state_before before opening in
-        let step : PlainStep = command_step (command.Lvreduce path amount) before after state image in
-        let left : ℕ = length (places_named (volumes_of after) path.lv) in
-        let places : places_named (volumes_of after) path.lv ≡ take is.0 (places_named vs path.lv) =
-        ap (λ (l : List PlacedVolume). places_named l path.lv) is.1
-        ∙ places_changed path.lv (cut_to is.0) (take is.0) (λ v. refl) (λ v. refl) vs is.2 in
+        let step : PlainStep = kind_step (NextVersion (VolumeShorter lv)) before after state image in
+        let left : ℕ = length (places_named (volumes_of after) lv) in
+        let places : places_named (volumes_of after) lv ≡ take is.0 (places_named vs lv) =
+        ap (λ (l : List PlacedVolume). places_named l lv) is.1
+        ∙ places_changed lv (cut_to is.0) (take is.0) (λ v. refl) (λ v. refl) vs is.2 in
         subst (λ (l : List PlacedVolume). AllCome vs state step image l (plain_after state step).volumes) (sym is.1)
-        (come_changed vs state step image opening path.lv (cut_to is.0) (λ (v : PlainVolume). record v { sectors = take left v.sectors })
-        (key_at opening path.lv) (λ other x no. refl) 0 vs (found_key opening path.lv vs is.2) (λ key x place stood. stood)
+        (come_changed vs state step image opening lv (cut_to is.0) (λ (v : PlainVolume). record v { sectors = take left v.sectors })
+        (key_at opening lv) (λ other x no. refl) 0 vs (found_key opening lv vs is.2) (λ key x place stood. stood)
         (λ v e here.
         let cut : left ≡ length (take is.0 v.places) = ap length places ∙ ap (λ (l : List Place). length (take is.0 l)) e in (
           refl,
@@ -255,22 +252,22 @@ module _ (before after : Option Version) where
     births = λ opening image key x. refl;
   }
 
-  extended : (path : Path) (growth : Growth) (pvs : List (List ℕ)) → ChangesVolumes (command.Lvextend path growth pvs) before after
-      → MakesVersion (command.Lvextend path growth pvs) before after
-  extended path growth pvs is = record {
+  extended : (lv : List ℕ) → KindChanges (NextVersion (VolumeLonger lv)) before after
+      → KindMakes (NextVersion (VolumeLonger lv)) before after
+  extended lv is = record {
     named = λ opening image. is.3;
     volumes = λ opening image.
         let state : PlainState = state_before before opening in
-        let key : ℕ = key_at opening path.lv in
+        let key : ℕ = key_at opening lv in
         let more : List (List ℕ) = values_on image is.0 in
         let step : PlainStep = Extended key more in
-        let found = found_key opening path.lv vs is.2 in
-        let old : sectors_of (opening_volumes opening 0 vs) key ≡ values_on opening (places_named vs path.lv) =
-        sectors_named opening path.lv 0 vs key found in
+        let found = found_key opening lv vs is.2 in
+        let old : sectors_of (opening_volumes opening 0 vs) key ≡ values_on opening (places_named vs lv) =
+        sectors_named opening lv 0 vs key found in
         subst (λ (st : PlainStep). AllCome vs state st image (volumes_of after) (plain_after state st).volumes)
         (sym (step_is opening image))
         (subst (λ (l : List PlacedVolume). AllCome vs state step image l (plain_after state step).volumes) (sym is.1)
-        (come_changed vs state step image opening path.lv (grown_by is.0) (λ (v : PlainVolume). record v { sectors = v.sectors ++ more })
+        (come_changed vs state step image opening lv (grown_by is.0) (λ (v : PlainVolume). record v { sectors = v.sectors ++ more })
         key
         (λ other x no. ap (λ (b : Bool). b && (nat_le (length (sectors_of (opening_volumes opening 0 vs) other)) x
         && nat_lt x (length (sectors_of (opening_volumes opening 0 vs) other) + length more))) no) 0 vs found (λ k x place stood. stood)
@@ -301,7 +298,7 @@ module _ (before after : Option Version) where
                     (lt_true x (length (sectors_of (opening_volumes opening 0 vs) key) + length more)
                     (omega (arith, lt, long, new, count)))),
                 ap (λ (l : List (List ℕ)). slice_index_or l x [])
-                    (grown_sectors opening more path.lv 0 vs key found ∙ ap (λ (l : List Place). values_on opening l ++ more) e)
+                    (grown_sectors opening more lv 0 vs key found ∙ ap (λ (l : List Place). values_on opening l ++ more) e)
                     ∙ grown_value opening image v.places is.0 x high lt,
               ))
               (cases_lt x (length v.places)),
@@ -310,35 +307,35 @@ module _ (before after : Option Version) where
         let a = step_is opening image in
         let b = step_is opening no_image in
         ap (λ (st : PlainStep). is_born st (state_before before opening) key x) a
-        ∙ ap (λ (n : ℕ). (key_at opening path.lv == key)
+        ∙ ap (λ (n : ℕ). (key_at opening lv == key)
         && (nat_le (length (sectors_of (opening_volumes opening 0 vs) key)) x
         && nat_lt x (length (sectors_of (opening_volumes opening 0 vs) key) + n)))
         (sym (values_length image is.0) ∙ values_length no_image is.0)
         ∙ sym (ap (λ (st : PlainStep). is_born st (state_before before opening) key x) b);
   }
     where
-      step_is : (opening image : Image) → command_step (command.Lvextend path growth pvs) before after (state_before before opening) image
-          ≡ Extended (key_at opening path.lv) (values_on image is.0)
+      step_is : (opening image : Image) → kind_step (NextVersion (VolumeLonger lv)) before after (state_before before opening) image
+          ≡ Extended (key_at opening lv) (values_on image is.0)
       step_is opening image =
-          let places : places_named (volumes_of after) path.lv ≡ places_named vs path.lv ++ is.0 =
-          ap (λ (l : List PlacedVolume). places_named l path.lv) is.1
-          ∙ places_changed path.lv (grown_by is.0) (λ l. l ++ is.0) (λ v. refl) (λ v. refl) vs is.2 in
-          let count : length (sectors_of (opening_volumes opening 0 vs) (key_at opening path.lv)) ≡ length (places_named vs path.lv) =
-          ap length (sectors_named opening path.lv 0 vs (key_at opening path.lv) (found_key opening path.lv vs is.2))
-          ∙ sym (values_length opening (places_named vs path.lv)) in
-          ap (λ (l : List (List ℕ)). Extended (key_at opening path.lv) l)
-          (ap (λ (n : ℕ). drop n (values_on image (places_named (volumes_of after) path.lv))) count
-          ∙ ap (λ (l : List Place). drop (length (places_named vs path.lv)) (values_on image l)) places
-          ∙ drop_values image (places_named vs path.lv) is.0)
+          let places : places_named (volumes_of after) lv ≡ places_named vs lv ++ is.0 =
+          ap (λ (l : List PlacedVolume). places_named l lv) is.1
+          ∙ places_changed lv (grown_by is.0) (λ l. l ++ is.0) (λ v. refl) (λ v. refl) vs is.2 in
+          let count : length (sectors_of (opening_volumes opening 0 vs) (key_at opening lv)) ≡ length (places_named vs lv) =
+          ap length (sectors_named opening lv 0 vs (key_at opening lv) (found_key opening lv vs is.2))
+          ∙ sym (values_length opening (places_named vs lv)) in
+          ap (λ (l : List (List ℕ)). Extended (key_at opening lv) l)
+          (ap (λ (n : ℕ). drop n (values_on image (places_named (volumes_of after) lv))) count
+          ∙ ap (λ (l : List Place). drop (length (places_named vs lv)) (values_on image l)) places
+          ∙ drop_values image (places_named vs lv) is.0)
 
-  created : (new : NewVolume) → ChangesVolumes (command.Lvcreate new) before after → MakesVersion (command.Lvcreate new) before after
-  created new is = record {
+  created : (lv : List ℕ) → KindChanges (VolumeAdded lv) before after → KindMakes (VolumeAdded lv) before after
+  created lv is = record {
     named = λ opening image. is.4;
     volumes = λ opening image.
         let state : PlainState = state_before before opening in
         let sectors : List (List ℕ) = zeroed 8 (values_on image is.0.places) in
-        let step : PlainStep = Created new.lv sectors in
-        let own : PlainVolume = record { key = length vs; name = new.lv; sectors = sectors } in
+        let step : PlainStep = Created lv sectors in
+        let own : PlainVolume = record { key = length vs; name = lv; sectors = sectors } in
         let zero_less : 0 + length vs ≡ length vs = omega arith in
         let count : length is.0.places ≡ length sectors =
         values_length image is.0.places ∙ sym (zeroed_length 8 (values_on image is.0.places)) in
@@ -378,50 +375,46 @@ module _ (before after : Option Version) where
         ∙ sym (ap (λ (st : PlainStep). is_born st (state_before before opening) key x) (step_is opening no_image));
   }
     where
-      step_is : (opening image : Image) → command_step (command.Lvcreate new) before after (state_before before opening) image
-          ≡ Created new.lv (zeroed 8 (values_on image is.0.places))
+      step_is : (opening image : Image) → kind_step (VolumeAdded lv) before after (state_before before opening) image
+          ≡ Created lv (zeroed 8 (values_on image is.0.places))
       step_is opening image =
-          ap (λ (l : List Place). Created new.lv (zeroed 8 (values_on image l)))
-          (ap (λ (l : List PlacedVolume). places_named l new.lv) is.2
-          ∙ places_last new.lv vs is.0 is.3 (ap (λ (n : List ℕ). bytes_eq n new.lv) is.1 ∙ itself new.lv))
+          ap (λ (l : List Place). Created lv (zeroed 8 (values_on image l)))
+          (ap (λ (l : List PlacedVolume). places_named l lv) is.2
+          ∙ places_last lv vs is.0 is.3 (ap (λ (n : List ℕ). bytes_eq n lv) is.1 ∙ itself lv))
 
 -- where there is no group there is no volume
 no_volumes : volumes_of None ≡ []
 unfolding volumes_of
 no_volumes = refl
 
--- what a command makes of the volumes by its own rule is the version that the machine makes
-pub changes_make : (c : Command) (before after : Option Version) → ChangesVolumes c before after → MakesVersion c before after
-changes_make (command.Vgcreate vg extent_size pvs) before after is =
-    kept (command.Vgcreate vg extent_size pvs) before after is.0 (λ o i. refl) (λ o i k x. refl) (λ o i. is.1)
-changes_make (command.Vgextend vg pvs) before after is =
-    kept (command.Vgextend vg pvs) before after is.0 (λ o i. refl) (λ o i k x. refl) (λ o i. is.1)
-changes_make (command.Vgreduce vg pv) before after is =
-    kept (command.Vgreduce vg pv) before after is.0 (λ o i. refl) (λ o i k x. refl) (λ o i. is.1)
-changes_make (command.Vgrename vg new) before after is =
-    kept (command.Vgrename vg new) before after is.0 (λ o i. refl) (λ o i k x. refl) (λ o i. is.1)
-changes_make (command.Lvrename vg old new) before after is = renamed before after vg old new is
-changes_make (command.Lvremove path) before after is = removed before after path is
-changes_make (command.Lvreduce path amount) before after is = reduced before after path amount is
-changes_make (command.Lvextend path growth pvs) before after is = extended before after path growth pvs is
-changes_make (command.Lvcreate new) before after is = created before after new is
-changes_make (command.Vgremove vg) before after is =
-    kept (command.Vgremove vg) before after (ap (λ (v : Option Version). volumes_of v) is.1 ∙ no_volumes ∙ sym is.0) (λ o i. refl)
+-- what a kind of command makes of the volumes by its own rule is the version that the machine makes
+kind_makes : (kind : CommandKind) (before after : Option Version) → KindChanges kind before after → KindMakes kind before after
+kind_makes (NewGroup vg) before after is = kept (NewGroup vg) before after is.0 (λ o i. refl) (λ o i k x. refl) (λ o i. is.1)
+kind_makes Joining before after is = kept Joining before after is.0 (λ o i. refl) (λ o i k x. refl) (λ o i. is.1)
+kind_makes Leaving before after is = kept Leaving before after is.0 (λ o i. refl) (λ o i k x. refl) (λ o i. is.1)
+kind_makes Removal before after is =
+    kept Removal before after (ap (λ (v : Option Version). volumes_of v) is.1 ∙ no_volumes ∙ sym is.0) (λ o i. refl)
     (λ o i k x. refl) (λ o i. ap (λ (v : Option Version). group_name v) is.1)
-changes_make (command.Vgcfgrestore vg text) before after is = restored_version before after vg text is.0 is.1 is.2
-changes_make _ before after is = absurd is
+kind_makes Restore before after is = restored_version before after is.0 is.1 is.2
+kind_makes (NextVersion (GroupNamed new)) before after is =
+    kept (NextVersion (GroupNamed new)) before after is.0 (λ o i. refl) (λ o i k x. refl) (λ o i. is.1)
+kind_makes (NextVersion (VolumeNamed old new)) before after is = renamed before after old new is
+kind_makes (NextVersion (VolumeGone lv)) before after is = removed before after lv is
+kind_makes (NextVersion (VolumeShorter lv)) before after is = reduced before after lv is
+kind_makes (NextVersion (VolumeLonger lv)) before after is = extended before after lv is
+kind_makes (VolumeAdded lv) before after is = created before after lv is
+kind_makes _ before after is = absurd is
+
+-- so of a command
+pub changes_make : (c : Command) (before after : Option Version) → ChangesVolumes c before after → MakesVersion c before after
+changes_make c before after is = kind_makes (kind_of c) before after is
+
+kind_commits_it : (kind : CommandKind) (before after : Option Version) → KindChanges kind before after → kind_commits kind ≡ true
+kind_commits_it NewPv before after is = absurd is
+kind_commits_it Report before after is = absurd is
+kind_commits_it Scripted before after is = absurd is
+kind_commits_it _ before after is = refl
 
 -- it commits a version
 pub changes_commit : (c : Command) (before after : Option Version) → ChangesVolumes c before after → commits c ≡ true
-changes_commit (command.Vgcreate vg extent_size pvs) before after is = refl
-changes_commit (command.Vgextend vg pvs) before after is = refl
-changes_commit (command.Vgreduce vg pv) before after is = refl
-changes_commit (command.Vgrename vg new) before after is = refl
-changes_commit (command.Lvrename vg old new) before after is = refl
-changes_commit (command.Lvremove path) before after is = refl
-changes_commit (command.Lvreduce path amount) before after is = refl
-changes_commit (command.Lvextend path growth pvs) before after is = refl
-changes_commit (command.Lvcreate new) before after is = refl
-changes_commit (command.Vgremove vg) before after is = refl
-changes_commit (command.Vgcfgrestore vg text) before after is = refl
-changes_commit _ before after is = absurd is
+changes_commit c before after is = kind_commits_it (kind_of c) before after is

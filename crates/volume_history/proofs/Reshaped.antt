@@ -7,7 +7,7 @@ use Rattle.command_table.specs.declared.command.Command.{Command}
 use Rattle.disk_model.specs.CrashValues.{MayLeave}
 use Rattle.disk_model.specs.Steps.{Image}
 use Rattle.line_table.specs.Machine.{PlainState, PlainStep, PlainVolume, plain_after, sector_of, sectors_of}
-use Rattle.group_ops.proofs.NextVersions.{zeroes}
+use Rattle.group_ops.specs.Planning.{zeroes}
 use Rattle.image_scans.specs.Versions.{Version}
 use Rattle.volume_history.proofs.CommandKinds.{none_zeroed}
 use Rattle.volume_history.specs.Single.{ZeroesStand}

@@ -5,7 +5,7 @@ use Rattle.std.proofs.Common.{[], ◌∷◌, drop, length, map, Option, Some, No
 use Rattle.std.specs.Prelude.{◌⊎◌}
 use Rattle.std.specs.Str.{bytes_eq}
 use Rattle.std.proofs.lemmas.Option.{same_Some}
-use Rattle.command_table.specs.declared.command.Command.TheVariants.{Vgcfgrestore}
+use Rattle.command_table.specs.Commands.{Restore}
 use Rattle.disk_model.specs.Steps.{Image}
 use Rattle.line_table.specs.Machine.{PlainState, PlainStep, PlainVolume, Restored, RestoredVolume, key_of, restored_sectors}
 use Rattle.line_table.specs.Machine.{restored_volume, sectors_of}
@@ -16,7 +16,7 @@ use Rattle.volume_history.specs.Candidates.{is_given, is_replaced, no_image, pla
 use Rattle.volume_history.specs.Changing.{HaveOwnIds, HaveOwnNames, has_named}
 use Rattle.volume_history.specs.Placed.{Place, PlacedVolume, group_name, volumes_of}
 use Rattle.volume_history.specs.Replay.{key_or, moved, next_after, next_restored, opening_volumes, restored, restored_as, volume_of_id}
-use Rattle.volume_history.specs.Reshaping.{AllCome, ComesFrom, MakesVersion, StoodAt, state_before}
+use Rattle.volume_history.specs.Reshaping.{AllCome, ComesFrom, KindMakes, StoodAt, state_before}
 
 -- ---- the sectors of one volume
 
@@ -378,9 +378,9 @@ replaced_alike before plain a b next (v ∷ vs) key x = by (λ more. replaced_al
         ap (λ (g : Bool). if key_or (key_of plain old.name) == key then g else rest a (Some old)) (given_alike a b old.places v.places x)
         ∙ ap (λ (r : Bool). if key_or (key_of plain old.name) == key then is_given (moved b old.places v.places) x else r) (same next)
 
-pub restored_version : (before after : Option Version) (vg text : List ℕ) → HaveOwnNames (volumes_of before) → HaveOwnIds (volumes_of after)
-    → group_name after ≡ group_name before → MakesVersion (Vgcfgrestore vg text) before after
-restored_version before after vg text names ids named = record {
+pub restored_version : (before after : Option Version) → HaveOwnNames (volumes_of before) → HaveOwnIds (volumes_of after)
+    → group_name after ≡ group_name before → KindMakes Restore before after
+restored_version before after names ids named = record {
   named = λ opening image. named;
   volumes = λ opening image.
       let vs : List PlacedVolume = volumes_of before in

@@ -1,31 +1,30 @@
 -- Histories that leave the volumes as they are.
-use Rattle.std.specs.Prelude.{◌≡◌, ℕ, Bool, true, false, List, [], ◌∷◌, Option, Some, None}
+use Rattle.std.specs.Prelude.{◌≡◌, ℕ, Bool, true, false, not, ◌&&◌, List, [], ◌∷◌, Option, Some, None}
 use Rattle.command_table.specs.declared.command.Command.{Command}
-use Rattle.command_table.specs.declared.command.Command.TheVariants.{Vgremove, Vgcfgrestore, Lvcreate, Lvextend, Lvreduce, Lvremove}
-use Rattle.command_table.specs.declared.command.Command.TheVariants.{Lvrename, Read, Fill, Write}
+use Rattle.command_table.specs.Commands.{CommandKind, GroupNamed, NextVersion, Removal, Restore, VolumeAdded, kind_of}
 use Rattle.disk_model.specs.CrashValues.{MayLeave}
 use Rattle.disk_model.specs.Steps.{Image, Record}
 use Rattle.line_table.specs.Machine.{plain_after}
 use Rattle.image_scans.specs.Versions.{Version}
 use Rattle.volume_history.specs.Placed.{Place, PlacedVolume, group_name, volumes_of}
+use Rattle.volume_history.specs.Commands.{is_data}
 use Rattle.volume_history.specs.Chronicles.{ChronicleEntry, Begun, Origin, Chronicle, chronicle_at, in_force, now_at, pending}
 use Rattle.volume_history.specs.Replay.{plain_state}
 use Rattle.volume_history.specs.Candidates.{pending_step}
 use Rattle.volume_history.specs.Parts.{ScansPart}
 
--- whether the command leaves the volumes and what they hold as they are
+-- whether a kind of command leaves the volumes as they are
+abbrev pub is_quiet_kind : CommandKind → Bool
+is_quiet_kind (NextVersion (GroupNamed new)) = true
+is_quiet_kind (NextVersion difference) = false
+is_quiet_kind (VolumeAdded lv) = false
+is_quiet_kind Removal = false
+is_quiet_kind Restore = false
+is_quiet_kind _ = true
+
+-- whether the command leaves the volumes and what they hold as they are: it reads and writes no sectors of them either
 abbrev pub is_quiet : Command → Bool
-is_quiet (Vgremove vg) = false
-is_quiet (Vgcfgrestore vg text) = false
-is_quiet (Lvcreate new) = false
-is_quiet (Lvextend path growth pvs) = false
-is_quiet (Lvreduce path amount) = false
-is_quiet (Lvremove path) = false
-is_quiet (Lvrename vg old new) = false
-is_quiet (Read path start count) = false
-is_quiet (Fill path start count value) = false
-is_quiet (Write path start hex) = false
-is_quiet _ = true
+is_quiet command = is_quiet_kind (kind_of command) && not (is_data command)
 
 -- each line that was begun does
 abbrev pub AreQuiet : List ChronicleEntry → Type 0

@@ -7,8 +7,9 @@ use Rattle.volume_rules.specs.declared.rule.Rule.TheVariants.{Numbers}
 use Rattle.extent_alloc.specs.Giving.{IsRequest}
 use Rattle.group_plan.proofs.PlacedGroup.{few_listed, lie_on_disks}
 use Rattle.group_plan.specs.Judging.{first_refusal}
-use Rattle.lv_plans.proofs.Extending.{growth_passes, grows_if, has_last_legs, has_segment, is_request, more_is, planned_volume}
-use Rattle.lv_plans.proofs.Extending.{refused_growth, refused_space}
+use Rattle.lv_plans.proofs.Extending.{grows_if, has_last_legs, has_segment, is_request, more_is, planned_volume, refused_growth}
+use Rattle.lv_plans.proofs.Extending.{refused_space}
+use Rattle.lv_plans.proofs.PassedRows.{growth_passes}
 use Rattle.lv_plans.proofs.GivenParts.{few_parts}
 use Rattle.lv_plans.proofs.Reducing.{has_few_extents, has_few_legs}
 use Rattle.lv_plans.specs.Lvextend.{growth_rows}
