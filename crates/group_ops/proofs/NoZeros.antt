@@ -25,7 +25,7 @@ use Rattle.vg_plans.specs.Vgreduce.{leaving_change, reduce_change}
 use Rattle.lv_plans.specs.Allocating.{Asking, PlansWith}
 use Rattle.lv_plans.proofs.GivenParts.{plans_within}
 use Rattle.group_ops.proofs.NextVersions.{no_zero, by_kind}
-use Rattle.group_ops.specs.Planning.{zeroes, IsPlanned, asks_of, change_of, rows_of}
+use Rattle.group_ops.specs.Planning.{IsPlanned, asks_of, change_of, rows_of, zeroes}
 
 extend_none : (state : GroupState) (pvs : List (List ℕ)) (o : Option Group) → (extend_by state o pvs).zero ≡ []
 extend_none state pvs None = refl

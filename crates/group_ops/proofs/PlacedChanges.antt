@@ -31,7 +31,7 @@ use Rattle.vg_plans.specs.Vgcfgrestore.{backup_change, restore_rows, sound_rows,
 use Rattle.vg_plans.specs.Vgreduce.{leaving_change, reduce_change as leave_change}
 use Rattle.lv_plans.specs.Lvcreate.{create_change}
 use Rattle.group_ops.proofs.NextVersions.{is_next, next_holds}
-use Rattle.group_ops.specs.Planning.{zeroes, change_of, refusal_of}
+use Rattle.group_ops.specs.Planning.{change_of, refusal_of, zeroes}
 use Rattle.group_ops.specs.Laws.{ArePlaced, ChangeIsPlaced}
 
 empty_on : (id name : List ℕ) (extent_size : ℕ) (pv : Option PvOf) → unwrap_or (option_map (λ (found : PvOf). false) pv) false ≡ false

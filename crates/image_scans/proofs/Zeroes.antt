@@ -35,7 +35,7 @@ use Rattle.group_plan.specs.declared.state.Change.{Change}
 use Rattle.group_plan.specs.declared.backup.Backup.{Backup}
 use Rattle.lv_plans.specs.Allocating.{Takes}
 use Rattle.group_ops.proofs.NextVersions.{drawn_is}
-use Rattle.group_ops.specs.Planning.{zeroes, IsPlanned, asks_of, change_of, refusal_of}
+use Rattle.group_ops.specs.Planning.{IsPlanned, asks_of, change_of, refusal_of, zeroes}
 use Rattle.group_ops.proofs.NoZeros.{none_zeroed}
 use Rattle.group_ops.specs.Laws.{state_in}
 use Rattle.change_batches.specs.Batches.{batch_if, zero_put}

@@ -6,7 +6,7 @@ use Rattle.std.proofs.lemmas.Bool.{cases_lt, true≢false}
 use Rattle.sector_base.specs.declared.spans.Span.{Span}
 use Rattle.command_table.specs.Options.{Word}
 use Rattle.command_table.specs.declared.command.Command.{Command}
-use Rattle.command_table.specs.declared.command.Command.TheVariants.{Vgremove, Read, Fill, Write, Wait}
+use Rattle.command_table.specs.declared.command.Command.TheVariants.{Fill, Read, Vgreduce, Vgremove, Wait, Write}
 use Rattle.command_table.specs.Commands.{CommandKind, NextVersion, VolumeAdded, kind_of as command_kind}
 use Rattle.line_answers.specs.declared.answer.Answer.{Answer}
 use Rattle.line_answers.specs.declared.answer.Answer.TheVariants as answer

@@ -31,7 +31,7 @@ use Rattle.lv_plans.proofs.Creating.{zeroed_is}
 use Rattle.lv_plans.specs.Allocating.{Takes}
 use Rattle.lv_plans.specs.Lvcreate.{created_group, eight_from, kind_for, zeroed_at}
 use Rattle.group_ops.proofs.NextVersions.{drawn_is}
-use Rattle.group_ops.specs.Planning.{zeroes, IsPlanned, asks_of, change_of, refusal_of}
+use Rattle.group_ops.specs.Planning.{IsPlanned, asks_of, change_of, refusal_of, zeroes}
 use Rattle.group_ops.specs.Laws.{state_in}
 use Rattle.image_scans.specs.Laws.{in_spans, version_of}
 use Rattle.image_scans.specs.Versions.{Version, version_in}

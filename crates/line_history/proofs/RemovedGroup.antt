@@ -25,7 +25,7 @@ use Rattle.group_plan.proofs.Chained.{front_passes}
 use Rattle.group_plan.specs.Committing.{named_rows, rows_where_found}
 use Rattle.group_plan.specs.Judging.{first_refusal}
 use Rattle.vg_plans.specs.Vgremove.{remove_rows, volume_row}
-use Rattle.group_ops.specs.Planning.{zeroes, change_of, refusal_of}
+use Rattle.group_ops.specs.Planning.{change_of, refusal_of, zeroes}
 use Rattle.group_ops.specs.Laws.{state_in}
 use Rattle.change_batches.specs.Batches.{batch_if, zero_put}
 use Rattle.vg_change.specs.LineBatches.{batches_of}

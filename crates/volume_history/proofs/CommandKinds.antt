@@ -1,8 +1,8 @@
 -- What commands are that leave the volumes as they are, and those that create no sector.
 use Rattle.std.proofs.Common.{◌≡◌, ℕ, Bool, true, false, List, Option, Some, None, refl, ap, not, ◌||◌, ◌∙◌}
 use Rattle.std.proofs.lemmas.Bool.{and_parts, not-true}
-use Rattle.command_table.specs.Commands.{CommandKind, NextVersion, Removal, Restore, VolumeAdded, VolumeGone, VolumeLonger, VolumeNamed}
-use Rattle.command_table.specs.Commands.{VolumeShorter, kind_of}
+use Rattle.command_table.specs.Commands.{CommandKind, GroupNamed, NextVersion, Removal, Restore, VolumeAdded, VolumeGone, VolumeLonger}
+use Rattle.command_table.specs.Commands.{VolumeNamed, VolumeShorter, kind_of}
 use Rattle.command_table.specs.Options.{Word}
 use Rattle.command_table.specs.declared.command.Command.{Command}
 use Rattle.command_table.specs.declared.command.Command.TheVariants as command
@@ -137,6 +137,7 @@ commit_says c pv q = (
 kind_unzeroed : (kind : CommandKind) → kind_zeroes kind ≡ false → (before after : Option Version) (state : PlainState) (image : Image)
     (x : ℕ) → is_zeroed (kind_step kind before after state image) x ≡ false
 kind_unzeroed (VolumeAdded lv) q before after state image x = cc
+kind_unzeroed (NextVersion (GroupNamed new)) q before after state image x = refl
 kind_unzeroed _ q before after state image x = refl
 
 -- no sector is born as a zero but in lvcreate
