@@ -21,21 +21,21 @@ use std::alloc::Global;
 pub fn read_areas<S: Shelf>(
     alloc: Global,
     shelf: &mut S,
-    pv: u32,
+    disk: u32,
     areas: &[Extent],
 ) -> Result<AreasFound, ReadRefusal>
     requires idle { (S.state shelf.old).in_flight ≡ [] }
-    requires disk { pv < length (S.state shelf.old).sizes }
-    requires within { All (λ area. area.offset / 512 < slice_index_or (S.state shelf.old).sizes pv 0) areas.now }
+    requires disk { disk < length (S.state shelf.old).sizes }
+    requires within { All (λ area. area.offset / 512 < slice_index_or (S.state shelf.old).sizes disk 0) areas.now }
     ensures found { MatchResult result
-        (λ all. ReadsWell (S.state shelf.old) (area_spans pv areas.now) (S.state shelf.new) × HoldsOfDisk (S.state shelf.old).told pv (λ sector_at. AreAreasFound sector_at areas.now all))
-        (ReadsUntil pv (S.state shelf.old) (area_spans pv areas.now) (S.state shelf.new)) }
+        (λ all. ReadsWell (S.state shelf.old) (area_spans disk areas.now) (S.state shelf.new) × HoldsOfDisk (S.state shelf.old).told disk (λ sector_at. AreAreasFound sector_at areas.now all))
+        (ReadsUntil disk (S.state shelf.old) (area_spans disk areas.now) (S.state shelf.new)) }
     ensures areas { IfOk result (λ all. map (λ found. found.area) all ≡ areas.now) }
     ensures inside { IfOk result (All HasTextInside) }
 {
     let mut list = Vec::new(alloc);
     for area in areas {
-        let found = read_area(alloc, shelf, pv, *area)?;
+        let found = read_area(alloc, shelf, disk, *area)?;
         list.push(found)?;
     }
     Ok(AreasFound::from_vec(list))
@@ -45,18 +45,18 @@ pub fn read_areas<S: Shelf>(
 fn read_area<S: Shelf>(
     alloc: Global,
     shelf: &mut S,
-    pv: u32,
+    disk: u32,
     area: Extent,
 ) -> Result<AreaFound, ReadRefusal>
     requires idle { (S.state shelf.old).in_flight ≡ [] }
-    requires disk { pv < length (S.state shelf.old).sizes }
-    requires within { area.offset / 512 < slice_index_or (S.state shelf.old).sizes pv 0 }
+    requires disk { disk < length (S.state shelf.old).sizes }
+    requires within { area.offset / 512 < slice_index_or (S.state shelf.old).sizes disk 0 }
     ensures found { MatchResult result
-        (λ found. ReadsWell (S.state shelf.old) (one_sector pv (area.offset / 512) ∷ []) (S.state shelf.new) × (found.area ≡ area) × HoldsOfDisk (S.state shelf.old).told pv (λ sector_at. IsAreaFound sector_at found))
-        (ReadsUntil pv (S.state shelf.old) (one_sector pv (area.offset / 512) ∷ []) (S.state shelf.new)) }
+        (λ found. ReadsWell (S.state shelf.old) (one_sector disk (area.offset / 512) ∷ []) (S.state shelf.new) × (found.area ≡ area) × HoldsOfDisk (S.state shelf.old).told disk (λ sector_at. IsAreaFound sector_at found))
+        (ReadsUntil disk (S.state shelf.old) (one_sector disk (area.offset / 512) ∷ []) (S.state shelf.new)) }
     ensures inside { IfOk result HasTextInside }
 {
-    let sector = read_sector(alloc, shelf, pv, area.offset / 512)?;
+    let sector = read_sector(alloc, shelf, disk, area.offset / 512)?;
     Ok(look(&sector, area))
 }
 

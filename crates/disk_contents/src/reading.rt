@@ -15,17 +15,17 @@ use std::alloc::Global;
 pub fn read_first<S: Shelf>(
     alloc: Global,
     shelf: &mut S,
-    pv: u32,
+    disk: u32,
 ) -> Result<[Bytes512; 4], ReadRefusal>
     requires idle { (S.state shelf.old).in_flight ≡ [] }
-    requires disk { pv < length (S.state shelf.old).sizes }
-    requires least { 4 ≤ slice_index_or (S.state shelf.old).sizes pv 0 }
+    requires disk { disk < length (S.state shelf.old).sizes }
+    requires least { 4 ≤ slice_index_or (S.state shelf.old).sizes disk 0 }
     ensures { MatchResult result
-        (λ four. ReadsWell (S.state shelf.old) (label_span pv ∷ []) (S.state shelf.new) × HoldsOfDisk (S.state shelf.old).told pv (λ sector_at. four ≡ first_four sector_at))
-        (ReadsUntil pv (S.state shelf.old) (label_span pv ∷ []) (S.state shelf.new)) }
+        (λ four. ReadsWell (S.state shelf.old) (label_span disk ∷ []) (S.state shelf.new) × HoldsOfDisk (S.state shelf.old).told disk (λ sector_at. four ≡ first_four sector_at))
+        (ReadsUntil disk (S.state shelf.old) (label_span disk ∷ []) (S.state shelf.new)) }
 {
     let span = Span {
-        pv,
+        pv: disk,
         first: 0,
         count: LABEL_SECTORS,
     };
@@ -42,18 +42,18 @@ pub fn read_first<S: Shelf>(
 pub fn read_sector<S: Shelf>(
     alloc: Global,
     shelf: &mut S,
-    pv: u32,
+    disk: u32,
     sector: u64,
 ) -> Result<Bytes512, ReadRefusal>
     requires idle { (S.state shelf.old).in_flight ≡ [] }
-    requires disk { pv < length (S.state shelf.old).sizes }
-    requires within { sector < slice_index_or (S.state shelf.old).sizes pv 0 }
+    requires disk { disk < length (S.state shelf.old).sizes }
+    requires within { sector < slice_index_or (S.state shelf.old).sizes disk 0 }
     ensures { MatchResult result
-        (λ contents. ReadsWell (S.state shelf.old) (one_sector pv sector ∷ []) (S.state shelf.new) × HoldsOfDisk (S.state shelf.old).told pv (λ sector_at. contents ≡ sector_at sector))
-        (ReadsUntil pv (S.state shelf.old) (one_sector pv sector ∷ []) (S.state shelf.new)) }
+        (λ contents. ReadsWell (S.state shelf.old) (one_sector disk sector ∷ []) (S.state shelf.new) × HoldsOfDisk (S.state shelf.old).told disk (λ sector_at. contents ≡ sector_at sector))
+        (ReadsUntil disk (S.state shelf.old) (one_sector disk sector ∷ []) (S.state shelf.new)) }
 {
     let span = Span {
-        pv,
+        pv: disk,
         first: sector,
         count: 1,
     };

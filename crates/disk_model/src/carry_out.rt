@@ -53,20 +53,20 @@ pub fn read_span<S: Shelf>(shelf: &mut S, span: Span, buffer: Sectors) -> Result
 
 /// Flushes the disk, where nothing else is in flight. An error comes exactly where the flush failed, which was then the
 /// last step.
-pub fn flush<S: Shelf>(shelf: &mut S, pv: u32) -> Result<(), DiskFault>
+pub fn flush<S: Shelf>(shelf: &mut S, disk: u32) -> Result<(), DiskFault>
     requires idle { (S.state shelf.old).in_flight ≡ [] }
-    requires disk { pv < length (S.state shelf.old).sizes }
+    requires disk { disk < length (S.state shelf.old).sizes }
     requires ops { 0 < (S.state shelf.old).spare_ops }
-    ensures carried_out { (done : DoneRecord) × CarriesOut (S.state shelf.old) (Op.Flush pv) done (S.state shelf.new) × (done.well ≡ is_ok result) }
+    ensures carried_out { (done : DoneRecord) × CarriesOut (S.state shelf.old) (Op.Flush disk) done (S.state shelf.new) × (done.well ≡ is_ok result) }
     ensures spends { SpendsAtMost (S.state shelf.old) 1 0 (S.state shelf.new) }
     ensures fault { MatchResult result (λ _. HasSameFaults (S.state shelf.old) (S.state shelf.new))
-        (λ fault. IsLastFault (S.state shelf.old) (S.state shelf.new) fault.pv (Flushing pv)) }
-    ensures keeps { KeepsSectorsTold (S.state shelf.old).told (if is_ok result then pv ∷ [] else []) (S.state shelf.new).told }
+        (λ fault. IsLastFault (S.state shelf.old) (S.state shelf.new) fault.pv (Flushing disk)) }
+    ensures keeps { KeepsSectorsTold (S.state shelf.old).told (if is_ok result then disk ∷ [] else []) (S.state shelf.new).told }
 {
-    if run_one(shelf, Op::Flush(pv)).well {
+    if run_one(shelf, Op::Flush(disk)).well {
         Ok(())
     } else {
-        Err(DiskFault { pv })
+        Err(DiskFault { pv: disk })
     }
 }
 
@@ -74,28 +74,28 @@ pub fn flush<S: Shelf>(shelf: &mut S, pv: u32) -> Result<(), DiskFault>
 /// one of the two failed, which was then the last step: the flush isn't tried after a write that failed.
 pub fn put_sector<S: Shelf>(
     shelf: &mut S,
-    pv: u32,
+    disk: u32,
     sector: u64,
     contents: Sectors,
 ) -> Result<(), DiskFault>
     requires idle { (S.state shelf.old).in_flight ≡ [] }
-    requires disk { pv < length (S.state shelf.old).sizes }
-    requires within { sector < slice_index_or (S.state shelf.old).sizes pv 0 }
+    requires disk { disk < length (S.state shelf.old).sizes }
+    requires within { sector < slice_index_or (S.state shelf.old).sizes disk 0 }
     requires one { length contents ≡ 1 }
     requires ops { 2 ≤ (S.state shelf.old).spare_ops }
     requires sectors { 1 ≤ (S.state shelf.old).spare_sectors }
     ensures spends { SpendsAtMost (S.state shelf.old) 2 1 (S.state shelf.new) }
     ensures fault { MatchResult result (λ _. HasSameFaults (S.state shelf.old) (S.state shelf.new))
-        (λ fault. IsPutFault (S.state shelf.old) (S.state shelf.new) (record { pv = pv; sector = sector; value = slice_index_or contents 0 [] }) fault.pv) }
-    ensures puts { PutsAllTold (S.state shelf.old).told (record { pv = pv; sector = sector; value = slice_index_or contents 0 [] } ∷ []) (is_ok result) (S.state shelf.new).told }
+        (λ fault. IsPutFault (S.state shelf.old) (S.state shelf.new) (record { pv = disk; sector = sector; value = slice_index_or contents 0 [] }) fault.pv) }
+    ensures puts { PutsAllTold (S.state shelf.old).told (record { pv = disk; sector = sector; value = slice_index_or contents 0 [] } ∷ []) (is_ok result) (S.state shelf.new).told }
 {
     let span = Span {
-        pv,
+        pv: disk,
         first: sector,
         count: 1,
     };
     if !run_one(shelf, Op::Write(span, contents)).well {
-        return Err(DiskFault { pv });
+        return Err(DiskFault { pv: disk });
     }
-    flush(shelf, pv)
+    flush(shelf, disk)
 }

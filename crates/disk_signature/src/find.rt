@@ -19,19 +19,19 @@ use std::alloc::Global;
 pub fn find_signature<S: Shelf>(
     alloc: Global,
     shelf: &mut S,
-    pv: u32,
+    disk: u32,
 ) -> Result<Option<Kind>, ReadRefusal>
     requires idle { (S.state shelf.old).in_flight ≡ [] }
-    requires disk { pv < length (S.state shelf.old).sizes }
+    requires disk { disk < length (S.state shelf.old).sizes }
     ensures { MatchResult result
         (λ found. ((spans : List Span) × ReadsWell (S.state shelf.old) spans (S.state shelf.new))
-        × HoldsOfDisk (S.state shelf.old).told pv
-        (λ sector_at. found ≡ first_kind sector_at (slice_index_or (S.state shelf.old).sizes pv 0)))
-        (λ refusal. (spans : List Span) × ReadsUntil pv (S.state shelf.old) spans (S.state shelf.new) refusal) }
+        × HoldsOfDisk (S.state shelf.old).told disk
+        (λ sector_at. found ≡ first_kind sector_at (slice_index_or (S.state shelf.old).sizes disk 0)))
+        (λ refusal. (spans : List Span) × ReadsUntil disk (S.state shelf.old) spans (S.state shelf.new) refusal) }
 {
     let rows = signatures();
     for row in rows {
-        if stands(alloc, shelf, pv, row)? {
+        if stands(alloc, shelf, disk, row)? {
             return Ok(Some(row.kind()));
         }
     }
@@ -42,20 +42,20 @@ pub fn find_signature<S: Shelf>(
 fn stands<S: Shelf>(
     alloc: Global,
     shelf: &mut S,
-    pv: u32,
+    disk: u32,
     row: &Signature,
 ) -> Result<bool, ReadRefusal>
     requires idle { (S.state shelf.old).in_flight ≡ [] }
-    requires disk { pv < length (S.state shelf.old).sizes }
+    requires disk { disk < length (S.state shelf.old).sizes }
     ensures { MatchResult result
         (λ found. ((spans : List Span) × ReadsWell (S.state shelf.old) spans (S.state shelf.new))
-        × HoldsOfDisk (S.state shelf.old).told pv
-        (λ sector_at. found ≡ stands sector_at (slice_index_or (S.state shelf.old).sizes pv 0) (row_of row.now)))
-        (λ refusal. (spans : List Span) × ReadsUntil pv (S.state shelf.old) spans (S.state shelf.new) refusal) }
+        × HoldsOfDisk (S.state shelf.old).told disk
+        (λ sector_at. found ≡ stands sector_at (slice_index_or (S.state shelf.old).sizes disk 0) (row_of row.now)))
+        (λ refusal. (spans : List Span) × ReadsUntil disk (S.state shelf.old) spans (S.state shelf.new) refusal) }
 {
-    match row.1.sector(shelf.sectors(pv)) {
+    match row.1.sector(shelf.sectors(disk)) {
         Some(sector) => {
-            let contents = read_sector(alloc, shelf, pv, sector)?;
+            let contents = read_sector(alloc, shelf, disk, sector)?;
             Ok(has_bytes(row, &contents))
         }
         None => Ok(false),
@@ -73,19 +73,19 @@ fn has_bytes(row: &Signature, sector: &Bytes512) -> bool
 fn read_sector<S: Shelf>(
     alloc: Global,
     shelf: &mut S,
-    pv: u32,
+    disk: u32,
     sector: u64,
 ) -> Result<Bytes512, ReadRefusal>
     requires idle { (S.state shelf.old).in_flight ≡ [] }
-    requires disk { pv < length (S.state shelf.old).sizes }
-    requires within { sector < slice_index_or (S.state shelf.old).sizes pv 0 }
+    requires disk { disk < length (S.state shelf.old).sizes }
+    requires within { sector < slice_index_or (S.state shelf.old).sizes disk 0 }
     ensures { MatchResult result
-        (λ contents. ReadsWell (S.state shelf.old) (one_sector pv sector ∷ []) (S.state shelf.new)
-        × HoldsOfDisk (S.state shelf.old).told pv (λ sector_at. contents ≡ sector_at sector))
-        (ReadsUntil pv (S.state shelf.old) (one_sector pv sector ∷ []) (S.state shelf.new)) }
+        (λ contents. ReadsWell (S.state shelf.old) (one_sector disk sector ∷ []) (S.state shelf.new)
+        × HoldsOfDisk (S.state shelf.old).told disk (λ sector_at. contents ≡ sector_at sector))
+        (ReadsUntil disk (S.state shelf.old) (one_sector disk sector ∷ []) (S.state shelf.new)) }
 {
     let span = Span {
-        pv,
+        pv: disk,
         first: sector,
         count: 1,
     };

@@ -75,10 +75,10 @@ fn find_among<S: Shelf>(
 ) -> Result<Option<InUse>, UseRefusal>
     requires some { 1 ≤ length (S.state shelf.old).sizes }
     requires few { length (S.state shelf.old).sizes ≤ 64 }
-    requires least { (pv : ℕ) → pv < length (S.state shelf.old).sizes → 8 ≤ slice_index_or (S.state shelf.old).sizes pv 0 }
-    requires most { (pv : ℕ) → pv < length (S.state shelf.old).sizes → slice_index_or (S.state shelf.old).sizes pv 0 ≤ 2 ^ 40 }
+    requires least { (disk : ℕ) → disk < length (S.state shelf.old).sizes → 8 ≤ slice_index_or (S.state shelf.old).sizes disk 0 }
+    requires most { (disk : ℕ) → disk < length (S.state shelf.old).sizes → slice_index_or (S.state shelf.old).sizes disk 0 ≤ 2 ^ 40 }
     requires idle { (S.state shelf.old).in_flight ≡ [] }
-    requires within { All (λ pv. pv < length (S.state shelf.old).sizes) taken.now }
+    requires within { All (λ disk. disk < length (S.state shelf.old).sizes) taken.now }
     ensures cause { MatchResult result
         (λ found. HasSameFaults (S.state shelf.old) (S.state shelf.new)
         × HoldsNow (S.state shelf.old).told (λ image. MatchOption found
@@ -90,11 +90,11 @@ fn find_among<S: Shelf>(
     ensures looks { LooksOnly (S.state shelf.old) (S.state shelf.new) }
 {
     let mut marked = Vec::new(alloc);
-    for pv in taken {
-        match look(alloc, shelf, *pv, new)? {
+    for disk in taken {
+        match look(alloc, shelf, *disk, new)? {
             Shown::Free => {}
-            Shown::Marked => marked.push(*pv)?,
-            Shown::Used(by) => return Ok(Some(InUse { pv: *pv, by })),
+            Shown::Marked => marked.push(*disk)?,
+            Shown::Used(by) => return Ok(Some(InUse { pv: *disk, by })),
         }
     }
     let left = first_left(alloc, shelf, &marked)?;

@@ -21,21 +21,21 @@ use std::alloc::Global;
 pub(crate) fn look<S: Shelf>(
     alloc: Global,
     shelf: &mut S,
-    pv: u32,
+    disk: u32,
     new: bool,
 ) -> Result<Shown, UseRefusal>
     requires idle { (S.state shelf.old).in_flight ≡ [] }
-    requires disk { pv < length (S.state shelf.old).sizes }
-    requires least { 8 ≤ slice_index_or (S.state shelf.old).sizes pv 0 }
-    requires most { slice_index_or (S.state shelf.old).sizes pv 0 ≤ 2 ^ 40 }
+    requires disk { disk < length (S.state shelf.old).sizes }
+    requires least { 8 ≤ slice_index_or (S.state shelf.old).sizes disk 0 }
+    requires most { slice_index_or (S.state shelf.old).sizes disk 0 ≤ 2 ^ 40 }
     ensures cause { MatchResult result
         (λ shown. HasSameFaults (S.state shelf.old) (S.state shelf.new)
-        × HoldsNow (S.state shelf.old).told (λ image. IsShown new image (S.state shelf.old).sizes pv shown))
+        × HoldsNow (S.state shelf.old).told (λ image. IsShown new image (S.state shelf.old).sizes disk shown))
         (IsUseFault (S.state shelf.old) (S.state shelf.new)) }
     ensures looks { LooksOnly (S.state shelf.old) (S.state shelf.new) }
 {
-    let contents = contents_of(alloc, shelf, pv)?;
-    look_behind(alloc, shelf, pv, new, &contents)
+    let contents = contents_of(alloc, shelf, disk)?;
+    look_behind(alloc, shelf, disk, new, &contents)
 }
 
 // What a disk with these contents shows. Its first signature is looked for where it has no label and a physical volume is
@@ -43,60 +43,60 @@ pub(crate) fn look<S: Shelf>(
 fn look_behind<S: Shelf>(
     alloc: Global,
     shelf: &mut S,
-    pv: u32,
+    disk: u32,
     new: bool,
     contents: &PvFound,
 ) -> Result<Shown, UseRefusal>
     requires idle { (S.state shelf.old).in_flight ≡ [] }
-    requires disk { pv < length (S.state shelf.old).sizes }
-    requires most { slice_index_or (S.state shelf.old).sizes pv 0 ≤ 2 ^ 40 }
+    requires disk { disk < length (S.state shelf.old).sizes }
+    requires most { slice_index_or (S.state shelf.old).sizes disk 0 ≤ 2 ^ 40 }
     ensures cause { MatchResult result
         (λ shown. HasSameFaults (S.state shelf.old) (S.state shelf.new)
-        × HoldsNow (S.state shelf.old).told (λ image. IsShownWith new image (S.state shelf.old).sizes pv contents.now shown))
+        × HoldsNow (S.state shelf.old).told (λ image. IsShownWith new image (S.state shelf.old).sizes disk contents.now shown))
         (IsUseFault (S.state shelf.old) (S.state shelf.new)) }
     ensures looks { LooksOnly (S.state shelf.old) (S.state shelf.new) }
 {
-    let kind = kind_of(alloc, shelf, pv, is_wanted(new, contents))?;
+    let kind = kind_of(alloc, shelf, disk, is_wanted(new, contents))?;
     Ok(shown_of(new, contents, kind))
 }
 
 // What stands in lvm2's sectors of the disk.
-fn contents_of<S: Shelf>(alloc: Global, shelf: &mut S, pv: u32) -> Result<PvFound, UseRefusal>
+fn contents_of<S: Shelf>(alloc: Global, shelf: &mut S, disk: u32) -> Result<PvFound, UseRefusal>
     requires idle { (S.state shelf.old).in_flight ≡ [] }
-    requires disk { pv < length (S.state shelf.old).sizes }
-    requires least { 8 ≤ slice_index_or (S.state shelf.old).sizes pv 0 }
-    requires most { slice_index_or (S.state shelf.old).sizes pv 0 ≤ 2 ^ 40 }
+    requires disk { disk < length (S.state shelf.old).sizes }
+    requires least { 8 ≤ slice_index_or (S.state shelf.old).sizes disk 0 }
+    requires most { slice_index_or (S.state shelf.old).sizes disk 0 ≤ 2 ^ 40 }
     ensures cause { MatchResult result
         (λ contents. HasSameFaults (S.state shelf.old) (S.state shelf.new)
-        × HoldsOfDisk (S.state shelf.old).told pv
-        (λ sector_at. IsFound sector_at (slice_index_or (S.state shelf.old).sizes pv 0) contents))
+        × HoldsOfDisk (S.state shelf.old).told disk
+        (λ sector_at. IsFound sector_at (slice_index_or (S.state shelf.old).sizes disk 0) contents))
         (IsUseFault (S.state shelf.old) (S.state shelf.new)) }
     ensures looks { LooksOnly (S.state shelf.old) (S.state shelf.new) }
 {
-    Ok(find_pv(alloc, shelf, pv)?)
+    Ok(find_pv(alloc, shelf, disk)?)
 }
 
 // The first signature of the disk, where it is wanted.
 fn kind_of<S: Shelf>(
     alloc: Global,
     shelf: &mut S,
-    pv: u32,
+    disk: u32,
     wanted: bool,
 ) -> Result<Option<Kind>, UseRefusal>
     requires idle { (S.state shelf.old).in_flight ≡ [] }
-    requires disk { pv < length (S.state shelf.old).sizes }
-    requires most { slice_index_or (S.state shelf.old).sizes pv 0 ≤ 2 ^ 40 }
+    requires disk { disk < length (S.state shelf.old).sizes }
+    requires most { slice_index_or (S.state shelf.old).sizes disk 0 ≤ 2 ^ 40 }
     ensures cause { MatchResult result
         (λ kind. HasSameFaults (S.state shelf.old) (S.state shelf.new)
-        × (wanted ≡ true → HoldsOfDisk (S.state shelf.old).told pv
-        (λ sector_at. kind ≡ first_kind sector_at (slice_index_or (S.state shelf.old).sizes pv 0))))
+        × (wanted ≡ true → HoldsOfDisk (S.state shelf.old).told disk
+        (λ sector_at. kind ≡ first_kind sector_at (slice_index_or (S.state shelf.old).sizes disk 0))))
         (IsUseFault (S.state shelf.old) (S.state shelf.new)) }
     ensures looks { LooksOnly (S.state shelf.old) (S.state shelf.new) }
 {
     if !wanted {
         return Ok(None);
     }
-    Ok(find_signature(alloc, shelf, pv)?)
+    Ok(find_signature(alloc, shelf, disk)?)
 }
 
 // Whether its first signature is looked for.

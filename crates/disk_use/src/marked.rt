@@ -95,9 +95,9 @@ fn check_read(unread: &PvSet) -> Result<(), UseRefusal>
     if unread.is_empty() {
         return Ok(());
     }
-    for pv in 0..64 {
-        if unread.contains(pv) {
-            return Err(UseRefusal::ReadFailed(pv));
+    for disk in 0..64 {
+        if unread.contains(disk) {
+            return Err(UseRefusal::ReadFailed(disk));
         }
     }
     Err(UseRefusal::NoMemory)
@@ -105,19 +105,19 @@ fn check_read(unread: &PvSet) -> Result<(), UseRefusal>
 
 // The first of the marked disks that the group doesn't list and that isn't its stray.
 fn first_apart(found: &Found, marked: &[u32]) -> Option<u32>
-    ensures { MatchOption result (All (IsAmong found.now) marked.now) (λ pv. Contains marked.now pv × ¬ IsAmong found.now pv) }
+    ensures { MatchOption result (All (IsAmong found.now) marked.now) (λ disk. Contains marked.now disk × ¬ IsAmong found.now disk) }
 {
-    for pv in marked {
-        if !is_among(found, *pv) {
-            return Some(*pv);
+    for disk in marked {
+        if !is_among(found, *disk) {
+            return Some(*disk);
         }
     }
     None
 }
 
 // Whether a group was found that lists the disk or whose stray it is.
-fn is_among(found: &Found, pv: u32) -> bool
-    ensures { IsTrue result ↔ IsAmong found.now pv }
+fn is_among(found: &Found, disk: u32) -> bool
+    ensures { IsTrue result ↔ IsAmong found.now disk }
 {
-    found.group.is_some() && (found.strays.contains(pv) || found.disk_of.as_slice().contains(&pv))
+    found.group.is_some() && (found.strays.contains(disk) || found.disk_of.as_slice().contains(&disk))
 }

@@ -55,23 +55,23 @@ fn put_disk_if(
     is_listed: bool,
     word: &[u8],
     names: &DiskNames,
-    pv: u32,
+    disk: u32,
 ) -> Result<(), AllocError>
-    ensures { IfOk result (λ _. text.new.items ≡ text.old.items ++ (if is_listed then word.now ++ name_in names.now pv ++ codes "\n" else [])) }
+    ensures { IfOk result (λ _. text.new.items ≡ text.old.items ++ (if is_listed then word.now ++ name_in names.now disk ++ codes "\n" else [])) }
 {
     if is_listed {
-        put_disk(text, word, names, pv)
+        put_disk(text, word, names, disk)
     } else {
         Ok(())
     }
 }
 
 // Appends the name of the disk behind this word.
-fn put_disk(text: &mut Vec<u8>, word: &[u8], names: &DiskNames, pv: u32) -> Result<(), AllocError>
-    ensures { IfOk result (λ _. text.new.items ≡ text.old.items ++ word.now ++ name_in names.now pv ++ codes "\n") }
+fn put_disk(text: &mut Vec<u8>, word: &[u8], names: &DiskNames, disk: u32) -> Result<(), AllocError>
+    ensures { IfOk result (λ _. text.new.items ≡ text.old.items ++ word.now ++ name_in names.now disk ++ codes "\n") }
 {
     text.extend_from_slice(word)?;
-    text.extend_from_slice(names.bytes_of(pv))?;
+    text.extend_from_slice(names.bytes_of(disk))?;
     text.extend_from_slice(b"\n")
 }
 

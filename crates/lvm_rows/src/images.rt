@@ -28,8 +28,8 @@ const LAST_VALUE: u64 = 5_342_931_457_063_199;
 /// The disks as the run left them: of each sector its last value.
 pub fn left(alloc: Global, shelf: &MemShelf) -> Result<Images, AllocError> {
     let mut sectors = 0u64;
-    for pv in 0..shelf.count() {
-        sectors = sectors.saturating_add(shelf.sectors(pv));
+    for disk in 0..shelf.count() {
+        sectors = sectors.saturating_add(shelf.sectors(disk));
     }
     let choices = vec![in alloc; LAST_VALUE; sectors as usize]?;
     shelf.images_at(shelf.moments(), &choices)

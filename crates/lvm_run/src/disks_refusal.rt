@@ -36,10 +36,10 @@ impl DisksRefusal {
 }
 
 // The name of the disk, as it is shown.
-fn name_of<'a>(names: &'a DiskNames, pv: u32) -> Shown<'a>
-    ensures { value_of result ≡ named names.now pv }
+fn name_of<'a>(names: &'a DiskNames, disk: u32) -> Shown<'a>
+    ensures { value_of result ≡ named names.now disk }
 {
-    Shown::Text(names.bytes_of(pv))
+    Shown::Text(names.bytes_of(disk))
 }
 
 // Writes the refusal of a scan.

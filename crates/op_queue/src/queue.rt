@@ -58,15 +58,15 @@ fn zeros(alloc: Global, count: usize) -> Result<Vec<u64>, AllocError>
 }
 
 // Counts a fault of the disk, where the operation didn't go well.
-fn count_fault(faults: &mut Vec<u64>, pv: u32, well: bool)
-    requires disk { pv < vec_len faults.old }
+fn count_fault(faults: &mut Vec<u64>, disk: u32, well: bool)
+    requires disk { disk < vec_len faults.old }
     requires room { (p : ℕ) → slice_index_or faults.old.items p 0 < 2 ^ 62 }
     ensures len { vec_len faults.new ≡ vec_len faults.old }
     ensures each { (p : ℕ) → slice_index_or faults.new.items p 0 ≡
-        (if not well && (pv == p) then slice_index_or faults.old.items p 0 + 1 else slice_index_or faults.old.items p 0) }
+        (if not well && (disk == p) then slice_index_or faults.old.items p 0 + 1 else slice_index_or faults.old.items p 0) }
 {
     if !well {
-        faults[pv as usize] += 1;
+        faults[disk as usize] += 1;
     }
 }
 

@@ -29,13 +29,13 @@ pub fn held_areas(alloc: Global, disks: &[Disk]) -> Result<Areas, AllocError>
 // Puts the areas of the disk that aren't ignored behind the others.
 fn push_held(
     held: &mut Vec<(Area, Option<Locn>)>,
-    pv: u32,
+    disk: u32,
     areas: &[AreaFound],
 ) -> Result<(), AllocError>
-    ensures { IfOk result (λ _. held.new.items ≡ held.old.items ++ filter_map (held_area pv) areas.now) }
+    ensures { IfOk result (λ _. held.new.items ≡ held.old.items ++ filter_map (held_area disk) areas.now) }
 {
     for found in areas {
-        if let Some(area) = held_area(pv, found) {
+        if let Some(area) = held_area(disk, found) {
             held.push(area)?;
         }
     }
@@ -43,11 +43,11 @@ fn push_held(
 }
 
 /// The area on this disk with the entry of its committed text, where it isn't ignored.
-pub fn held_area(pv: u32, found: &AreaFound) -> Option<(Area, Option<Locn>)>
-    ensures { result ≡ held_area pv found.now }
+pub fn held_area(disk: u32, found: &AreaFound) -> Option<(Area, Option<Locn>)>
+    ensures { result ≡ held_area disk found.now }
 {
     let area = Area {
-        pv,
+        pv: disk,
         start: found.area.offset,
         size: found.area.size,
     };

@@ -29,18 +29,18 @@ use std::alloc::Global;
 pub(crate) fn read_areas<S: Shelf>(
     alloc: Global,
     shelf: &mut S,
-    pv: u32,
+    disk: u32,
     areas: &[AreaFound],
     collected: &mut Collected,
 ) -> Result<Vec<AreaRead>, ReadRefusal>
     requires idle { (S.state shelf.old).in_flight ≡ [] }
-    requires disk { pv < length (S.state shelf.old).sizes }
-    requires usable { All (IsUsable pv (slice_index_or (S.state shelf.old).sizes pv 0)) areas.now }
+    requires disk { disk < length (S.state shelf.old).sizes }
+    requires usable { All (IsUsable disk (slice_index_or (S.state shelf.old).sizes disk 0)) areas.now }
     ensures reads { MatchResult result
-        (λ _. ReadsWell (S.state shelf.old) (text_spans_in pv areas.now) (S.state shelf.new))
-        (ReadsUntil pv (S.state shelf.old) (text_spans_in pv areas.now) (S.state shelf.new)) }
-    ensures given { IfOk result (λ all. HoldsOfDisk (S.state shelf.old).told pv
-        (λ sector_at. AreAreaReadings pv sector_at areas.now (map (area_of collected.new.copies) all.items))) }
+        (λ _. ReadsWell (S.state shelf.old) (text_spans_in disk areas.now) (S.state shelf.new))
+        (ReadsUntil disk (S.state shelf.old) (text_spans_in disk areas.now) (S.state shelf.new)) }
+    ensures given { IfOk result (λ all. HoldsOfDisk (S.state shelf.old).told disk
+        (λ sector_at. AreAreaReadings disk sector_at areas.now (map (area_of collected.new.copies) all.items))) }
     ensures places { IfOk result (λ all. HavePlaces areas.now (map (area_of collected.new.copies) all.items)) }
     ensures numbers { IfOk result (λ all. AreasGiveAtMost (length collected.new.copies) all.items) }
     ensures continues { Continues collected.old.copies collected.new.copies }
@@ -48,7 +48,7 @@ pub(crate) fn read_areas<S: Shelf>(
 {
     let mut all = Vec::new(alloc);
     for found in areas {
-        let area = read_area(alloc, shelf, pv, found, collected)?;
+        let area = read_area(alloc, shelf, disk, found, collected)?;
         all.push(area)?;
     }
     Ok(all)
@@ -58,25 +58,25 @@ pub(crate) fn read_areas<S: Shelf>(
 fn read_area<S: Shelf>(
     alloc: Global,
     shelf: &mut S,
-    pv: u32,
+    disk: u32,
     found: &AreaFound,
     collected: &mut Collected,
 ) -> Result<AreaRead, ReadRefusal>
     requires idle { (S.state shelf.old).in_flight ≡ [] }
-    requires disk { pv < length (S.state shelf.old).sizes }
-    requires usable { IsUsable pv (slice_index_or (S.state shelf.old).sizes pv 0) found.now }
+    requires disk { disk < length (S.state shelf.old).sizes }
+    requires usable { IsUsable disk (slice_index_or (S.state shelf.old).sizes disk 0) found.now }
     ensures reads { MatchResult result
-        (λ _. ReadsWell (S.state shelf.old) (spans_in pv found.now) (S.state shelf.new))
-        (ReadsUntil pv (S.state shelf.old) (spans_in pv found.now) (S.state shelf.new)) }
-    ensures given { IfOk result (λ area. HoldsOfDisk (S.state shelf.old).told pv
-        (λ sector_at. IsAreaReading pv sector_at found.now (area_of collected.new.copies area))) }
+        (λ _. ReadsWell (S.state shelf.old) (spans_in disk found.now) (S.state shelf.new))
+        (ReadsUntil disk (S.state shelf.old) (spans_in disk found.now) (S.state shelf.new)) }
+    ensures given { IfOk result (λ area. HoldsOfDisk (S.state shelf.old).told disk
+        (λ sector_at. IsAreaReading disk sector_at found.now (area_of collected.new.copies area))) }
     ensures place { IfOk result (λ area. HasPlace found.now (area_of collected.new.copies area)) }
     ensures numbers { IfOk result (λ area. GivesAtMost (length collected.new.copies) area.gives) }
     ensures continues { Continues collected.old.copies collected.new.copies }
     ensures disks { collected.new.disks ≡ collected.old.disks }
 {
     let area = Area {
-        pv,
+        pv: disk,
         start: found.area.offset,
         size: found.area.size,
     };

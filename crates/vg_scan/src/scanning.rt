@@ -60,8 +60,8 @@ impl<T: Drop> From<AllocFailed<T>> for ScanStopped {
 pub fn scan<S: Shelf>(alloc: Global, shelf: &mut S) -> Result<Found, ScanStopped>
     requires some { 1 ≤ length (S.state shelf.old).sizes }
     requires few { length (S.state shelf.old).sizes ≤ 64 }
-    requires least { (pv : ℕ) → pv < length (S.state shelf.old).sizes → 8 ≤ slice_index_or (S.state shelf.old).sizes pv 0 }
-    requires most { (pv : ℕ) → pv < length (S.state shelf.old).sizes → slice_index_or (S.state shelf.old).sizes pv 0 ≤ 2 ^ 40 }
+    requires least { (number : ℕ) → number < length (S.state shelf.old).sizes → 8 ≤ slice_index_or (S.state shelf.old).sizes number 0 }
+    requires most { (number : ℕ) → number < length (S.state shelf.old).sizes → slice_index_or (S.state shelf.old).sizes number 0 ≤ 2 ^ 40 }
     requires idle { (S.state shelf.old).in_flight ≡ [] }
     ensures scan { MatchResult result
         (λ found. IsScan (S.state shelf.old) found (S.state shelf.new))
@@ -72,9 +72,9 @@ pub fn scan<S: Shelf>(alloc: Global, shelf: &mut S) -> Result<Found, ScanStopped
     let mut collected = Collected::new(alloc);
     let mut disks = Vec::new(alloc);
     let mut unread = PvSet::new();
-    for pv in 0..shelf.count() {
-        let disk = scan_disk(alloc, shelf, pv, &mut collected)?;
-        name_unread(&mut unread, pv, &disk);
+    for number in 0..shelf.count() {
+        let disk = scan_disk(alloc, shelf, number, &mut collected)?;
+        name_unread(&mut unread, number, &disk);
         disks.push(disk)?;
     }
     match found_of(alloc, collected.into_readings(), disks, unread) {
@@ -84,12 +84,12 @@ pub fn scan<S: Shelf>(alloc: Global, shelf: &mut S) -> Result<Found, ScanStopped
 }
 
 // Names the disk unread where nothing is known of what stands there.
-fn name_unread(unread: &mut PvSet, pv: u32, disk: &Disk)
-    requires { pv < 64 }
-    ensures { unread.new ≡ unread_with unread.old pv disk.now }
+fn name_unread(unread: &mut PvSet, number: u32, disk: &Disk)
+    requires { number < 64 }
+    ensures { unread.new ≡ unread_with unread.old number disk.now }
 {
     if disk.contents.is_none() {
-        unread.insert(pv);
+        unread.insert(number);
     }
 }
 
@@ -97,21 +97,21 @@ fn name_unread(unread: &mut PvSet, pv: u32, disk: &Disk)
 fn scan_disk<S: Shelf>(
     alloc: Global,
     shelf: &mut S,
-    pv: u32,
+    number: u32,
     collected: &mut Collected,
 ) -> Result<Disk, AllocError>
     requires idle { (S.state shelf.old).in_flight ≡ [] }
-    requires disk { pv < length (S.state shelf.old).sizes }
-    requires least { 8 ≤ slice_index_or (S.state shelf.old).sizes pv 0 }
-    requires most { slice_index_or (S.state shelf.old).sizes pv 0 ≤ 2 ^ 40 }
+    requires disk { number < length (S.state shelf.old).sizes }
+    requires least { 8 ≤ slice_index_or (S.state shelf.old).sizes number 0 }
+    requires most { slice_index_or (S.state shelf.old).sizes number 0 ≤ 2 ^ 40 }
     requires room { length collected.old.disks < 64 }
     ensures disk { IfOk result
-        (λ disk. IsScannedDisk pv (S.state shelf.old) collected.old.disks disk collected.new.disks (S.state shelf.new)) }
-    ensures reads { BetweenRecords (ReadsDisk pv (slice_index_or (S.state shelf.old).sizes pv 0)) (S.state shelf.old).told (S.state shelf.new).told }
+        (λ disk. IsScannedDisk number (S.state shelf.old) collected.old.disks disk collected.new.disks (S.state shelf.new)) }
+    ensures reads { BetweenRecords (ReadsDisk number (slice_index_or (S.state shelf.old).sizes number 0)) (S.state shelf.old).told (S.state shelf.new).told }
     ensures again { IsIdleAgain (S.state shelf.old) (S.state shelf.new) }
 {
-    let sectors = shelf.sectors(pv);
-    match read_disk(alloc, shelf, pv, collected) {
+    let sectors = shelf.sectors(number);
+    match read_disk(alloc, shelf, number, collected) {
         Ok((contents, read)) => take_in(collected, sectors, Some(contents), read),
         Err(ReadRefusal::ReadFailed(_)) => take_in(collected, sectors, None, None),
         Err(ReadRefusal::NoMemory) => Err(AllocError),

@@ -25,8 +25,8 @@ pub fn disks_at(
 {
     let mut disks = Vec::new(alloc);
     let mut taken = 0;
-    for pv in 0..row.opened.len() {
-        disks.push(sectors_at(alloc, row, moment, pv as u32, choices, &mut taken)?)?;
+    for disk in 0..row.opened.len() {
+        disks.push(sectors_at(alloc, row, moment, disk as u32, choices, &mut taken)?)?;
     }
     Ok(disks)
 }
@@ -36,23 +36,23 @@ fn sectors_at(
     alloc: Global,
     row: &DiskRow,
     moment: usize,
-    pv: u32,
+    disk: u32,
     choices: &Vec<u64>,
     taken: &mut usize,
 ) -> Result<Sectors, AllocError>
     requires good { IsGood row.now }
     requires moment { moment ≤ vec_len row.now.steps }
-    requires disk { pv < vec_len row.now.opened }
-    ensures { IfOk result (λ sectors. TakesSectors (told_after row.now moment) pv (length (slice_index_or row.now.opened.items pv [])) (drop taken.old choices.now.items) sectors (drop taken.new choices.now.items)) }
+    requires disk { disk < vec_len row.now.opened }
+    ensures { IfOk result (λ sectors. TakesSectors (told_after row.now moment) disk (length (slice_index_or row.now.opened.items disk [])) (drop taken.old choices.now.items) sectors (drop taken.new choices.now.items)) }
 {
-    let touched = touched_sectors(alloc, row, moment, pv)?;
+    let touched = touched_sectors(alloc, row, moment, disk)?;
     let mut sectors = Vec::new(alloc);
-    for sector in 0..row.opened[pv as usize].len() {
+    for sector in 0..row.opened[disk as usize].len() {
         let value = sector_at(
             alloc,
             row,
             moment,
-            pv,
+            disk,
             sector as u64,
             touched[sector],
             choices,
@@ -68,7 +68,7 @@ fn sector_at(
     alloc: Global,
     row: &DiskRow,
     moment: usize,
-    pv: u32,
+    disk: u32,
     sector: u64,
     touched: bool,
     choices: &Vec<u64>,
@@ -76,15 +76,15 @@ fn sector_at(
 ) -> Result<Bytes512, AllocError>
     requires good { IsGood row.now }
     requires moment { moment ≤ vec_len row.now.steps }
-    requires disk { pv < vec_len row.now.opened }
-    requires sector { sector < length (slice_index_or row.now.opened.items pv []) }
-    requires touched { touched ≡ is_touched (told_after row.now moment).steps pv sector }
-    ensures { IfOk result (λ value. TakesOne (told_after row.now moment) pv sector (drop taken.old choices.now.items) value (drop taken.new choices.now.items)) }
+    requires disk { disk < vec_len row.now.opened }
+    requires sector { sector < length (slice_index_or row.now.opened.items disk []) }
+    requires touched { touched ≡ is_touched (told_after row.now moment).steps disk sector }
+    ensures { IfOk result (λ value. TakesOne (told_after row.now moment) disk sector (drop taken.old choices.now.items) value (drop taken.new choices.now.items)) }
 {
     if !touched {
-        return Ok(row.opened[pv as usize].get(sector as usize));
+        return Ok(row.opened[disk as usize].get(sector as usize));
     }
-    let values = values_at(alloc, row, moment, pv, sector)?;
+    let values = values_at(alloc, row, moment, disk, sector)?;
     Ok(choose(&values, choices, taken))
 }
 

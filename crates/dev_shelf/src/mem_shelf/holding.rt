@@ -122,38 +122,38 @@ fn is_flushed_write(step: &RecordedStep, hold: &Hold, steps: &Vec<RecordedStep>)
 }
 
 // Whether a flush of the disk completed well in one of the steps that was submitted after this tag.
-fn is_flushed(steps: &Vec<RecordedStep>, pv: u32, tag: u64) -> bool
-    ensures { result ≡ list_any (is_flush_after pv tag) steps.now.items }
+fn is_flushed(steps: &Vec<RecordedStep>, disk: u32, tag: u64) -> bool
+    ensures { result ≡ list_any (is_flush_after disk tag) steps.now.items }
 {
-    steps.iter().any(|step| is_flush_after(step, pv, tag))
+    steps.iter().any(|step| is_flush_after(step, disk, tag))
 }
 
 // Whether a flush of the disk completed well in this step that was submitted after this tag.
-fn is_flush_after(step: &RecordedStep, pv: u32, tag: u64) -> bool
-    ensures { result ≡ is_flush_after pv tag step.now }
+fn is_flush_after(step: &RecordedStep, disk: u32, tag: u64) -> bool
+    ensures { result ≡ is_flush_after disk tag step.now }
 {
     match step {
         RecordedStep::Began(_, _) => false,
-        RecordedStep::Ended(flush, work, well, _) => *well && flushes(work, pv) && tag < *flush,
+        RecordedStep::Ended(flush, work, well, _) => *well && flushes(work, disk) && tag < *flush,
     }
 }
 
 // Whether the operation writes the sector.
-fn writes(work: &RecordedWork, pv: u32, sector: u64) -> bool
-    ensures { result ≡ is_written work.now pv sector }
+fn writes(work: &RecordedWork, disk: u32, sector: u64) -> bool
+    ensures { result ≡ is_written work.now disk sector }
 {
     match work {
-        RecordedWork::Writes(span, _) => is_covered(span, pv, sector),
+        RecordedWork::Writes(span, _) => is_covered(span, disk, sector),
         RecordedWork::Reads(_) | RecordedWork::Flushes(_) => false,
     }
 }
 
 // Whether the operation flushes the disk.
-fn flushes(work: &RecordedWork, pv: u32) -> bool
-    ensures { result ≡ is_flush_of pv work.now }
+fn flushes(work: &RecordedWork, number: u32) -> bool
+    ensures { result ≡ is_flush_of number work.now }
 {
     match work {
-        RecordedWork::Flushes(disk) => *disk == pv,
+        RecordedWork::Flushes(disk) => *disk == number,
         RecordedWork::Reads(_) | RecordedWork::Writes(_, _) => false,
     }
 }

@@ -14,17 +14,17 @@ pub fn touched_sectors(
     alloc: Global,
     row: &DiskRow,
     count: usize,
-    pv: u32,
+    disk: u32,
 ) -> Result<Vec<bool>, AllocError>
     requires good { IsGood row.now }
     requires count { count ≤ vec_len row.now.steps }
-    requires disk { pv < vec_len row.now.opened }
-    ensures { IfOk result (λ marks. (vec_len marks ≡ length (slice_index_or row.now.opened.items pv []))
-        × ((s : ℕ) → s < vec_len marks → slice_index_or marks.items s false ≡ is_touched (steps_onto row.now.written.items [] (take count row.now.steps.items)) pv s)) }
+    requires disk { disk < vec_len row.now.opened }
+    ensures { IfOk result (λ marks. (vec_len marks ≡ length (slice_index_or row.now.opened.items disk []))
+        × ((s : ℕ) → s < vec_len marks → slice_index_or marks.items s false ≡ is_touched (steps_onto row.now.written.items [] (take count row.now.steps.items)) disk s)) }
 {
-    let mut marks = vec![in alloc; false; row.opened[pv as usize].len()]?;
+    let mut marks = vec![in alloc; false; row.opened[disk as usize].len()]?;
     for i in 0..count {
-        mark_work(&mut marks, recorded_work(&row.steps[i]), pv);
+        mark_work(&mut marks, recorded_work(&row.steps[i]), disk);
     }
     Ok(marks)
 }
@@ -39,14 +39,14 @@ fn recorded_work(step: &RecordedStep) -> RecordedWork
 }
 
 // Marks the sectors of the disk that the operation writes.
-fn mark_work(marks: &mut Vec<bool>, work: RecordedWork, pv: u32)
-    requires { IsWrittenWithin work pv (vec_len marks.old) }
+fn mark_work(marks: &mut Vec<bool>, work: RecordedWork, disk: u32)
+    requires { IsWrittenWithin work disk (vec_len marks.old) }
     ensures len { vec_len marks.new ≡ vec_len marks.old }
-    ensures each { (s : ℕ) → s < vec_len marks.old → slice_index_or marks.new.items s false ≡ (is_written work pv s || slice_index_or marks.old.items s false) }
+    ensures each { (s : ℕ) → s < vec_len marks.old → slice_index_or marks.new.items s false ≡ (is_written work disk s || slice_index_or marks.old.items s false) }
 {
     match work {
         RecordedWork::Writes(span, _) => {
-            if span.pv == pv {
+            if span.pv == disk {
                 mark_span(marks, span);
             }
         }

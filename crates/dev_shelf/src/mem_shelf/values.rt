@@ -21,19 +21,19 @@ pub fn values_at(
     alloc: Global,
     row: &DiskRow,
     count: usize,
-    pv: u32,
+    disk: u32,
     sector: u64,
 ) -> Result<Vec<PossibleValue>, AllocError>
     requires good { IsGood row.now }
     requires count { count ≤ vec_len row.now.steps }
-    requires disk { pv < vec_len row.now.opened }
-    requires sector { sector < length (slice_index_or row.now.opened.items pv []) }
-    ensures { IfOk result (λ v. v.items ≡ values (image_of row.now.opened.items) (steps_onto row.now.written.items [] (take count row.now.steps.items)) pv sector) }
+    requires disk { disk < vec_len row.now.opened }
+    requires sector { sector < length (slice_index_or row.now.opened.items disk []) }
+    ensures { IfOk result (λ v. v.items ≡ values (image_of row.now.opened.items) (steps_onto row.now.written.items [] (take count row.now.steps.items)) disk sector) }
 {
     let mut all = Vec::new(alloc);
-    all.push((None, row.opened[pv as usize].get(sector as usize)))?;
+    all.push((None, row.opened[disk as usize].get(sector as usize)))?;
     for i in 0..count {
-        all = values_on(alloc, row, i, row.steps[i], pv, sector, all)?;
+        all = values_on(alloc, row, i, row.steps[i], disk, sector, all)?;
     }
     Ok(all)
 }
@@ -44,21 +44,21 @@ fn values_on(
     row: &DiskRow,
     at: usize,
     step: RecordedStep,
-    pv: u32,
+    number: u32,
     sector: u64,
     before: Vec<PossibleValue>,
 ) -> Result<Vec<PossibleValue>, AllocError>
     requires at { at < vec_len row.now.steps }
     requires kept { IsKept (length row.now.written.items) (recorded_work step) }
     requires follows { IsRecord (step_at row.now.written.items step ∷ steps_onto row.now.written.items [] (take at row.now.steps.items)) }
-    requires before { before.items ≡ values (image_of row.now.opened.items) (steps_onto row.now.written.items [] (take at row.now.steps.items)) pv sector }
-    ensures { IfOk result (λ v. v.items ≡ values (image_of row.now.opened.items) (step_at row.now.written.items step ∷ steps_onto row.now.written.items [] (take at row.now.steps.items)) pv sector) }
+    requires before { before.items ≡ values (image_of row.now.opened.items) (steps_onto row.now.written.items [] (take at row.now.steps.items)) number sector }
+    ensures { IfOk result (λ v. v.items ≡ values (image_of row.now.opened.items) (step_at row.now.written.items step ∷ steps_onto row.now.written.items [] (take at row.now.steps.items)) number sector) }
 {
     let mut all = before;
     match step {
         RecordedStep::Began(tag, work) => match work {
             RecordedWork::Writes(span, from) => {
-                if is_covered(&span, pv, sector) {
+                if is_covered(&span, number, sector) {
                     all.push((
                         Some(tag),
                         row.written[from + (sector - span.first) as usize],
@@ -73,8 +73,8 @@ fn values_on(
         RecordedStep::Ended(tag, work, well, _) => match work {
             RecordedWork::Flushes(disk) => {
                 // The last value that was written always stays.
-                if well && disk == pv && all.len() > 1 {
-                    return kept_of(alloc, &row.written, &row.steps, at, tag, pv, sector, &all);
+                if well && disk == number && all.len() > 1 {
+                    return kept_of(alloc, &row.written, &row.steps, at, tag, number, sector, &all);
                 }
                 Ok(all)
             }
@@ -91,16 +91,16 @@ fn kept_of(
     steps: &Vec<RecordedStep>,
     count: usize,
     flush: u64,
-    pv: u32,
+    disk: u32,
     sector: u64,
     all: &Vec<PossibleValue>,
 ) -> Result<Vec<PossibleValue>, AllocError>
     requires { count ≤ vec_len steps.now }
-    ensures { IfOk result (λ v. v.items ≡ filter (λ u. not (is_dropped (steps_onto written.now.items [] (take count steps.now.items)) flush pv sector u.0)) all.now.items) }
+    ensures { IfOk result (λ v. v.items ≡ filter (λ u. not (is_dropped (steps_onto written.now.items [] (take count steps.now.items)) flush disk sector u.0)) all.now.items) }
 {
     let mut kept = Vec::new(alloc);
     for value in all {
-        if !is_dropped_at(written, steps, count, flush, pv, sector, value.0) {
+        if !is_dropped_at(written, steps, count, flush, disk, sector, value.0) {
             kept.push(*value)?;
         }
     }
@@ -113,12 +113,12 @@ fn is_dropped_at(
     steps: &Vec<RecordedStep>,
     count: usize,
     flush: u64,
-    pv: u32,
+    disk: u32,
     sector: u64,
     write: Option<u64>,
 ) -> bool
     requires { count ≤ vec_len steps.now }
-    ensures { result ≡ is_dropped (steps_onto written.now.items [] (take count steps.now.items)) flush pv sector write }
+    ensures { result ≡ is_dropped (steps_onto written.now.items [] (take count steps.now.items)) flush disk sector write }
 {
     let mut seen = WriteSeen {
         completed: write.is_none(),
@@ -126,7 +126,7 @@ fn is_dropped_at(
         dropped: false,
     };
     for i in 0..count {
-        seen = see(seen, &steps[i], flush, pv, sector, write);
+        seen = see(seen, &steps[i], flush, disk, sector, write);
     }
     seen.dropped
 }
@@ -144,11 +144,11 @@ fn see(
     seen: WriteSeen,
     step: &RecordedStep,
     flush: u64,
-    pv: u32,
+    disk: u32,
     sector: u64,
     write: Option<u64>,
 ) -> WriteSeen
-    ensures { (written : List (List ℕ)) (steps : List Step) → IsSeen seen steps flush pv sector write → IsSeen result (step_at written step.now ∷ steps) flush pv sector write }
+    ensures { (written : List (List ℕ)) (steps : List Step) → IsSeen seen steps flush disk sector write → IsSeen result (step_at written step.now ∷ steps) flush disk sector write }
 {
     match step {
         RecordedStep::Began(tag, _) => WriteSeen {
@@ -158,7 +158,7 @@ fn see(
         RecordedStep::Ended(tag, work, well, _) => {
             let overtakes = match work {
                 RecordedWork::Writes(span, _) => {
-                    *well && is_covered(span, pv, sector) && seen.completed
+                    *well && is_covered(span, disk, sector) && seen.completed
                 }
                 RecordedWork::Reads(_) | RecordedWork::Flushes(_) => false,
             };
@@ -182,8 +182,8 @@ fn is_tag(write: Option<u64>, tag: u64) -> bool
 }
 
 /// Whether the span covers the sector.
-pub fn is_covered(span: &Span, pv: u32, sector: u64) -> bool
-    ensures { result ≡ covers span.now pv sector }
+pub fn is_covered(span: &Span, disk: u32, sector: u64) -> bool
+    ensures { result ≡ covers span.now disk sector }
 {
-    span.pv == pv && span.first <= sector && sector - span.first < u64::from(span.count)
+    span.pv == disk && span.first <= sector && sector - span.first < u64::from(span.count)
 }

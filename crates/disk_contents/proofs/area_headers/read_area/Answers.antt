@@ -10,7 +10,7 @@ returns-clause-found g c =
     let area = c.args.area in (
       c.in_ok-sector.ensures.0,
       c.look.ensures.area,
-      holds_weaker (g.S.Shelf.state c.args.shelf.now).told c.args.pv (λ sector_at. c.in_ok-sector.sector ≡ sector_at (area.offset / 512))
+      holds_weaker (g.S.Shelf.state c.args.shelf.now).told c.args.disk (λ sector_at. c.in_ok-sector.sector ≡ sector_at (area.offset / 512))
           (λ sector_at. IsAreaFound sector_at c.look.result)
           (λ sector_at at. area_found sector_at c.look.result area c.in_ok-sector.sector c.look.ensures.area c.look.ensures.header
           c.look.ensures.entry at) c.in_ok-sector.ensures.1,

@@ -10,7 +10,7 @@ use Rattle.disk_contents.proofs.area_headers.read_areas.Given as goal
 
 abbrev pub invariant-loop-area : goal.invariant-loop-area
 invariant-loop-area g l =
-    ReadsWell (g.S.Shelf.state l.initial.shelf) (area_spans l.pv (take l.area-index l.areas)) (g.S.Shelf.state l.shelf)
+    ReadsWell (g.S.Shelf.state l.initial.shelf) (area_spans l.disk (take l.area-index l.areas)) (g.S.Shelf.state l.shelf)
     × (map (λ (found : AreaFound). found.area) l.list.items ≡ take l.area-index l.areas)
-    × HoldsOfDisk (g.S.Shelf.state l.initial.shelf).told l.pv (λ sector_at. All (IsAreaFound sector_at) l.list.items)
+    × HoldsOfDisk (g.S.Shelf.state l.initial.shelf).told l.disk (λ sector_at. All (IsAreaFound sector_at) l.list.items)
     × All HasTextInside l.list.items

@@ -15,6 +15,6 @@ pub returns-in-Err-NoMemory-clause-found : goal.returns-in-Err-NoMemory-clause-f
 returns-in-Err-NoMemory-clause-found g c =
     let before = g.S.Shelf.state c.args.shelf.now in (
       [],
-      holds_always before.told c.args.pv (λ s. AreAreasOf s (slice_index_or before.sizes c.args.pv 0) []) (λ s. inl refl),
-      until_wanting c.args.pv before before [] [] [] refl (well_nothing before before refl c.requires.idle),
+      holds_always before.told c.args.number (λ s. AreAreasOf s (slice_index_or before.sizes c.args.number 0) []) (λ s. inl refl),
+      until_wanting c.args.number before before [] [] [] refl (well_nothing before before refl c.requires.idle),
     )

@@ -9,14 +9,14 @@ returns-in_err-stands g c =
     let there = g.S.Shelf.state c.loop-row.shelf in
     let after = g.S.Shelf.state c.stands.new.shelf in
     let p = err_from_is_err_and c.from_residual.result c.from_residual.ensures.1 in
-    rw (p.1, p.2) (read_until c.args.pv before there after c.in_err-stands.field-0.0 c.loop-row.invariant.0 c.in_err-stands.ensures)
+    rw (p.1, p.2) (read_until c.args.disk before there after c.in_err-stands.field-0.0 c.loop-row.invariant.0 c.in_err-stands.ensures)
 
 pub returns-then-branch : goal.returns-then-branch
 returns-then-branch g c =
     let before = g.S.Shelf.state c.args.shelf.now in
     let there = g.S.Shelf.state c.loop-row.shelf in
     let after = g.S.Shelf.state c.stands.new.shelf in
-    row_found c.args.pv before there after c.signatures-rows.result.now c.loop-row.row-index _ c.in_ok-stands.field-0
+    row_found c.args.disk before there after c.signatures-rows.result.now c.loop-row.row-index _ c.in_ok-stands.field-0
     c.loop-row-test.true c.loop-row.invariant c.if-branch.true c.in_ok-stands.ensures c.kind.result c.kind.ensures
 
 pub loop-row-preserved : goal.loop-row-preserved
@@ -24,5 +24,5 @@ loop-row-preserved g c =
     let before = g.S.Shelf.state c.args.shelf.now in
     let there = g.S.Shelf.state c.loop-row.shelf in
     let after = g.S.Shelf.state c.stands.new.shelf in
-    row_passed c.args.pv before there after c.signatures-rows.result.now c.loop-row.row-index _ c.in_ok-stands.field-0
+    row_passed c.args.disk before there after c.signatures-rows.result.now c.loop-row.row-index _ c.in_ok-stands.field-0
     c.loop-row-test.true c.loop-row.invariant c.if-branch.false c.in_ok-stands.ensures

@@ -6,4 +6,4 @@ use Rattle.disk_signature.proofs.find.find_signature.Given as goal
 abbrev pub invariant-loop-row : goal.invariant-loop-row
 invariant-loop-row g l =
     Read (g.S.Shelf.state l.initial.shelf) (g.S.Shelf.state l.shelf)
-    × IsLeft l.pv (g.S.Shelf.state l.initial.shelf) (drop l.row-index l.rows)
+    × IsLeft l.disk (g.S.Shelf.state l.initial.shelf) (drop l.row-index l.rows)

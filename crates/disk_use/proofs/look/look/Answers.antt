@@ -13,8 +13,8 @@ returns-clause-cause g c =
     let s1 = g.S.Shelf.state c.contents_of.new.shelf in
     let s2 = g.S.Shelf.state c.look_behind.new.shelf in
     let found = c.in_ok-contents.ensures in
-    shown_there c.args.new s0 s2 c.args.pv c.in_ok-contents.contents c.look_behind.result found.cause.1
-    (looked_again s0 s1 s2 (λ (sizes : List ℕ) (image : Image) (shown : Shown). IsShownWith c.args.new image sizes c.args.pv
+    shown_there c.args.new s0 s2 c.args.disk c.in_ok-contents.contents c.look_behind.result found.cause.1
+    (looked_again s0 s1 s2 (λ (sizes : List ℕ) (image : Image) (shown : Shown). IsShownWith c.args.new image sizes c.args.disk
     c.in_ok-contents.contents shown) c.look_behind.result found.cause.0
     found.looks c.look_behind.ensures.cause)
 

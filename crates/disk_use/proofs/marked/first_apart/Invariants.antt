@@ -3,5 +3,5 @@ use Rattle.std.proofs.Common.{All, take}
 use Rattle.disk_use.specs.Uses.{IsAmong}
 use Rattle.disk_use.proofs.marked.first_apart.Given as goal
 
-abbrev pub invariant-loop-pv : goal.invariant-loop-pv
-invariant-loop-pv l = All (IsAmong l.found) (take l.pv-index l.marked)
+abbrev pub invariant-loop-disk : goal.invariant-loop-disk
+invariant-loop-disk l = All (IsAmong l.found) (take l.disk-index l.marked)

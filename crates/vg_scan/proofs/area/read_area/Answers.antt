@@ -24,7 +24,7 @@ returns-in_err-gives-clause-reads g c =
 pub returns-clause-given : goal.returns-clause-given
 returns-clause-given g c =
     let found = c.args.found.now in
-    let pv = c.args.pv in
+    let pv = c.args.disk in
     let copies = c.read_entry.new.collected.copies in
     let gives = c.in_ok-gives.gives in
     holds_weaker (g.S.Shelf.state c.args.shelf.now).told pv

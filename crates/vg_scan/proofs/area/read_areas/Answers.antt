@@ -22,7 +22,7 @@ returns-in_err-area-clause-reads g c =
     let after = g.S.Shelf.state c.read_area.new.shelf in
     let areas = c.args.areas.now in
     let i = c.loop-found.found-index in
-    let pv = c.args.pv in
+    let pv = c.args.disk in
     let p = err_from_is_err_and c.from_residual.result c.from_residual.ensures.1 in
     let so_far = text_spans_in pv (take i areas) in
     let rest = text_spans_in pv (drop (i + 1) areas) in
@@ -42,7 +42,7 @@ returns-in_err-push-clause-reads g c =
     let there = g.S.Shelf.state c.loop-found.shelf in
     let after = g.S.Shelf.state c.read_area.new.shelf in
     let p = err_from_is_err_and c.from_residual-in_err-push.result c.from_residual-in_err-push.ensures.1 in
-    let pv = c.args.pv in
+    let pv = c.args.disk in
     let areas = c.args.areas.now in
     let i = c.loop-found.found-index in
     let so_far = text_spans_in pv (take i areas) in
@@ -64,7 +64,7 @@ loop-found-preserved g c =
     let all = c.loop-found.all.items in
     let new = c.push.new.self.items in
     let area = c.in_ok-area.area in
-    let pv = c.args.pv in
+    let pv = c.args.disk in
     let areas = c.args.areas.now in
     let i = c.loop-found.found-index in
     let so_far = text_spans_in pv (take i areas) in
@@ -90,14 +90,14 @@ pub returns-clause-reads : goal.returns-clause-reads
 returns-clause-reads g c =
     let before = g.S.Shelf.state c.args.shelf.now in
     let there = g.S.Shelf.state c.loop-found.shelf in
-    subst (λ (l : List AreaFound). ReadsWell before (text_spans_in c.args.pv l) there)
+    subst (λ (l : List AreaFound). ReadsWell before (text_spans_in c.args.disk l) there)
     (take_all c.loop-found.found-index c.args.areas.now c.loop-found-test.false) c.loop-found.invariant.0
 
 pub returns-clause-given : goal.returns-clause-given
 returns-clause-given g c =
     let before = g.S.Shelf.state c.args.shelf.now in
     let readings = map (area_of c.loop-found.collected.copies) c.loop-found.all.items in
-    subst (λ (l : List AreaFound). HoldsOfDisk before.told c.args.pv (λ sector_at. AreAreaReadings c.args.pv sector_at l readings))
+    subst (λ (l : List AreaFound). HoldsOfDisk before.told c.args.disk (λ sector_at. AreAreaReadings c.args.disk sector_at l readings))
     (take_all c.loop-found.found-index c.args.areas.now c.loop-found-test.false) c.loop-found.invariant.1
 
 pub returns-clause-places : goal.returns-clause-places

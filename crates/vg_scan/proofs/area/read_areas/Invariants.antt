@@ -11,9 +11,9 @@ use Rattle.vg_scan.proofs.area.read_areas.Given as goal
 
 abbrev pub invariant-loop-found : goal.invariant-loop-found
 invariant-loop-found g l =
-    ReadsWell (g.S.Shelf.state l.initial.shelf) (text_spans_in l.pv (take l.found-index l.areas)) (g.S.Shelf.state l.shelf)
-    × HoldsOfDisk (g.S.Shelf.state l.initial.shelf).told l.pv
-    (λ sector_at. AreAreaReadings l.pv sector_at (take l.found-index l.areas) (map (area_of l.collected.copies) l.all.items))
+    ReadsWell (g.S.Shelf.state l.initial.shelf) (text_spans_in l.disk (take l.found-index l.areas)) (g.S.Shelf.state l.shelf)
+    × HoldsOfDisk (g.S.Shelf.state l.initial.shelf).told l.disk
+    (λ sector_at. AreAreaReadings l.disk sector_at (take l.found-index l.areas) (map (area_of l.collected.copies) l.all.items))
     × HavePlaces (take l.found-index l.areas) (map (area_of l.collected.copies) l.all.items)
     × AreasGiveAtMost (length l.collected.copies) l.all.items
     × Continues l.initial.collected.copies l.collected.copies

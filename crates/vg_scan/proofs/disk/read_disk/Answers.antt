@@ -9,20 +9,20 @@ use Rattle.vg_scan.proofs.disk.read_disk.Goals as goal
 pub returns-in_err-contents-clause-reads : goal.returns-in_err-contents-clause-reads
 returns-in_err-contents-clause-reads g c =
     let before = g.S.Shelf.state c.args.shelf.now in
-    (headers_until c.args.pv (slice_index_or before.sizes c.args.pv 0) before (g.S.Shelf.state c.find_pv.new.shelf)
+    (headers_until c.args.number (slice_index_or before.sizes c.args.number 0) before (g.S.Shelf.state c.find_pv.new.shelf)
     c.in_err-contents.field-0.0 c.in_err-contents.ensures.found).0
 
 pub returns-in_err-contents-clause-again : goal.returns-in_err-contents-clause-again
 returns-in_err-contents-clause-again g c =
     let before = g.S.Shelf.state c.args.shelf.now in
-    (headers_until c.args.pv (slice_index_or before.sizes c.args.pv 0) before (g.S.Shelf.state c.find_pv.new.shelf)
+    (headers_until c.args.number (slice_index_or before.sizes c.args.number 0) before (g.S.Shelf.state c.find_pv.new.shelf)
     c.in_err-contents.field-0.0 c.in_err-contents.ensures.found).1
 
 pub returns-in_err-contents-clause-cause : goal.returns-in_err-contents-clause-cause
 returns-in_err-contents-clause-cause g c =
     let before = g.S.Shelf.state c.args.shelf.now in
     let p = err_from_is_err_and c.from_residual.result c.from_residual.ensures.1 in
-    rw (p.1, p.2) (headers_until c.args.pv (slice_index_or before.sizes c.args.pv 0) before (g.S.Shelf.state c.find_pv.new.shelf)
+    rw (p.1, p.2) (headers_until c.args.number (slice_index_or before.sizes c.args.number 0) before (g.S.Shelf.state c.find_pv.new.shelf)
     c.in_err-contents.field-0.0 c.in_err-contents.ensures.found).2
 
 pub returns-in_err-contents-clause-continues : goal.returns-in_err-contents-clause-continues
@@ -34,7 +34,7 @@ returns-in_err-read-clause-reads g c =
     let there = g.S.Shelf.state c.find_pv.new.shelf in
     let after = g.S.Shelf.state c.read_found.new.shelf in
     let found = c.in_ok-contents.contents in
-    (disk_until c.args.pv (slice_index_or before.sizes c.args.pv 0) found before there after c.in_ok-contents.ensures.stands
+    (disk_until c.args.number (slice_index_or before.sizes c.args.number 0) found before there after c.in_ok-contents.ensures.stands
     c.in_ok-contents.ensures.found.0 c.in_ok-contents.ensures.found.1 c.in_err-read.field-0.0 c.in_err-read.ensures.reads).0
 
 pub returns-in_err-read-clause-again : goal.returns-in_err-read-clause-again
@@ -43,7 +43,7 @@ returns-in_err-read-clause-again g c =
     let there = g.S.Shelf.state c.find_pv.new.shelf in
     let after = g.S.Shelf.state c.read_found.new.shelf in
     let found = c.in_ok-contents.contents in
-    (disk_until c.args.pv (slice_index_or before.sizes c.args.pv 0) found before there after c.in_ok-contents.ensures.stands
+    (disk_until c.args.number (slice_index_or before.sizes c.args.number 0) found before there after c.in_ok-contents.ensures.stands
     c.in_ok-contents.ensures.found.0 c.in_ok-contents.ensures.found.1 c.in_err-read.field-0.0 c.in_err-read.ensures.reads).1
 
 pub returns-in_err-read-clause-cause : goal.returns-in_err-read-clause-cause
@@ -53,7 +53,7 @@ returns-in_err-read-clause-cause g c =
     let after = g.S.Shelf.state c.read_found.new.shelf in
     let found = c.in_ok-contents.contents in
     let p = err_from_is_err_and c.from_residual-in_err-read.result c.from_residual-in_err-read.ensures.1 in
-    rw (p.1, p.2) (disk_until c.args.pv (slice_index_or before.sizes c.args.pv 0) found before there after c.in_ok-contents.ensures.stands
+    rw (p.1, p.2) (disk_until c.args.number (slice_index_or before.sizes c.args.number 0) found before there after c.in_ok-contents.ensures.stands
     c.in_ok-contents.ensures.found.0 c.in_ok-contents.ensures.found.1 c.in_err-read.field-0.0 c.in_err-read.ensures.reads).2
 
 pub returns-clause-read : goal.returns-clause-read
@@ -62,7 +62,7 @@ returns-clause-read g c =
     let there = g.S.Shelf.state c.find_pv.new.shelf in
     let after = g.S.Shelf.state c.read_found.new.shelf in
     let found = c.in_ok-contents.contents in
-    disk_reads c.args.pv (slice_index_or before.sizes c.args.pv 0) found before there after c.in_ok-contents.ensures.stands
+    disk_reads c.args.number (slice_index_or before.sizes c.args.number 0) found before there after c.in_ok-contents.ensures.stands
     c.in_ok-contents.ensures.found.0 c.in_ok-contents.ensures.found.1 (pv_read c.read_found.new.collected.copies c.in_ok-read.read)
     c.in_ok-read.ensures.read
 
@@ -72,7 +72,7 @@ returns-clause-reads g c =
     let there = g.S.Shelf.state c.find_pv.new.shelf in
     let after = g.S.Shelf.state c.read_found.new.shelf in
     let found = c.in_ok-contents.contents in
-    (disk_well c.args.pv (slice_index_or before.sizes c.args.pv 0) found before there after c.in_ok-contents.ensures.stands
+    (disk_well c.args.number (slice_index_or before.sizes c.args.number 0) found before there after c.in_ok-contents.ensures.stands
     c.in_ok-contents.ensures.found.0 c.in_ok-contents.ensures.found.1 c.in_ok-read.ensures.reads).0
 
 pub returns-clause-again : goal.returns-clause-again
@@ -81,7 +81,7 @@ returns-clause-again g c =
     let there = g.S.Shelf.state c.find_pv.new.shelf in
     let after = g.S.Shelf.state c.read_found.new.shelf in
     let found = c.in_ok-contents.contents in
-    (disk_well c.args.pv (slice_index_or before.sizes c.args.pv 0) found before there after c.in_ok-contents.ensures.stands
+    (disk_well c.args.number (slice_index_or before.sizes c.args.number 0) found before there after c.in_ok-contents.ensures.stands
     c.in_ok-contents.ensures.found.0 c.in_ok-contents.ensures.found.1 c.in_ok-read.ensures.reads).1
 
 pub returns-clause-cause : goal.returns-clause-cause
@@ -90,5 +90,5 @@ returns-clause-cause g c =
     let there = g.S.Shelf.state c.find_pv.new.shelf in
     let after = g.S.Shelf.state c.read_found.new.shelf in
     let found = c.in_ok-contents.contents in
-    (disk_well c.args.pv (slice_index_or before.sizes c.args.pv 0) found before there after c.in_ok-contents.ensures.stands
+    (disk_well c.args.number (slice_index_or before.sizes c.args.number 0) found before there after c.in_ok-contents.ensures.stands
     c.in_ok-contents.ensures.found.0 c.in_ok-contents.ensures.found.1 c.in_ok-read.ensures.reads).2

@@ -17,9 +17,9 @@ use Rattle.vg_scan.proofs.disk.read_found.Goals as goal
 
 pub read_areas-requires-clause-usable : goal.read_areas-requires-clause-usable
 read_areas-requires-clause-usable g c =
-    let disk = slice_index_or (g.S.Shelf.state c.args.shelf.now).sizes c.args.pv 0 in
-    subst (λ (l : List AreaFound). All (IsUsable c.args.pv disk) l) (sym c.as_slice.ensures)
-    (subst (CanStand c.args.pv disk) c.in-Whole.is c.requires.stands).3
+    let disk = slice_index_or (g.S.Shelf.state c.args.shelf.now).sizes c.args.disk 0 in
+    subst (λ (l : List AreaFound). All (IsUsable c.args.disk disk) l) (sym c.as_slice.ensures)
+    (subst (CanStand c.args.disk disk) c.in-Whole.is c.requires.stands).3
 
 pub returns-in_err-areas-in-Whole-clause-reads : goal.returns-in_err-areas-in-Whole-clause-reads
 returns-in_err-areas-in-Whole-clause-reads g c =
@@ -27,20 +27,20 @@ returns-in_err-areas-in-Whole-clause-reads g c =
     let after = g.S.Shelf.state c.read_areas.new.shelf in
     let p = err_from_is_err_and c.from_residual.result c.from_residual.ensures.1 in
     rw (p.1, p.2, c.in-Whole.is)
-    (subst (λ (l : List AreaFound). ReadsUntil c.args.pv before (text_spans_in c.args.pv l) after c.in_err-areas-in-Whole.field-0.0)
+    (subst (λ (l : List AreaFound). ReadsUntil c.args.disk before (text_spans_in c.args.disk l) after c.in_err-areas-in-Whole.field-0.0)
     c.as_slice.ensures c.in_err-areas-in-Whole.ensures.reads)
 
 pub returns-in_ok-areas-in-Whole-clause-reads : goal.returns-in_ok-areas-in-Whole-clause-reads
 returns-in_ok-areas-in-Whole-clause-reads g c =
     let before = g.S.Shelf.state c.args.shelf.now in
     let after = g.S.Shelf.state c.read_areas.new.shelf in
-    rw c.in-Whole.is (subst (λ (l : List AreaFound). ReadsWell before (text_spans_in c.args.pv l) after) c.as_slice.ensures
+    rw c.in-Whole.is (subst (λ (l : List AreaFound). ReadsWell before (text_spans_in c.args.disk l) after) c.as_slice.ensures
     c.in_ok-areas-in-Whole.ensures.reads)
 
 pub returns-in_ok-areas-in-Whole-clause-read : goal.returns-in_ok-areas-in-Whole-clause-read
 returns-in_ok-areas-in-Whole-clause-read g c =
     let before = g.S.Shelf.state c.args.shelf.now in
-    let pv = c.args.pv in
+    let pv = c.args.disk in
     let copies = c.read_areas.new.collected.copies in
     let all = c.from_vec.result in
     let areas = c.in-Whole.areas in
@@ -55,25 +55,25 @@ returns-in_ok-areas-in-Whole-clause-read g c =
 
 pub returns-in_ok-areas-in-Whole-clause-shape : goal.returns-in_ok-areas-in-Whole-clause-shape
 returns-in_ok-areas-in-Whole-clause-shape g c =
-    let disk = slice_index_or (g.S.Shelf.state c.args.shelf.now).sizes c.args.pv 0 in
+    let disk = slice_index_or (g.S.Shelf.state c.args.shelf.now).sizes c.args.disk 0 in
     let copies = c.read_areas.new.collected.copies in
     let all = c.from_vec.result in
     let areas = c.in-Whole.areas in
     let places =
     places_passed c.as_slice.result.now areas c.in_ok-areas-in-Whole.areas.items all copies c.as_slice.ensures c.from_vec.ensures
     c.in_ok-areas-in-Whole.ensures.places in
-    rw c.in-Whole.is (shape_read c.args.pv disk c.in-Whole.label c.in-Whole.header areas
-    (subst (CanStand c.args.pv disk) c.in-Whole.is c.requires.stands) copies all places)
+    rw c.in-Whole.is (shape_read c.args.disk disk c.in-Whole.label c.in-Whole.header areas
+    (subst (CanStand c.args.disk disk) c.in-Whole.is c.requires.stands) copies all places)
 
 pub returns-in_ok-areas-in-Whole-clause-numbers : goal.returns-in_ok-areas-in-Whole-clause-numbers
 returns-in_ok-areas-in-Whole-clause-numbers g c =
-    let disk = slice_index_or (g.S.Shelf.state c.args.shelf.now).sizes c.args.pv 0 in
+    let disk = slice_index_or (g.S.Shelf.state c.args.shelf.now).sizes c.args.disk 0 in
     let copies = c.read_areas.new.collected.copies in
     let all = c.from_vec.result in
     let areas = c.in-Whole.areas in
     let places =
     places_passed c.as_slice.result.now areas c.in_ok-areas-in-Whole.areas.items all copies c.as_slice.ensures c.from_vec.ensures
     c.in_ok-areas-in-Whole.ensures.places in
-    numbers_read c.args.pv disk c.in-Whole.label c.in-Whole.header areas (subst (CanStand c.args.pv disk) c.in-Whole.is c.requires.stands)
+    numbers_read c.args.disk disk c.in-Whole.label c.in-Whole.header areas (subst (CanStand c.args.disk disk) c.in-Whole.is c.requires.stands)
     copies all places (length copies)
     (subst (λ (l : List AreaRead). AreasGiveAtMost (length copies) l) (sym c.from_vec.ensures) c.in_ok-areas-in-Whole.ensures.numbers)

@@ -15,49 +15,49 @@ use Rattle.vg_scan.proofs.scanning.scan.Goals as goal
 pub scan_disk-requires-clause-disk : goal.scan_disk-requires-clause-disk
 scan_disk-requires-clause-disk g c =
     let s0 = g.S.Shelf.state c.args.shelf.now in
-    let within : c.loop-pv.pv < length s0.sizes = omega (arith, c.loop-pv-test.true, c.count-pv-end.ensures) in
-    subst (λ (l : List ℕ). c.loop-pv.pv < length l) (sym c.loop-pv.invariant.1.sizes) within
+    let within : c.loop-number.number < length s0.sizes = omega (arith, c.loop-number-test.true, c.count-number-end.ensures) in
+    subst (λ (l : List ℕ). c.loop-number.number < length l) (sym c.loop-number.invariant.1.sizes) within
 
 pub scan_disk-requires-clause-least : goal.scan_disk-requires-clause-least
 scan_disk-requires-clause-least g c =
     let s0 = g.S.Shelf.state c.args.shelf.now in
-    let within : c.loop-pv.pv < length s0.sizes = omega (arith, c.loop-pv-test.true, c.count-pv-end.ensures) in
-    subst (λ (l : List ℕ). 8 ≤ slice_index_or l c.loop-pv.pv 0) (sym c.loop-pv.invariant.1.sizes) (c.requires.least c.loop-pv.pv within)
+    let within : c.loop-number.number < length s0.sizes = omega (arith, c.loop-number-test.true, c.count-number-end.ensures) in
+    subst (λ (l : List ℕ). 8 ≤ slice_index_or l c.loop-number.number 0) (sym c.loop-number.invariant.1.sizes) (c.requires.least c.loop-number.number within)
 
 pub scan_disk-requires-clause-most : goal.scan_disk-requires-clause-most
 scan_disk-requires-clause-most g c =
     let s0 = g.S.Shelf.state c.args.shelf.now in
-    let within : c.loop-pv.pv < length s0.sizes = omega (arith, c.loop-pv-test.true, c.count-pv-end.ensures) in
-    subst (λ (l : List ℕ). slice_index_or l c.loop-pv.pv 0 ≤ 2 ^ 40) (sym c.loop-pv.invariant.1.sizes) (c.requires.most c.loop-pv.pv within)
+    let within : c.loop-number.number < length s0.sizes = omega (arith, c.loop-number-test.true, c.count-number-end.ensures) in
+    subst (λ (l : List ℕ). slice_index_or l c.loop-number.number 0 ≤ 2 ^ 40) (sym c.loop-number.invariant.1.sizes) (c.requires.most c.loop-number.number within)
 
 pub scan_disk-requires-clause-room : goal.scan_disk-requires-clause-room
 scan_disk-requires-clause-room g c =
-    omega (arith, c.loop-pv-test.true, c.count-pv-end.ensures, c.loop-pv.invariant.0.reading_count, c.requires.few)
+    omega (arith, c.loop-number-test.true, c.count-number-end.ensures, c.loop-number.invariant.0.reading_count, c.requires.few)
 
 pub name_unread-requires : goal.name_unread-requires
-name_unread-requires g c = omega (arith, c.loop-pv-test.true, c.count-pv-end.ensures, c.requires.few)
+name_unread-requires g c = omega (arith, c.loop-number-test.true, c.count-number-end.ensures, c.requires.few)
 
 pub found_of-requires-clause-some : goal.found_of-requires-clause-some
 found_of-requires-clause-some g c =
-    some_scanned (g.S.Shelf.state c.args.shelf.now) (g.S.Shelf.state c.loop-pv.shelf) c.loop-pv.pv c.loop-pv.disks.items c.loop-pv.unread
-    c.loop-pv.collected.disks c.loop-pv.invariant.0
-    (omega (arith, c.loop-pv-test.false, c.count-pv-end.ensures)) c.requires.some
+    some_scanned (g.S.Shelf.state c.args.shelf.now) (g.S.Shelf.state c.loop-number.shelf) c.loop-number.number c.loop-number.disks.items c.loop-number.unread
+    c.loop-number.collected.disks c.loop-number.invariant.0
+    (omega (arith, c.loop-number-test.false, c.count-number-end.ensures)) c.requires.some
 
 pub found_of-requires-clause-few : goal.found_of-requires-clause-few
 found_of-requires-clause-few g c =
-    few_scanned (g.S.Shelf.state c.args.shelf.now) (g.S.Shelf.state c.loop-pv.shelf) c.loop-pv.pv c.loop-pv.disks.items c.loop-pv.unread
-    c.loop-pv.collected.disks c.loop-pv.invariant.0
-    (omega (arith, c.loop-pv.auto.pv-end, c.count-pv-end.ensures)) c.requires.few
+    few_scanned (g.S.Shelf.state c.args.shelf.now) (g.S.Shelf.state c.loop-number.shelf) c.loop-number.number c.loop-number.disks.items c.loop-number.unread
+    c.loop-number.collected.disks c.loop-number.invariant.0
+    (omega (arith, c.loop-number.auto.number-end, c.count-number-end.ensures)) c.requires.few
 
 pub found_of-requires-clause-shapes : goal.found_of-requires-clause-shapes
 found_of-requires-clause-shapes g c =
-    subst (λ (all : AllRead). HaveShapes c.loop-pv.disks.items c.loop-pv.unread all.disks) (sym c.into_readings.ensures)
-    c.loop-pv.invariant.0.shape
+    subst (λ (all : AllRead). HaveShapes c.loop-number.disks.items c.loop-number.unread all.disks) (sym c.into_readings.ensures)
+    c.loop-number.invariant.0.shape
 
 -- ---- none yet
 
-pub loop-pv-init : goal.loop-pv-init
-loop-pv-init g c = (
+pub loop-number-init : goal.loop-number-init
+loop-number-init g c = (
   none_scanned c.new-disks.result.items c.new-unread.result c.new-collected.result.disks (g.S.Shelf.state c.args.shelf.now)
       c.new-disks.ensures.items c.new-unread.ensures c.new-collected.ensures.disks,
   again_nothing (g.S.Shelf.state c.args.shelf.now) c.requires.idle,
@@ -65,16 +65,16 @@ loop-pv-init g c = (
 
 -- ---- one disk more
 
-pub loop-pv-preserved : goal.loop-pv-preserved
-loop-pv-preserved g c =
+pub loop-number-preserved : goal.loop-number-preserved
+loop-number-preserved g c =
     let s0 = g.S.Shelf.state c.args.shelf.now in
-    let s1 = g.S.Shelf.state c.loop-pv.shelf in
+    let s1 = g.S.Shelf.state c.loop-number.shelf in
     let s2 = g.S.Shelf.state c.scan_disk.new.shelf in
-    let pv = c.loop-pv.pv in
-    let was = c.loop-pv.invariant.1 in
-    let within : pv < length s0.sizes = omega (arith, c.loop-pv-test.true, c.count-pv-end.ensures) in (
-      next_scanned pv c.loop-pv.disks.items c.push.new.self.items c.loop-pv.unread c.name_unread.new.unread c.loop-pv.collected.disks
-          c.scan_disk.new.collected.disks c.in_ok-disk.disk s0 s1 s2 c.loop-pv.invariant.0
+    let pv = c.loop-number.number in
+    let was = c.loop-number.invariant.1 in
+    let within : pv < length s0.sizes = omega (arith, c.loop-number-test.true, c.count-number-end.ensures) in (
+      next_scanned pv c.loop-number.disks.items c.push.new.self.items c.loop-number.unread c.name_unread.new.unread c.loop-number.collected.disks
+          c.scan_disk.new.collected.disks c.in_ok-disk.disk s0 s1 s2 c.loop-number.invariant.0
           c.in_ok-disk.ensures.disk c.scan_disk.ensures.reads was.sizes within (c.requires.least pv within) (c.requires.most pv within)
           c.in_ok-push.ensures.items c.name_unread.ensures,
       again_both s0 s1 s2 was c.scan_disk.ensures.again,
@@ -88,14 +88,14 @@ returns-in_err-disk-clause-scan g c =
 
 pub returns-in_err-disk-clause-again : goal.returns-in_err-disk-clause-again
 returns-in_err-disk-clause-again g c =
-    again_both (g.S.Shelf.state c.args.shelf.now) (g.S.Shelf.state c.loop-pv.shelf) (g.S.Shelf.state c.scan_disk.new.shelf)
-    c.loop-pv.invariant.1 c.scan_disk.ensures.again
+    again_both (g.S.Shelf.state c.args.shelf.now) (g.S.Shelf.state c.loop-number.shelf) (g.S.Shelf.state c.scan_disk.new.shelf)
+    c.loop-number.invariant.1 c.scan_disk.ensures.again
 
 pub returns-in_err-disk-clause-reads : goal.returns-in_err-disk-clause-reads
 returns-in_err-disk-clause-reads g c =
-    reads_stopped c.loop-pv.pv c.loop-pv.disks.items c.loop-pv.unread c.loop-pv.collected.disks (g.S.Shelf.state c.args.shelf.now)
-    (g.S.Shelf.state c.loop-pv.shelf) (g.S.Shelf.state c.scan_disk.new.shelf) c.loop-pv.invariant.0
-    c.loop-pv.invariant.1.sizes c.scan_disk.ensures.reads
+    reads_stopped c.loop-number.number c.loop-number.disks.items c.loop-number.unread c.loop-number.collected.disks (g.S.Shelf.state c.args.shelf.now)
+    (g.S.Shelf.state c.loop-number.shelf) (g.S.Shelf.state c.scan_disk.new.shelf) c.loop-number.invariant.0
+    c.loop-number.invariant.1.sizes c.scan_disk.ensures.reads
 
 pub returns-in_err-push-clause-scan : goal.returns-in_err-push-clause-scan
 returns-in_err-push-clause-scan g c =
@@ -104,38 +104,38 @@ returns-in_err-push-clause-scan g c =
 
 pub returns-in_err-push-clause-again : goal.returns-in_err-push-clause-again
 returns-in_err-push-clause-again g c =
-    again_both (g.S.Shelf.state c.args.shelf.now) (g.S.Shelf.state c.loop-pv.shelf) (g.S.Shelf.state c.scan_disk.new.shelf)
-    c.loop-pv.invariant.1 c.scan_disk.ensures.again
+    again_both (g.S.Shelf.state c.args.shelf.now) (g.S.Shelf.state c.loop-number.shelf) (g.S.Shelf.state c.scan_disk.new.shelf)
+    c.loop-number.invariant.1 c.scan_disk.ensures.again
 
 pub returns-in_err-push-clause-reads : goal.returns-in_err-push-clause-reads
 returns-in_err-push-clause-reads g c =
-    reads_stopped c.loop-pv.pv c.loop-pv.disks.items c.loop-pv.unread c.loop-pv.collected.disks (g.S.Shelf.state c.args.shelf.now)
-    (g.S.Shelf.state c.loop-pv.shelf) (g.S.Shelf.state c.scan_disk.new.shelf) c.loop-pv.invariant.0
-    c.loop-pv.invariant.1.sizes c.scan_disk.ensures.reads
+    reads_stopped c.loop-number.number c.loop-number.disks.items c.loop-number.unread c.loop-number.collected.disks (g.S.Shelf.state c.args.shelf.now)
+    (g.S.Shelf.state c.loop-number.shelf) (g.S.Shelf.state c.scan_disk.new.shelf) c.loop-number.invariant.0
+    c.loop-number.invariant.1.sizes c.scan_disk.ensures.reads
 
 -- ---- all disks were scanned
 
 pub returns-in-Ok-clause-scan : goal.returns-in-Ok-clause-scan
 returns-in-Ok-clause-scan g c =
-    scan_found (g.S.Shelf.state c.args.shelf.now) (g.S.Shelf.state c.loop-pv.shelf) c.loop-pv.pv c.loop-pv.disks.items c.loop-pv.unread
-    c.loop-pv.collected.disks c.in-Ok.found c.loop-pv.invariant.0
-    (omega (arith, c.loop-pv-test.false, c.count-pv-end.ensures))
-    (subst (λ (all : AllRead). IsOutcome c.loop-pv.disks.items c.loop-pv.unread all.disks c.in-Ok.found) c.into_readings.ensures
+    scan_found (g.S.Shelf.state c.args.shelf.now) (g.S.Shelf.state c.loop-number.shelf) c.loop-number.number c.loop-number.disks.items c.loop-number.unread
+    c.loop-number.collected.disks c.in-Ok.found c.loop-number.invariant.0
+    (omega (arith, c.loop-number-test.false, c.count-number-end.ensures))
+    (subst (λ (all : AllRead). IsOutcome c.loop-number.disks.items c.loop-number.unread all.disks c.in-Ok.found) c.into_readings.ensures
     c.in-Ok.ensures)
 
 pub returns-in-Ok-clause-reads : goal.returns-in-Ok-clause-reads
 returns-in-Ok-clause-reads g c =
     let s0 = g.S.Shelf.state c.args.shelf.now in
-    few_told c.loop-pv.pv s0.sizes s0.told (g.S.Shelf.state c.loop-pv.shelf).told c.loop-pv.invariant.0.reads
+    few_told c.loop-number.number s0.sizes s0.told (g.S.Shelf.state c.loop-number.shelf).told c.loop-number.invariant.0.reads
 
 pub returns-in-Err-clause-scan : goal.returns-in-Err-clause-scan
 returns-in-Err-clause-scan g c =
-    scan_refused (g.S.Shelf.state c.args.shelf.now) (g.S.Shelf.state c.loop-pv.shelf) c.loop-pv.pv c.loop-pv.disks.items c.loop-pv.unread
-    c.loop-pv.collected.disks c.in-Err.why c.loop-pv.invariant.0
-    (omega (arith, c.loop-pv-test.false, c.count-pv-end.ensures))
+    scan_refused (g.S.Shelf.state c.args.shelf.now) (g.S.Shelf.state c.loop-number.shelf) c.loop-number.number c.loop-number.disks.items c.loop-number.unread
+    c.loop-number.collected.disks c.in-Err.why c.loop-number.invariant.0
+    (omega (arith, c.loop-number-test.false, c.count-number-end.ensures))
     (subst (λ (all : AllRead). IsRefusedBy (decide_scan all.disks) c.in-Err.why) c.into_readings.ensures c.in-Err.ensures)
 
 pub returns-in-Err-clause-reads : goal.returns-in-Err-clause-reads
 returns-in-Err-clause-reads g c =
     let s0 = g.S.Shelf.state c.args.shelf.now in
-    few_told c.loop-pv.pv s0.sizes s0.told (g.S.Shelf.state c.loop-pv.shelf).told c.loop-pv.invariant.0.reads
+    few_told c.loop-number.number s0.sizes s0.told (g.S.Shelf.state c.loop-number.shelf).told c.loop-number.invariant.0.reads

@@ -3,6 +3,6 @@ use Rattle.std.proofs.Common.{drop}
 use Rattle.dev_shelf.specs.RowValues.{TakesDisks, told_after}
 use Rattle.dev_shelf.proofs.mem_shelf.crash_image.disks_at.Given as goal
 
-abbrev pub invariant-loop-pv : goal.invariant-loop-pv
-invariant-loop-pv l =
-    TakesDisks (told_after l.row l.moment) (sizes_of l.row) l.pv l.choices.items l.disks.items (drop l.taken l.choices.items)
+abbrev pub invariant-loop-disk : goal.invariant-loop-disk
+invariant-loop-disk l =
+    TakesDisks (told_after l.row l.moment) (sizes_of l.row) l.disk l.choices.items l.disks.items (drop l.taken l.choices.items)

@@ -13,17 +13,17 @@ returns-then-not-touched c =
     let row = c.args.row.now in
     let told = told_after row c.args.moment in
     let choices = drop c.args.taken.now c.args.choices.now.items in
-    let there : c.get.result ≡ image_of row.opened.items c.args.pv c.args.sector =
+    let there : c.get.result ≡ image_of row.opened.items c.args.disk c.args.sector =
     c.get.ensures.value ∙ ap (λ (d : List (List ℕ)). get_or d c.args.sector [])
-    (c.index.ensures ∙ get_or_default row.opened.items c.args.pv c.index.result.now [] (omega (arith, row.opened.ok.0))) in
-    subst (λ (v : List ℕ). TakesOne told c.args.pv c.args.sector choices v choices) (sym there)
-    (takes_untouched told c.args.pv c.args.sector choices (sym c.requires.touched ∙ c.if-not-touched.true))
+    (c.index.ensures ∙ get_or_default row.opened.items c.args.disk c.index.result.now [] (omega (arith, row.opened.ok.0))) in
+    subst (λ (v : List ℕ). TakesOne told c.args.disk c.args.sector choices v choices) (sym there)
+    (takes_untouched told c.args.disk c.args.sector choices (sym c.requires.touched ∙ c.if-not-touched.true))
 
 pub choose-requires : goal.choose-requires
 choose-requires c =
     let row = c.args.row.now in
     let told = told_after row c.args.moment in
     let some =
-    some_value told.opened told.steps c.args.pv c.args.sector
+    some_value told.opened told.steps c.args.disk c.args.sector
     (record_at row.written.items row.steps.items c.args.moment c.requires.good.follows) in
     omega (arith, some, ap (λ (l : List (Option ℕ × List ℕ)). length l) c.in_ok-values.ensures, c.in_ok-values.values.ok.0)

@@ -16,7 +16,7 @@ pub mark_work-requires : goal.mark_work-requires
 mark_work-requires c =
     let row = c.args.row.now in
     let r = c.index-in-loop-i.result.now in
-    let pv = c.args.pv in
+    let pv = c.args.disk in
     let so_far = steps_onto row.written.items [] (take c.loop-i.i row.steps.items) in
     let more = steps_more row.written.items row.steps.items c.loop-i.i r (omega (arith, row.steps.ok.0)) c.index-in-loop-i.ensures in
     let within : AllWithin (sizes_of row) (step_at row.written.items r ∷ so_far) =
@@ -32,7 +32,7 @@ pub loop-i-preserved : goal.loop-i-preserved
 loop-i-preserved c =
     let row = c.args.row.now in
     let r = c.index-in-loop-i.result.now in
-    let pv = c.args.pv in
+    let pv = c.args.disk in
     let so_far = steps_onto row.written.items [] (take c.loop-i.i row.steps.items) in
     let more = steps_more row.written.items row.steps.items c.loop-i.i r (omega (arith, row.steps.ok.0)) c.index-in-loop-i.ensures in
     record {

@@ -6,7 +6,7 @@ use Rattle.dev_shelf.proofs.mem_shelf.touched.touched_sectors.Given as goal
 
 abbrev pub invariant-loop-i : goal.invariant-loop-i
 invariant-loop-i l = record {
-  len : vec_len l.marks ≡ length (slice_index_or l.row.opened.items l.pv []);
+  len : vec_len l.marks ≡ length (slice_index_or l.row.opened.items l.disk []);
   each : (s : ℕ) → s < vec_len l.marks → slice_index_or l.marks.items s false
-      ≡ is_touched (steps_onto l.row.written.items [] (take l.i l.row.steps.items)) l.pv s;
+      ≡ is_touched (steps_onto l.row.written.items [] (take l.i l.row.steps.items)) l.disk s;
 }

@@ -9,7 +9,7 @@ use Rattle.dev_shelf.proofs.mem_shelf.values.values_at.Goals as goal
 pub loop-i-preserved : goal.loop-i-preserved
 loop-i-preserved c =
     c.in_ok-all.ensures
-    ∙ ap (λ (l : List Step). values (image_of c.args.row.now.opened.items) l c.args.pv c.args.sector)
+    ∙ ap (λ (l : List Step). values (image_of c.args.row.now.opened.items) l c.args.disk c.args.sector)
     (sym (steps_more c.args.row.now.written.items c.args.row.now.steps.items c.loop-i.i c.index-in-loop-i.result.now
     (omega (arith, c.args.row.now.steps.ok.0)) c.index-in-loop-i.ensures))
 

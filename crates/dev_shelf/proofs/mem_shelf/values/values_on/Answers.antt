@@ -12,17 +12,17 @@ returns-else-well c =
     let earlier = steps_onto row.written.items [] (take c.args.at row.steps.items) in
     elim c.else-well.branch [
       | else-well-via-then-well+then-disk-pv+else-len-gt1 w ↦
-          let few : length (values (image_of row.opened.items) earlier c.args.pv c.args.sector) ≤ 1 =
+          let few : length (values (image_of row.opened.items) earlier c.args.number c.args.sector) ≤ 1 =
           omega (arith, ap (λ (l : List (Option ℕ × List ℕ)). length l) c.requires.before) in
           c.requires.before ∙ sym (flush_sole (image_of row.opened.items) row.written.items earlier c.args.step c.in-Ended.tag
-          c.in-Ended.work c.in-Flushes-work.disk c.in-Ended.field-3 c.args.pv c.args.sector c.in-Ended.well c.in-Ended.is
+          c.in-Ended.work c.in-Flushes-work.disk c.in-Ended.field-3 c.args.number c.args.sector c.in-Ended.well c.in-Ended.is
           c.in-Flushes-work.is w.if-well.true w.if-disk-pv.true c.requires.follows few)
       | else-well-via-then-well+else-disk-pv w ↦
           c.requires.before ∙ sym (flush_other (image_of row.opened.items) row.written.items earlier c.args.step c.in-Ended.tag
-          c.in-Ended.work c.in-Flushes-work.disk c.in-Ended.field-3 c.args.pv c.args.sector c.in-Ended.well c.in-Ended.is
+          c.in-Ended.work c.in-Flushes-work.disk c.in-Ended.field-3 c.args.number c.args.sector c.in-Ended.well c.in-Ended.is
           c.in-Flushes-work.is w.if-disk-pv.false)
       | else-well-via-else-well w ↦
           c.requires.before ∙ sym (flush_failed (image_of row.opened.items) row.written.items earlier c.args.step c.in-Ended.tag
-          c.in-Ended.work c.in-Flushes-work.disk c.in-Ended.field-3 c.args.pv c.args.sector c.in-Ended.well c.in-Ended.is
+          c.in-Ended.work c.in-Flushes-work.disk c.in-Ended.field-3 c.args.number c.args.sector c.in-Ended.well c.in-Ended.is
           c.in-Flushes-work.is w.if-well.false)
     ]
