@@ -15,7 +15,7 @@ use Rattle.disk_contents.specs.declared.contents.AreaFound.{AreaFound}
 use Rattle.disk_contents.specs.declared.contents.PvFound.{PvFound}
 use Rattle.disk_contents.specs.declared.contents.PvFound.TheVariants.{NoLabel, NoHeader, Whole}
 use Rattle.disk_contents.specs.Standing.{IsUsable, area_on}
-use Rattle.vg_found.proofs.KeptLists.{all_kept}
+use Rattle.list_laws.proofs.KeptLists.{all_kept}
 use Rattle.vg_found.specs.declared.disk.Disk.{Disk}
 use Rattle.vg_found.specs.Disks.{areas_on, held_area, held_areas, held_by}
 use Rattle.vg_found.specs.Shape.{ContentsCanStand, IsDisk}

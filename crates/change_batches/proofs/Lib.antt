@@ -10,7 +10,6 @@ mod ClearsAdded
 pub mod DiskSets
 mod DisksWritten
 pub mod FarAreas
-pub mod Filtered
 pub mod FittingAreas
 pub mod HeldInDisks
 pub mod KeptImages

@@ -16,7 +16,7 @@ use Rattle.claim_table.specs.Extents.{end_of}
 use Rattle.claim_table.specs.Claims.{Claims, IsApart, IsEntry, is_shut_out, lies_in, ready_at}
 use Rattle.claim_table.specs.Steps.{after_enter, after_leave, after_ready, after_set_region, after_suspend, after_resume, has_number}
 use Rattle.claim_table.specs.Steps.{no_claim, number_at, place_by_number, without}
-use Rattle.sector_base.proofs.Positions.{any_within, all_remove}
+use Rattle.list_laws.proofs.Positions.{any_within, all_remove}
 use Rattle.claim_table.proofs.Ascending.{pairs_insert}
 use Rattle.claim_table.proofs.Passing.{none_at}
 use Rattle.claim_table.proofs.FreePieces.{free_started, free_outside, ready_is_free}

@@ -17,7 +17,7 @@ use Rattle.extent_alloc.specs.Usable.{usable_pvs}
 use Rattle.extent_alloc.specs.declared.part.PvRun.{PvRun}
 use Rattle.extent_alloc.specs.declared.request.Request.{Request}
 use Rattle.extent_alloc.proofs.FreeOn.{IsFreeRun, free_at_few, free_at_free, free_runs_here, stands, usable_below}
-use Rattle.extent_alloc.proofs.Pairs.{all_weaker}
+use Rattle.list_laws.proofs.Pairs.{all_weaker}
 
 -- of one
 pub free_here : (group : Group) (all : List (List ExtentRun)) (pv : ℕ) → AreAllFree group all → pv < length group.pvs

@@ -12,7 +12,7 @@ use Rattle.extent_alloc.specs.Giving.{extents_in}
 use Rattle.extent_alloc.specs.declared.part.Part.{Part}
 use Rattle.extent_alloc.specs.declared.part.PvRun.{PvRun}
 use Rattle.extent_alloc.proofs.LaidParts.{AgreeFrom, In, ends_of, extents_cons, stops, total_cons}
-use Rattle.extent_alloc.proofs.Pairs.{all_weaker}
+use Rattle.list_laws.proofs.Pairs.{all_weaker}
 
 -- each is greater than the one before
 abbrev Rises : ℕ → List ℕ → Type 0

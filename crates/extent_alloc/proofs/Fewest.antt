@@ -8,7 +8,7 @@ use Rattle.std.proofs.lemmas.List.Sums.{sum_by-cons}
 use Rattle.extent_alloc.specs.Free.{total}
 use Rattle.extent_alloc.specs.Giving.{LieApart}
 use Rattle.extent_alloc.specs.declared.part.PvRun.{PvRun}
-use Rattle.extent_alloc.proofs.Pairs.{Pairs, all_weaker, pairs_filter}
+use Rattle.list_laws.proofs.Pairs.{Pairs, all_weaker, pairs_filter}
 
 -- how many of these runs, one after another, so many extents take; what they have no room for counts too
 abbrev pub needed : ℕ → List PvRun → ℕ

@@ -15,7 +15,7 @@ use Rattle.extent_alloc.specs.declared.part.PvRun.{PvRun}
 use Rattle.extent_alloc.specs.declared.request.Request.{Request}
 use Rattle.extent_alloc.proofs.FreeOn.{usable_are, usable_differ}
 use Rattle.extent_alloc.proofs.LaidParts.{total_cons}
-use Rattle.extent_alloc.proofs.Pairs.{Pairs, all_weaker, pairs_filter}
+use Rattle.list_laws.proofs.Pairs.{Pairs, all_weaker, pairs_filter}
 
 longest_within : (runs : List PvRun) → longest runs ≤ total runs
 longest_within [] = omega arith

@@ -22,7 +22,7 @@ use Rattle.extent_alloc.specs.Usable.{is_usable, usable_pvs}
 use Rattle.extent_alloc.specs.declared.part.PvRun.{PvRun}
 use Rattle.extent_alloc.specs.declared.request.Request.{Request}
 use Rattle.extent_alloc.proofs.FreeLists.{all_of, free_begin, free_runs_are, lies_free}
-use Rattle.extent_alloc.proofs.Pairs.{Pairs, all_append, all_weaker, pairs_append}
+use Rattle.list_laws.proofs.Pairs.{Pairs, all_append, all_weaker, pairs_append}
 use Rattle.extent_alloc.proofs.UnusedRuns.{Begin, Lies, unused_sum}
 
 -- the run has an extent and small numbers, and its extents are free

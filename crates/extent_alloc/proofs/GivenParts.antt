@@ -14,7 +14,7 @@ use Rattle.extent_alloc.specs.declared.part.PartRun.{PartRun}
 use Rattle.extent_alloc.specs.declared.part.PvRun.{PvRun}
 use Rattle.extent_alloc.specs.declared.request.Request.{Request}
 use Rattle.extent_alloc.proofs.LaidParts.{AgreeFrom, Agrees, begin_at, extents_cons, spot}
-use Rattle.extent_alloc.proofs.Pairs.{Pairs, all_append, all_weaker, pairs_append, pairs_to}
+use Rattle.list_laws.proofs.Pairs.{Pairs, all_append, all_weaker, pairs_append, pairs_to}
 use Rattle.extent_alloc.proofs.Spots.{IsLeg, NeverMeet}
 
 -- the leg is one of these

@@ -12,7 +12,6 @@ mod LongestFirst
 mod MoreLegsGiven
 mod MoreSources
 mod OneLegGiven
-pub mod Pairs
 mod PartEnds
 mod Spots
 mod Taken

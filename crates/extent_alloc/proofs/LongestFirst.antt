@@ -13,7 +13,7 @@ use Rattle.extent_alloc.specs.Free.{counts_of}
 use Rattle.extent_alloc.specs.Taking.{shortness}
 use Rattle.extent_alloc.specs.declared.part.PvRun.{PvRun}
 use Rattle.extent_alloc.proofs.Fewest.{Descending}
-use Rattle.extent_alloc.proofs.Pairs.{all_weaker}
+use Rattle.list_laws.proofs.Pairs.{all_weaker}
 
 abbrev pub IsSmall : PvRun → Type 0
 IsSmall run = run.count < 2 ^ 64

@@ -25,7 +25,7 @@ use Rattle.extent_alloc.proofs.GivenParts.{LieOn, given_parts, never_meet, parts
 use Rattle.extent_alloc.proofs.LaidParts.{AgreeFrom, In, ends_of, extents_cons, laid_agrees, laid_end, laid_sum, pieces_count, spot, stops}
 use Rattle.extent_alloc.proofs.LongestFirst.{descends, sorted_counts}
 use Rattle.extent_alloc.proofs.OneLegGiven.{long_enough, shorter_all, whole_sum}
-use Rattle.extent_alloc.proofs.Pairs.{Pairs, all_weaker, pairs_to}
+use Rattle.list_laws.proofs.Pairs.{Pairs, all_weaker, pairs_to}
 use Rattle.extent_alloc.proofs.Spots.{IsLeg, each_spot}
 use Rattle.extent_alloc.proofs.Taken.{AreFine, fine_leg, fine_small, fine_some, moved_fine, volume_fine}
 

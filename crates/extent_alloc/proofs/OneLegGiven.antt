@@ -27,7 +27,7 @@ use Rattle.extent_alloc.proofs.FreeLists.{free_begin, free_lies}
 use Rattle.extent_alloc.proofs.GivenParts.{given_parts}
 use Rattle.extent_alloc.proofs.LaidParts.{AgreeFrom, Some, extents_cons, laid_agrees, laid_sum, pieces_count, spot, total_cons}
 use Rattle.extent_alloc.proofs.LongestFirst.{descends}
-use Rattle.extent_alloc.proofs.Pairs.{all_weaker, pairs_from}
+use Rattle.list_laws.proofs.Pairs.{all_weaker, pairs_from}
 use Rattle.extent_alloc.proofs.Taken.{AreFine, fine_leg, fine_small, fine_some, moved_fine, taken_enough, taken_fine, usable_fine}
 use Rattle.extent_alloc.proofs.UnusedRuns.{within_one}
 

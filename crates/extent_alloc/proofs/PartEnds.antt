@@ -8,7 +8,7 @@ use Rattle.extent_alloc.specs.Laying.{PartEnds, RunEnds, all_later, laid_on, lef
 use Rattle.extent_alloc.specs.declared.part.Part.{Part}
 use Rattle.extent_alloc.specs.declared.part.PartRun.{PartRun}
 use Rattle.extent_alloc.specs.declared.part.PvRun.{PvRun}
-use Rattle.extent_alloc.proofs.Pairs.{all_append}
+use Rattle.list_laws.proofs.Pairs.{all_append}
 
 -- so many extents from where a leg begins
 abbrev BeginEnds : ℕ → PartRun → Type 0

@@ -10,7 +10,7 @@ use Rattle.extent_alloc.specs.Usable.{is_usable}
 use Rattle.extent_alloc.specs.declared.part.PvRun.{PvRun}
 use Rattle.extent_alloc.specs.declared.request.Request.{Request}
 use Rattle.extent_alloc.proofs.LaidParts.{spot, spot_here, spot_later, total_cons}
-use Rattle.extent_alloc.proofs.Pairs.{Pairs}
+use Rattle.list_laws.proofs.Pairs.{Pairs}
 
 -- one of the runs has the spot
 abbrev HasSpot : List PvRun → ℕ × ℕ → Type 0

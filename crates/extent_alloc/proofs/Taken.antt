@@ -19,7 +19,7 @@ use Rattle.extent_alloc.proofs.FreeOn.{IsFreeRun, all_stand, free_at_apart, free
 use Rattle.extent_alloc.proofs.FreeOn.{usable_are, usable_differ}
 use Rattle.extent_alloc.proofs.LaidParts.{Some, total_cons}
 use Rattle.extent_alloc.proofs.LongestFirst.{IsSmall}
-use Rattle.extent_alloc.proofs.Pairs.{Pairs, all_weaker, pairs_from, pairs_to}
+use Rattle.list_laws.proofs.Pairs.{Pairs, all_weaker, pairs_from, pairs_to}
 use Rattle.extent_alloc.proofs.Spots.{IsLeg, each_spot, spots_differ}
 
 -- a free run on a volume that may be used

@@ -11,7 +11,7 @@ use Rattle.meta_model.specs.declared.segment.Leg.{Leg}
 use Rattle.meta_model.specs.declared.segment.On.TheVariants as on
 use Rattle.extent_map.specs.ByVolume.{each_with, lists_of}
 use Rattle.extent_map.specs.Covered.{is_on, leg_on}
-use Rattle.extent_map.proofs.Walks.{flat_next}
+use Rattle.list_laws.proofs.RowWalks.{flat_next}
 
 -- where there is no more
 pub each_none : (more : ℕ → List ExtentSpan) (at : ℕ) (lists : List (List ExtentSpan))

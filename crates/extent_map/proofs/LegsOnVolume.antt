@@ -30,7 +30,7 @@ use Rattle.volume_rules.proofs.LegRuns.{contains_first, contains_later, run_is, 
 use Rattle.extent_map.specs.Covered.{EachHasLeg, HasLeg, is_on, leg_on, segment_on, lv_on, lvs_on}
 use Rattle.extent_map.proofs.CoveredExtents.{Cover}
 use Rattle.extent_map.proofs.RunsInOrder.{Fits}
-use Rattle.extent_map.proofs.Walks.{all_at}
+use Rattle.list_laws.proofs.RowWalks.{all_at}
 
 -- those that lie there
 abbrev there : ℕ → List LegRun → List ExtentSpan

@@ -5,4 +5,3 @@ mod FreeExtents
 pub mod GapExtents
 pub mod LegsOnVolume
 pub mod RunsInOrder
-pub mod Walks

@@ -9,7 +9,7 @@ use Rattle.flush_plan.specs.declared.records.Write.{Write}
 use Rattle.flush_plan.specs.declared.records.Flush.{Flush}
 use Rattle.flush_plan.specs.Plans.{Plan, IsOrderly, IsWithin, flush_at, flush_of, is_in_flight, marks_of, no_marks, same_write}
 use Rattle.flush_plan.specs.Steps.{new_plan, after_wrote, after_submitted, after_flushed, after_lost}
-use Rattle.sector_base.proofs.Positions.{any_within, all_remove}
+use Rattle.list_laws.proofs.Positions.{any_within, all_remove}
 
 -- a new plan notes no place
 pub orderly_new : (disks : ℕ) → IsOrderly (new_plan disks)

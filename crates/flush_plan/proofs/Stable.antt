@@ -10,7 +10,7 @@ use Rattle.std.proofs.lemmas.Bool.{and_left, and_parts, and_right, eqb-true, eq-
 use Rattle.std.proofs.lemmas.List.{length-set, length-replicate}
 use Rattle.std.proofs.lemmas.List.Elements.{All-nil, All-push}
 use Rattle.std.proofs.lemmas.List.Quantifiers.{all_pairs_push, all_pairs_remove}
-use Rattle.sector_base.proofs.Positions.{all_remove, any_within}
+use Rattle.list_laws.proofs.Positions.{all_remove, any_within}
 use Rattle.flush_plan.specs.declared.records.Marks.{Marks}
 use Rattle.flush_plan.specs.declared.records.Flush.{Flush}
 use Rattle.flush_plan.specs.History.{Event, Reserved, Wrote, Submitted, Flushed, Lost, MayBeTold, MayBeToldAll, StableIsFlushedAfter}

@@ -23,7 +23,7 @@ use Rattle.volume_rules.specs.Extents.{leg_share}
 use Rattle.volume_rules.specs.Legs.{IsUsed, LegRun, LieApart, runs_of_legs, runs_of_segments}
 use Rattle.volume_rules.specs.Rules.{LiesWithin}
 use Rattle.group_edits.proofs.GrownRules.{IsNewRun}
-use Rattle.group_edits.proofs.Inserted.{first_pairs, later_pairs}
+use Rattle.list_laws.proofs.Inserted.{first_pairs, later_pairs}
 use Rattle.group_edits.specs.GivenSegments.{IsFreeRun, MayBeLaid, extents_by, kind_on, leg_at, legs_in, segments_of}
 
 -- what a request may be given may be laid

@@ -15,7 +15,7 @@ use Rattle.meta_print.proofs.Printable.{IsPrintable, IsPv}
 use Rattle.volume_rules.specs.Rules.{FitsDevice, PvIsSmall, ids_of}
 use Rattle.group_edits.specs.JoinedGroup.{free_number, joined_group, names_in, pv_name, with_pvs}
 use Rattle.group_edits.proofs.FreeNames.{free, names_length, pv_name-named}
-use Rattle.group_edits.proofs.Inserted.{each_inserted}
+use Rattle.list_laws.proofs.Inserted.{each_inserted}
 use Rattle.group_edits.proofs.Pushed.{pushed}
 use Rattle.group_edits.proofs.PushedPrintable.{printable_pushed}
 use Rattle.group_edits.proofs.PushedRules.{IsBase, base_pushed, ids_of-pushed}

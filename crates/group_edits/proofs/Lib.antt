@@ -1,4 +1,3 @@
-pub mod Inserted
 pub mod Selections
 pub mod Pushed
 pub mod PushedRules

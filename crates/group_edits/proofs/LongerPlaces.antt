@@ -9,7 +9,7 @@ use Rattle.volume_rules.specs.Extents.{extents_of}
 use Rattle.volume_view.specs.InSegments.{has_sector, segment_from}
 use Rattle.volume_view.specs.Places.{primary}
 use Rattle.group_edits.proofs.Edits.{Row}
-use Rattle.group_edits.proofs.Inserted.{slice_get-pushed}
+use Rattle.list_laws.proofs.Inserted.{slice_get-pushed}
 use Rattle.group_edits.proofs.KeptPlaces.{FindsIn, finds_same, primary_same}
 use Rattle.group_edits.proofs.Renumbered.{same_on, segment_is_same}
 use Rattle.group_edits.proofs.Selections.{map_at}

@@ -14,7 +14,7 @@ use Rattle.meta_model.specs.declared.segment.Leg.{Leg}
 use Rattle.meta_model.specs.declared.segment.On.{On}
 use Rattle.meta_model.specs.declared.segment.On.TheVariants as on
 use Rattle.meta_model.specs.declared.segment.Segment.{Segment}
-use Rattle.sector_base.proofs.Walks.{next_got}
+use Rattle.list_laws.proofs.Walks.{next_got}
 use Rattle.seg_place.proofs.MarkedVolumes.{none_marked}
 use Rattle.seg_place.specs.Marks.{is_marked}
 use Rattle.volume_rules.specs.Moving.{lv_number}

@@ -23,7 +23,7 @@ use Rattle.group_edits.proofs.Edits.{AnySegments}
 use Rattle.group_edits.proofs.GivenRules.{segments_count}
 use Rattle.group_edits.proofs.GrownPrintable.{version_printable}
 use Rattle.group_edits.proofs.GrownRules.{grown_volumes}
-use Rattle.group_edits.proofs.Inserted.{each_pushed}
+use Rattle.list_laws.proofs.Inserted.{each_pushed}
 use Rattle.group_edits.proofs.LongerRules.{below_sectors}
 use Rattle.group_edits.proofs.MadePrintable.{parts_print}
 use Rattle.group_edits.proofs.NewRules.{ends, is_grown, new_accepted}

@@ -20,7 +20,7 @@ use Rattle.group_edits.proofs.Edits.{IsPlain}
 use Rattle.group_edits.proofs.GivenRules.{legs_some, parts_follow, parts_keep, segments_count}
 use Rattle.group_edits.proofs.GivenRuns.{runs_apart, runs_new}
 use Rattle.group_edits.proofs.GrownRules.{IsGrown, grown_legs, stays_same}
-use Rattle.group_edits.proofs.Inserted.{all_pushed, slice_get-pushed}
+use Rattle.list_laws.proofs.Inserted.{all_pushed, slice_get-pushed}
 use Rattle.group_edits.proofs.LongerRules.{below_sectors, volumes_both}
 use Rattle.group_edits.specs.GivenSegments.{extents_in, segments_in, segments_of}
 use Rattle.group_edits.specs.NewVolume.{MayHave, new_lv, with_volume}

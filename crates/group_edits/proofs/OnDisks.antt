@@ -28,7 +28,7 @@ use Rattle.group_edits.proofs.FewSectors.{IsOnVolume, LieOnDisks, few_sectors, s
 use Rattle.group_edits.proofs.GivenRules.{extents_both, legs_some, parts_mirror, parts_striped}
 use Rattle.group_edits.proofs.GivenRuns.{runs_apart, runs_new}
 use Rattle.group_edits.proofs.GrownRules.{IsNewRun}
-use Rattle.group_edits.proofs.Inserted.{first_pairs, later_pairs, none_passes}
+use Rattle.list_laws.proofs.Inserted.{first_pairs, later_pairs, none_passes}
 use Rattle.group_edits.proofs.LongerRules.{its, legs_may, some_legs, volumes_both}
 use Rattle.group_edits.proofs.Selections.{pairs_both}
 use Rattle.group_edits.proofs.Split.{IsSplit, split}

@@ -13,7 +13,7 @@ use Rattle.scan_rules.proofs.Scanning.{same_bytes_tells}
 use Rattle.scan_rules.specs.Decision.{Found, Reading, first_misplaced, has_id, has_misplaced, is_misplaced, meets_area}
 use Rattle.scan_rules.specs.Found.{is_this_misplaced, misplaced_from}
 use Rattle.group_edits.proofs.FewSectors.{LieOnDisks}
-use Rattle.group_edits.proofs.Inserted.{none_passes}
+use Rattle.list_laws.proofs.Inserted.{none_passes}
 
 either_false : (a b c : Bool) → (a && (b || c)) ≡ false → (a ≡ false) ⊎ (b ≡ false)
 either_false false b c none = inl refl

@@ -19,7 +19,7 @@ use Rattle.meta_model.specs.declared.segment.On.TheVariants as on
 use Rattle.meta_print.specs.Layout.{name_of}
 use Rattle.meta_print.proofs.NamesOfText.{pointwise_same}
 use Rattle.meta_print.proofs.Printable.{AreNames, names_of}
-use Rattle.group_edits.proofs.Inserted.{none_by}
+use Rattle.list_laws.proofs.Inserted.{none_by}
 use Rattle.group_edits.proofs.Selections.{AreSome}
 
 abbrev pub pv_names : Group → List (List ℕ)

@@ -14,7 +14,7 @@ use Rattle.meta_model.specs.declared.segment.On.TheVariants as on
 use Rattle.meta_print.proofs.NamesOfText.{differ_back}
 use Rattle.meta_print.proofs.Printable.{AreNames, IsPrintable, IsPv}
 use Rattle.volume_view.proofs.MetSegments.{all_at}
-use Rattle.group_edits.proofs.Inserted.{each_pushed, none_by, none_passes, slice_get-pushed}
+use Rattle.list_laws.proofs.Inserted.{each_pushed, none_by, none_passes, slice_get-pushed}
 use Rattle.group_edits.proofs.PrintedNames.{IsFound, IsFoundBy, lv_found, lv_names, names_pushed, pv_found, pv_names}
 use Rattle.group_edits.proofs.Pushed.{pushed}
 use Rattle.group_edits.proofs.RenumberedPrintable.{each_same}

@@ -14,7 +14,7 @@ use Rattle.volume_rules.specs.declared.rule.Rule.TheVariants.{Numbers, Ids, Volu
 use Rattle.volume_rules.specs.declared.rule.Rule.TheVariants.{Apart, Depth, Moved, Pvmove, Locked}
 use Rattle.group_edits.proofs.EditedLegs.{LegsAreAllowed}
 use Rattle.group_edits.proofs.EditedRows.{mapped_legs, same_stays}
-use Rattle.group_edits.proofs.Inserted.{all_pushed, pairs_inserted, slice_get-pushed}
+use Rattle.list_laws.proofs.Inserted.{all_pushed, pairs_inserted, slice_get-pushed}
 use Rattle.group_edits.proofs.Pushed.{pushed}
 
 -- all rules, but for the number of its physical volumes

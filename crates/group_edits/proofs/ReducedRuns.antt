@@ -15,7 +15,7 @@ use Rattle.meta_model.specs.declared.segment.On.TheVariants as on
 use Rattle.meta_model.specs.declared.segment.Segment.{Segment}
 use Rattle.volume_rules.proofs.LegRuns.{IsRunOf, run_is}
 use Rattle.volume_rules.specs.Legs.{LegRun, runs_of}
-use Rattle.group_edits.proofs.Inserted.{none_at, none_by}
+use Rattle.list_laws.proofs.Inserted.{none_at, none_by}
 use Rattle.group_edits.specs.ReducedGroup.{has_leg_on_pv, is_on_pv, leg_is_on_pv, lies_on_pv, number_without, segment_is_on_pv}
 
 -- ---- no leg lies on it

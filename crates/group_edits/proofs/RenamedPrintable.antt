@@ -9,7 +9,7 @@ use Rattle.meta_model.specs.declared.lv.Lv.{Lv}
 use Rattle.meta_print.proofs.NamesOfText.{differ_back, pointwise_same}
 use Rattle.meta_print.proofs.Printable.{AreNames}
 use Rattle.scan_rules.proofs.Scanning.{same_bytes_tells}
-use Rattle.group_edits.proofs.Inserted.{none_by}
+use Rattle.list_laws.proofs.Inserted.{none_by}
 use Rattle.group_edits.specs.NextVersion.{changed_if}
 
 module _ (old new : List ℕ) where

@@ -8,7 +8,7 @@ use Rattle.std.proofs.lemmas.List.Kept.{AllPairs-cons}
 use Rattle.std.proofs.lemmas.List.Sums.{sum_by-cons}
 use Rattle.std.proofs.lemmas.Option.{same_Some}
 use Rattle.volume_rules.proofs.LegRuns.{contains_later}
-use Rattle.group_edits.proofs.Inserted.{first_pairs, later_pairs}
+use Rattle.list_laws.proofs.Inserted.{first_pairs, later_pairs}
 
 -- what stands at a place is contained
 pub contains_at : {X : Type 0} (xs : List X) (n : ℕ) (x : X) → slice_get xs n ≡ Some x → Contains xs x

@@ -7,7 +7,7 @@ use Rattle.std.specs.Str.{bytes_eq}
 use Rattle.meta_model.proofs.TableLemmas.{take-next}
 use Rattle.meta_model.specs.declared.lv.Lv.{Lv}
 use Rattle.meta_model.specs.declared.segment.Segment.{Segment}
-use Rattle.sector_base.proofs.Walks.{next_read}
+use Rattle.list_laws.proofs.Walks.{next_read}
 use Rattle.group_edits.proofs.ShortFront.{cut, le_by, lt_by}
 use Rattle.group_edits.specs.NextVersion.{changed_if}
 use Rattle.group_edits.specs.ShortenedVolume.{front_of, shortened}

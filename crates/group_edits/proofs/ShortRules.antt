@@ -25,7 +25,7 @@ use Rattle.group_edits.proofs.EditedPrintable.{rows_print}
 use Rattle.group_edits.proofs.EditedRows.{KeepsOwn, mapped_accepted, mapped_volumes, same_stays}
 use Rattle.group_edits.proofs.Edits.{Any, IsFront, KeepsSegments, KeepsVolumes, Row, StaysAs}
 use Rattle.group_edits.proofs.GrownPrintable.{version_printable}
-use Rattle.group_edits.proofs.Inserted.{none_passes}
+use Rattle.list_laws.proofs.Inserted.{none_passes}
 use Rattle.group_edits.proofs.KeptExtents.{IsShared}
 use Rattle.group_edits.proofs.OneNamed.{IsVisibleAt, is_this, visible_at}
 use Rattle.group_edits.proofs.PrintedNames.{lv_names}

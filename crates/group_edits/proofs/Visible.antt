@@ -4,7 +4,7 @@ use Rattle.std.specs.Prelude.{slice_get, IsSomeAnd}
 use Rattle.std.specs.Str.{bytes_eq}
 use Rattle.meta_model.specs.declared.group.Group.{Group}
 use Rattle.meta_model.specs.declared.lv.Lv.{Lv}
-use Rattle.sector_base.proofs.Walks.{next_got}
+use Rattle.list_laws.proofs.Walks.{next_got}
 use Rattle.group_edits.proofs.OneNamed.{IsVisibleAt, visible_at}
 use Rattle.group_edits.specs.Visible.{IsVisible, visible_from, visible_named}
 

@@ -15,7 +15,7 @@ use Rattle.pv_header.specs.declared.header.PvHeader.{PvHeader}
 use Rattle.conf_text.specs.Grammar.{IsContent}
 use Rattle.disk_contents.specs.declared.contents.PvFound.{PvFound}
 use Rattle.disk_contents.specs.declared.contents.PvFound.TheVariants.{NoLabel, NoHeader, Whole}
-use Rattle.vg_found.proofs.KeptLists.{all_kept}
+use Rattle.list_laws.proofs.KeptLists.{all_kept}
 use Rattle.vg_found.specs.declared.disk.Disk.{Disk}
 use Rattle.vg_found.specs.Disks.{header_on}
 use Rattle.vg_found.specs.Shape.{ContentsCanStand, IsDisk}

@@ -19,7 +19,7 @@ use Rattle.scan_rules.proofs.Scanning.{same_bytes_tells, same_bytes_to}
 use Rattle.vg_found.specs.declared.disk.Disk.{Disk}
 use Rattle.vg_found.specs.Disks.{disk_shape, disk_with, disks_of, has_header_id, header_on, pv_shape, shapes}
 use Rattle.group_edits.proofs.FewSectors.{LieOnDisks}
-use Rattle.group_edits.proofs.Inserted.{none_passes}
+use Rattle.list_laws.proofs.Inserted.{none_passes}
 use Rattle.group_plan.proofs.PlacedVolumes.{IsPlacedOn, each_placed, misplaced_with}
 use Rattle.group_plan.proofs.StateFacts.{listed_are}
 use Rattle.group_plan.specs.State.{IsState}

@@ -19,7 +19,7 @@ use Rattle.disk_contents.specs.Contents.{IsAreaFound}
 use Rattle.disk_contents.specs.Standing.{area_on}
 use Rattle.vg_found.specs.declared.disk.Disk.{Disk}
 use Rattle.vg_found.specs.Disks.{areas_on, held_area, held_areas, held_by}
-use Rattle.vg_found.proofs.KeptLists.{all_kept}
+use Rattle.list_laws.proofs.KeptLists.{all_kept}
 use Rattle.vg_scan.specs.Readings.{AreDiskReadings, IsContents}
 use Rattle.vg_commit.specs.Showing.{Names, sectors_of}
 use Rattle.change_batches.specs.Laws.{ShowsEntries}

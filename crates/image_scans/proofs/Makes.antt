@@ -20,7 +20,7 @@ use Rattle.disk_contents.specs.declared.contents.PvFound.{PvFound}
 use Rattle.disk_contents.specs.declared.contents.PvFound.TheVariants.{NoLabel, NoHeader, Whole}
 use Rattle.vg_found.specs.declared.disk.Disk.{Disk}
 use Rattle.vg_found.specs.Disks.{disk_shape, disk_with, disks_of, has_header_id, header_on, pv_shape, shapes}
-use Rattle.vg_found.proofs.KeptLists.{all_kept}
+use Rattle.list_laws.proofs.KeptLists.{all_kept}
 use Rattle.group_edits.proofs.Whole.{IsWhole}
 use Rattle.group_plan.proofs.Disks.{disk_with_own}
 use Rattle.group_plan.specs.Added.{added_at, added_named, added_of, added_on, disks_added, pv_in, pv_of}

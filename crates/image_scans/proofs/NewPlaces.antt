@@ -30,7 +30,7 @@ use Rattle.vg_found.specs.declared.disk.Disk.{Disk}
 use Rattle.vg_found.specs.Disks.{disk_with, disks_of, header_on, shapes}
 use Rattle.mda_ring.proofs.SpanLaws.{covers_tells}
 use Rattle.group_edits.proofs.FirstSectors.{IsBesideEight, first_sectors, primary_beside_first_on}
-use Rattle.group_edits.proofs.Inserted.{first_pairs, later_pairs, slice_get-pushed}
+use Rattle.list_laws.proofs.Inserted.{first_pairs, later_pairs, slice_get-pushed}
 use Rattle.group_edits.specs.NewVolume.{MayHave, new_lv, with_volume}
 use Rattle.image_scans.proofs.Again.{all_there}
 use Rattle.image_scans.proofs.Makes.{HasDisk, disk_found}

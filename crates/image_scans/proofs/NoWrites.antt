@@ -37,7 +37,7 @@ use Rattle.vg_found.specs.declared.found.Found.{Found}
 use Rattle.vg_found.specs.Disks.{areas_on, disk_with, disks_of, shapes}
 use Rattle.vg_found.specs.Shape.{ContentsCanStand, HasShape}
 use Rattle.vg_found.specs.Whole.{IsWhole}
-use Rattle.vg_found.proofs.KeptLists.{all_kept}
+use Rattle.list_laws.proofs.KeptLists.{all_kept}
 use Rattle.vg_commit.proofs.Disks.{no_area}
 use Rattle.group_plan.proofs.Passed.{absent}
 use Rattle.group_plan.specs.Judging.{lies_on as is_on, set_of}

@@ -36,7 +36,7 @@ use Rattle.vg_commit.specs.Written.{header_of}
 use Rattle.group_plan.proofs.Passed.{absent}
 use Rattle.group_plan.specs.Cleared.{cleared_areas}
 use Rattle.group_plan.specs.Judging.{lies_on, set_of}
-use Rattle.change_batches.proofs.Filtered.{each_of_filtered}
+use Rattle.list_laws.proofs.Filtered.{each_of_filtered}
 use Rattle.change_batches.specs.Laws.{IsEmpty}
 use Rattle.image_scans.proofs.Again.{AreasAgain, DisksAgain, GivesAgain, PvAgain}
 use Rattle.image_scans.proofs.ClearedAgain.{any_bare}

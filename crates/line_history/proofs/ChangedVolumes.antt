@@ -27,7 +27,7 @@ use Rattle.scan_rules.specs.Decision.{Reading}
 use Rattle.vg_found.specs.declared.found.Found.{Found}
 use Rattle.vg_found.specs.Disks.{disk_with, disks_of}
 use Rattle.vg_found.specs.Shape.{HasShape}
-use Rattle.group_edits.proofs.Inserted.{slice_get-pushed}
+use Rattle.list_laws.proofs.Inserted.{slice_get-pushed}
 use Rattle.group_edits.proofs.KeptPlaces.{primary_kept, with_pvs}
 use Rattle.group_edits.proofs.RenamedPlaces.{primary_named}
 use Rattle.group_edits.proofs.Visible.{named_is_visible}

@@ -37,7 +37,7 @@ use Rattle.vg_plans.specs.Vgcreate.{empty_group}
 use Rattle.lv_plans.specs.Allocating.{Takes}
 use Rattle.group_ops.proofs.NextVersions.{by_kind, commits_next, is_next}
 use Rattle.group_ops.specs.Planning.{IsBackupOf, IsPlanned, asks_of, change_of, refusal_of}
-use Rattle.volume_history.proofs.Bits.{and_both, eq_to, lt_true}
+use Rattle.list_laws.proofs.Bools.{and_both, eq_to, lt_true}
 use Rattle.volume_history.specs.Commands.{created_disk, is_created_at, is_created_sector}
 use Rattle.line_history.proofs.ReadBackups.{some_backup}
 

@@ -18,7 +18,7 @@ use Rattle.image_scans.proofs.LineScans.{images_scan}
 use Rattle.image_scans.specs.Laws.{FindsAtEnd, FindsOnTheWay, is_labelled, none_out}
 use Rattle.image_scans.specs.Versions.{FindsVersion, Version, version_in}
 use Rattle.repair_scans.specs.Laws.{RepairedScans}
-use Rattle.volume_history.proofs.Bits.{eq_of}
+use Rattle.list_laws.proofs.Bools.{eq_of}
 use Rattle.volume_history.proofs.Phases.{finds_with}
 use Rattle.volume_history.specs.Chronicles.{has_written, steps_upto}
 use Rattle.volume_history.specs.Commands.{created_disk, is_created_at}

@@ -13,10 +13,10 @@ use Rattle.meta_print.proofs.NamesOfText.{pointwise_same}
 use Rattle.meta_print.proofs.Printable.{AreNames}
 use Rattle.volume_rules.specs.Rules.{IsAccepted, ids_of}
 use Rattle.volume_rules.specs.declared.rule.Rule.TheVariants.{Ids}
-use Rattle.extent_alloc.proofs.Pairs.{Pairs, pairs_from}
+use Rattle.list_laws.proofs.Pairs.{Pairs, pairs_from}
 use Rattle.group_edits.specs.RestoredGroup.{restored_group}
 use Rattle.image_scans.specs.Versions.{Version}
-use Rattle.volume_history.proofs.Bits.{same_text}
+use Rattle.list_laws.proofs.Bools.{same_text}
 use Rattle.volume_history.specs.Changing.{ChangesVolumes, HaveOwnIds, HaveOwnNames, has_named}
 use Rattle.volume_history.specs.Placed.{PlacedVolume, placed_from, places_of, volumes_of}
 use Rattle.volume_history.specs.Replay.{volume_of_id}

@@ -29,7 +29,7 @@ use Rattle.extent_alloc.specs.declared.part.PartRun.{PartRun}
 use Rattle.extent_alloc.specs.declared.request.Request.{Request}
 use Rattle.group_edits.proofs.FirstSectors.{Beginning, beginning, start_within}
 use Rattle.group_edits.proofs.GivenRuns.{given_may, given_some}
-use Rattle.group_edits.proofs.Inserted.{none_passes}
+use Rattle.list_laws.proofs.Inserted.{none_passes}
 use Rattle.group_edits.proofs.OnDisks.{new_sectors}
 use Rattle.group_edits.specs.GivenSegments.{MayHaveLegs, segments_in}
 use Rattle.group_edits.specs.NewVolume.{MayHave}

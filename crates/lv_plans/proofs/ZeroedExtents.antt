@@ -21,7 +21,7 @@ use Rattle.scan_rules.proofs.Scanning.{same_bytes_tells, same_bytes_to}
 use Rattle.vg_found.specs.declared.disk.Disk.{Disk}
 use Rattle.vg_found.specs.Disks.{disk_shape, disk_with, disks_of, has_header_id, header_on, pv_shape, shapes}
 use Rattle.group_edits.proofs.FirstSectors.{Beginning, beginning, start_within}
-use Rattle.group_edits.proofs.Inserted.{none_passes}
+use Rattle.list_laws.proofs.Inserted.{none_passes}
 use Rattle.group_edits.proofs.Selections.{contains_at}
 use Rattle.group_edits.specs.NewVolume.{MayHave}
 use Rattle.group_plan.proofs.PlacedGroup.{ends_on}

@@ -7,7 +7,7 @@ use Rattle.meta_model.specs.declared.pv.Pv.{Pv}
 use Rattle.volume_rules.specs.Rules.{IsAccepted, PvIsSmall}
 use Rattle.volume_rules.specs.declared.rule.Rule.TheVariants.{Numbers, Volumes}
 use Rattle.extent_map.specs.FreeCount.{all_extents, free_extents}
-use Rattle.extent_map.proofs.Walks.{all_at}
+use Rattle.list_laws.proofs.RowWalks.{all_at}
 
 -- they are few, and each has few extents
 pub pvs_are_few : (group : Group) → IsAccepted group → length group.pvs ≤ 64

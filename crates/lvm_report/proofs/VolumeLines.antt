@@ -11,7 +11,7 @@ use Rattle.volume_rules.specs.Extents.{extents_of}
 use Rattle.volume_rules.specs.Moving.{leads_to_pvmove}
 use Rattle.volume_rules.specs.Rules.{Follow, IsAccepted}
 use Rattle.volume_rules.specs.declared.rule.Rule.TheVariants.{Numbers, Follows}
-use Rattle.extent_map.proofs.Walks.{all_at}
+use Rattle.list_laws.proofs.RowWalks.{all_at}
 use Rattle.lvm_report.specs.Reports.{lv_line}
 use Rattle.lvm_report.specs.VolumeLine.{visible_from, volume_line}
 use Rattle.lvm_report.specs.Volumes.{first_kind, kind_of}

@@ -18,7 +18,7 @@ use Rattle.disk_contents.specs.declared.contents.PvFound.{PvFound}
 use Rattle.disk_contents.specs.declared.contents.PvFound.TheVariants.{NoLabel, NoHeader, Whole}
 use Rattle.scan_rules.specs.Decision.{Reading}
 use Rattle.vg_commit.specs.Showing.{Names, sectors_of}
-use Rattle.vg_found.proofs.KeptLists.{all_kept}
+use Rattle.list_laws.proofs.KeptLists.{all_kept}
 use Rattle.vg_found.specs.Disks.{areas_on, held_area, held_areas, held_by}
 use Rattle.vg_found.specs.declared.disk.Disk.{Disk}
 use Rattle.vg_found.specs.declared.found.Found.{Found}

@@ -11,7 +11,7 @@ use Rattle.mda_ring.specs.declared.area.Area.{Area}
 use Rattle.mda_ring.specs.Areas.{CanTake, LieApart}
 use Rattle.disk_contents.specs.declared.contents.AreaFound.{AreaFound}
 use Rattle.disk_contents.specs.Standing.{area_on}
-use Rattle.scan_rules.proofs.Members.{In, Numbered, flat_has, in_flat, in_kept, kept_has}
+use Rattle.list_laws.proofs.Members.{In, Numbered, flat_has, in_flat, in_kept, kept_has}
 use Rattle.vg_found.specs.declared.disk.Disk.{Disk}
 use Rattle.vg_found.specs.declared.found.Found.{Found}
 use Rattle.vg_found.specs.Disks.{areas_on, held_area, held_areas}

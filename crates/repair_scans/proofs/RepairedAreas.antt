@@ -33,7 +33,7 @@ use Rattle.vg_commit.specs.Written.{header_after, header_of, new_entry, stored}
 use Rattle.group_plan.specs.Judging.{lies_on}
 use Rattle.change_batches.specs.Laws.{IsEmpty, text_in}
 use Rattle.change_batches.proofs.BaseShows.{base_shows, base_sized, shows_alike}
-use Rattle.change_batches.proofs.Filtered.{each_of_filtered}
+use Rattle.list_laws.proofs.Filtered.{each_of_filtered}
 use Rattle.vg_repair.specs.Batches.{repair_batches}
 use Rattle.vg_repair.specs.Laws.{IsRight}
 use Rattle.vg_repair.specs.Repaired.{repaired_area, repaired_held, with_entry}

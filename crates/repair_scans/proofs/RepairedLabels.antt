@@ -13,7 +13,7 @@ use Rattle.pv_header.specs.PvRefusal.{Reads}
 use Rattle.pv_header.specs.declared.header.PvHeader.{PvHeader}
 use Rattle.meta_model.specs.declared.group.Group.{Group}
 use Rattle.scan_rules.specs.Decision.{lists}
-use Rattle.scan_rules.proofs.Members.{Numbered, in_kept, kept_has}
+use Rattle.list_laws.proofs.Members.{Numbered, in_kept, kept_has}
 use Rattle.disk_batch.specs.InTurn.{with_batches}
 use Rattle.disk_contents.specs.declared.contents.AreaFound.{AreaFound}
 use Rattle.disk_contents.specs.declared.contents.PvFound.{PvFound}

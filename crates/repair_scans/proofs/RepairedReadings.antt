@@ -11,7 +11,7 @@ use Rattle.std.proofs.lemmas.Option.{same_Some}
 use Rattle.meta_model.specs.declared.group.Group.{Group}
 use Rattle.scan_rules.specs.Decision.{Area, AreaReading, Found as PvOf, HoldsNone, Reading, gives, is_something, lists}
 use Rattle.scan_rules.specs.Laws.{IsStale, IsStray, given_in, pv_on}
-use Rattle.scan_rules.proofs.Members.{In, has_member, in_list}
+use Rattle.list_laws.proofs.Members.{In, has_member, in_list}
 use Rattle.vg_repair.specs.Stale.{is_among}
 use Rattle.vg_repair.proofs.Numbered.{mapped_at}
 use Rattle.repair_scans.proofs.StraysApart.{in_set}

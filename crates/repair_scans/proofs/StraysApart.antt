@@ -12,7 +12,7 @@ use Rattle.disk_model.specs.Steps.{Image}
 use Rattle.scan_rules.specs.Decision.{Conflict, DuplicatePv, Found as PvOf, FoundGroup, NoCopy, NoGroup, PvShape, Reading, ScanAnswer}
 use Rattle.scan_rules.specs.Decision.{TwoGroups, Unsupported, decide_scan, lists}
 use Rattle.scan_rules.specs.Laws.{IsStale, IsStray}
-use Rattle.scan_rules.proofs.Members.{In, has_member}
+use Rattle.list_laws.proofs.Members.{In, has_member}
 use Rattle.scan_rules.proofs.Repairs.{stale_exact, strays_exact}
 use Rattle.vg_found.specs.declared.found.Found.{Found}
 use Rattle.vg_scan.specs.Scans.{IsFoundBy, IsScanOf}

@@ -2,7 +2,6 @@ mod Answering
 mod FlatLists
 mod FoundIds
 mod Greatest
-pub mod Members
 mod OlderCopies
 pub mod OnePv
 pub mod Repairs

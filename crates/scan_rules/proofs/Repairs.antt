@@ -16,8 +16,8 @@ use Rattle.scan_rules.specs.Decision.{found, found_with, gives, has_id, is_held,
 use Rattle.scan_rules.specs.Decision.{no_copy, readings_in, refusals, sum_agrees, two_groups, unsupported}
 use Rattle.scan_rules.specs.Found.{is_missing, stale_if, stale_of, stale_on}
 use Rattle.scan_rules.specs.Laws.{IsMissing, IsStale, IsStray, given_in, pv_on}
-use Rattle.scan_rules.proofs.Members.{In, Numbered, Passing, flat_has, has_member, in_flat, in_kept, in_list, in_passing, kept_has}
-use Rattle.scan_rules.proofs.Members.{passing_has}
+use Rattle.list_laws.proofs.Members.{In, Numbered, Passing, flat_has, has_member, in_flat, in_kept, in_list, in_passing, kept_has}
+use Rattle.list_laws.proofs.Members.{passing_has}
 use Rattle.scan_rules.proofs.Scanning.{same_bytes_tells, same_bytes_to}
 
 -- no test before the last finds a group

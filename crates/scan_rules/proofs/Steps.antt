@@ -8,7 +8,7 @@ use Rattle.std.proofs.lemmas.Option.{same_Some}
 use Rattle.std.proofs.lemmas.Bool.{false≢true}
 use Rattle.std.proofs.lemmas.List.Elements.{filter_map-append}
 use Rattle.std.specs.Str.{bytes_eq}
-use Rattle.sector_base.proofs.Walks.{next_got}
+use Rattle.list_laws.proofs.Walks.{next_got}
 use Rattle.meta_model.specs.declared.pv.Pv.{Pv}
 use Rattle.scan_rules.specs.declared.copy_refusal.CopyRefusal.{CopyRefusal}
 use Rattle.scan_rules.specs.declared.held.HeldCopy.{HeldCopy}

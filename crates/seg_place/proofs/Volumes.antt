@@ -8,8 +8,8 @@ use Rattle.meta_model.specs.declared.pv.Pv.{Pv}
 use Rattle.volume_rules.specs.Extents.{extents_of}
 use Rattle.volume_rules.specs.declared.rule.Rule.TheVariants.{Numbers, Volumes, Segments, Extents, Follows}
 use Rattle.volume_rules.specs.Rules.{FitsDevice, Follow, IsAccepted, LvIsSmall, NumbersAreAllowed, SegmentsAreFew, VolumesAreFew}
-use Rattle.vg_check.proofs.Fronts.{all_at}
-use Rattle.vg_check.proofs.Walks.{sum_so_far}
+use Rattle.list_laws.proofs.Fronts.{all_at}
+use Rattle.list_laws.proofs.ItemWalks.{sum_so_far}
 use Rattle.seg_place.specs.Sectors.{sectors_of, segments_in}
 
 -- what they say of a logical volume

@@ -9,7 +9,7 @@ use Rattle.volume_rules.specs.Rules.{IdsDiffer}
 use Rattle.volume_rules.proofs.LegRuns.{contains_first, contains_later}
 use Rattle.vg_check.specs.declared.kind.Kind.{Kind}
 use Rattle.vg_check.specs.declared.kind.Kind.TheVariants as kind
-use Rattle.vg_check.proofs.Fronts.{same_read}
+use Rattle.list_laws.proofs.Fronts.{same_read}
 use Rattle.vg_check.specs.Ids.{id_of, ids_before, kind_ids, IdsStandApart}
 
 abbrev Differ : List ℕ → List ℕ → Type 0

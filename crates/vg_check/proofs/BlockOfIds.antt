@@ -13,7 +13,7 @@ use Rattle.volume_rules.proofs.LegRuns.{contains_first, contains_later}
 use Rattle.volume_rules.proofs.Permuted.{pairs_permuted}
 use Rattle.vg_check.specs.declared.kind.Kind.{Kind}
 use Rattle.vg_check.specs.declared.kind.Kind.TheVariants as volumes
-use Rattle.vg_check.proofs.Fronts.{same_read}
+use Rattle.list_laws.proofs.Fronts.{same_read}
 use Rattle.vg_check.specs.Ids.{id_of, ids_before, kind_ids, HasId, IdsDifferAt, IdsStandApart, IsNumbered, IsSortedById, NoneBeforeHas}
 use Rattle.vg_check.specs.Ids.{NoneHas}
 use Rattle.vg_check.proofs.SortedIds.{differ_pairs, pairs_near}

@@ -8,7 +8,7 @@ use Rattle.std.proofs.lemmas.List.{take_more, take_all, get_or-take, length-take
 use Rattle.std.proofs.lemmas.List.Elements.{All-more, All-contains, Contains-append_left, Contains-push}
 use Rattle.meta_model.specs.declared.extent_span.ExtentSpan.{ExtentSpan}
 use Rattle.volume_rules.specs.Sorting.{CanBeSorted, EndsBefore}
-use Rattle.vg_check.proofs.Fronts.{same_read}
+use Rattle.list_laws.proofs.Fronts.{same_read}
 use Rattle.vg_check.specs.Covers.{CoversTo, EndsWithin, IsCovered}
 
 -- before the first run

@@ -14,7 +14,7 @@ use Rattle.meta_model.specs.Runs.{legs_of}
 use Rattle.volume_rules.specs.Extents.{extents_of, leg_share}
 use Rattle.volume_rules.specs.declared.rule.Rule.TheVariants.{Numbers, Follows, Stripes, Mirrors}
 use Rattle.volume_rules.specs.Rules.{Follow, SegmentsFollow, KeepsBelow, LvIsSmall, IsWholeStriped, IsWholeMirror, NumbersAreAllowed}
-use Rattle.vg_check.proofs.Fronts.{all_at}
+use Rattle.list_laws.proofs.Fronts.{all_at}
 use Rattle.vg_check.specs.Whole.{SegmentIsWhole}
 
 -- the last of segments that follow each other ends where all end

@@ -13,7 +13,7 @@ use Rattle.meta_model.specs.Runs.{legs_of}
 use Rattle.volume_rules.specs.Rules.{IsLv}
 use Rattle.volume_rules.proofs.LegRuns.{run_is, run_of, IsRunOf}
 use Rattle.vg_check.specs.Hidden.{LvIsHidden, OnIsHidden, LegsAreHidden, VolumesBelowAreHidden}
-use Rattle.vg_check.proofs.Fronts.{all_at}
+use Rattle.list_laws.proofs.Fronts.{all_at}
 
 not_true : (b : Bool) → not b ≡ true → b ≡ false
 not_true true is = absurd (false≢true is)

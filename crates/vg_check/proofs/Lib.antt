@@ -3,7 +3,6 @@ mod BlockOfIds
 mod Climbs
 mod Covering
 pub mod Ends
-pub mod Fronts
 mod HiddenVolumes
 mod MarkedVolumes
 mod OffenceBreaks
@@ -15,5 +14,4 @@ mod SortedIds
 mod SortedLegs
 mod TheMove
 mod UsedExtents
-pub mod Walks
 mod Within

@@ -12,7 +12,7 @@ use Rattle.volume_rules.specs.Rules.{FitsDevice, Follow, IsWholeMirror, IsWholeS
 use Rattle.volume_rules.specs.declared.rule.Rule.{Rule}
 use Rattle.volume_rules.specs.declared.rule.Rule.TheVariants.{Numbers, Ids, Volumes, Segments, Extents, Follows, Stripes, Mirrors, Within}
 use Rattle.volume_rules.specs.declared.rule.Rule.TheVariants.{Apart, Depth, Moved, Pvmove, Locked}
-use Rattle.vg_check.proofs.Walks.{row_of_all}
+use Rattle.list_laws.proofs.ItemWalks.{row_of_all}
 
 row_fails : {A : Type 0} (Good : A → Type 0) (rows : List A) (at : ℕ) → FailsAt Good rows at → All Good rows → ⊥
 row_fails Good rows at fails all = fails.2 (row_of_all Good rows at fails.0 fails.1 all)

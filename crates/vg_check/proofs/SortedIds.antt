@@ -17,7 +17,7 @@ use Rattle.std.proofs.lemmas.List.Sorted.{all_adjacent_more, ranks_by, searchabl
 use Rattle.meta_model.specs.declared.group.Group.{Group}
 use Rattle.meta_model.specs.declared.extent_span.ExtentSpan.{ExtentSpan}
 use Rattle.vg_check.specs.declared.kind.Kind.{Kind}
-use Rattle.vg_check.proofs.Fronts.{same_read}
+use Rattle.list_laws.proofs.Fronts.{same_read}
 use Rattle.vg_check.specs.Ids.{id_of, HasId, IdsDifferAt, IsSortedById}
 
 abbrev cmp : List ℕ → List ℕ → Ordering

@@ -29,7 +29,7 @@ use Rattle.volume_rules.proofs.LegRuns.{run_is, IsRunOf}
 use Rattle.vg_check.specs.SortedRuns.{leg_run, segment_runs, volume_runs, group_runs, HasSortedRuns}
 use Rattle.vg_check.specs.Whole.{SegmentIsWhole}
 use Rattle.vg_check.proofs.Ends.{lvs_whole, fewer}
-use Rattle.vg_check.proofs.Fronts.{all_at}
+use Rattle.list_laws.proofs.Fronts.{all_at}
 
 of_legs : (lv segment count number : ℕ) (legs : List Leg)
     → map run_to_sort (runs_of_legs lv segment count number legs) ≡ map (leg_run count) legs

@@ -19,7 +19,7 @@ use Rattle.volume_rules.specs.Sorting.{CanBeSorted, EndsBefore, NoExtentInBoth, 
 use Rattle.volume_rules.proofs.ApartInOrder.{apart_in_order}
 use Rattle.volume_rules.proofs.Permuted.{sorted_tells}
 use Rattle.volume_rules.proofs.Sorted.{pairwise_from_neighbours}
-use Rattle.vg_check.proofs.Fronts.{same_read}
+use Rattle.list_laws.proofs.Fronts.{same_read}
 use Rattle.vg_check.specs.Covers.{EndsWithin, IsCovered}
 use Rattle.vg_check.specs.Moves.{IsUsedWhole}
 use Rattle.vg_check.specs.SortedRuns.{group_runs, HasSortedRuns}

@@ -15,7 +15,7 @@ use Rattle.volume_rules.specs.Offences.{IsOffence}
 use Rattle.volume_rules.specs.declared.rule.Rule.TheVariants.{Within}
 use Rattle.volume_rules.proofs.LegRuns.{run_is, run_of, IsRunOf}
 use Rattle.vg_check.specs.Outside.{LegLiesInside, LegsLieInside, HasLegOutside, SegmentFails}
-use Rattle.vg_check.proofs.Fronts.{all_at}
+use Rattle.list_laws.proofs.Fronts.{all_at}
 
 pub pv_end : (group : Group) (n end : ℕ) (name : List ℕ) (pv : Pv) → slice_get group.pvs n ≡ Some (name, pv)
     → IsTrue (leb end pv.pe_count) ↔ LiesWithin group (on.Pv n) end

@@ -25,7 +25,7 @@ use Rattle.meta_print.proofs.ReadAgain.{has_tree}
 use Rattle.volume_rules.specs.Rules.{IsAccepted, ids_of}
 use Rattle.volume_rules.specs.declared.rule.Rule.TheVariants.{Numbers, Volumes}
 use Rattle.vg_found.specs.Disks.{disk_with, disks_of, has_header_id, header_on}
-use Rattle.group_edits.proofs.Inserted.{none_at, none_passes}
+use Rattle.list_laws.proofs.Inserted.{none_at, none_passes}
 use Rattle.group_edits.proofs.PushedPrintable.{printable_version}
 use Rattle.group_edits.proofs.Whole.{IsWhole}
 use Rattle.group_edits.proofs.PushedRules.{accepted_base, base_accepted, base_version}

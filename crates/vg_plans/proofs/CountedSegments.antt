@@ -4,7 +4,7 @@ use Rattle.std.specs.Prelude.{min, slice_get, sum_by}
 use Rattle.std.proofs.lemmas.List.{drop_all}
 use Rattle.std.proofs.lemmas.List.Sums.{sum_by-cons}
 use Rattle.meta_model.specs.declared.lv.Lv.{Lv}
-use Rattle.sector_base.proofs.Walks.{next_got}
+use Rattle.list_laws.proofs.Walks.{next_got}
 
 abbrev pub segments : List ℕ × Lv → ℕ
 segments lv = length lv.1.segments

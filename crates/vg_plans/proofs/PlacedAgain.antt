@@ -9,7 +9,7 @@ use Rattle.scan_rules.specs.Decision.{Found as PvOf, Reading, first_misplaced}
 use Rattle.scan_rules.specs.Found.{is_this_misplaced}
 use Rattle.vg_found.specs.declared.disk.Disk.{Disk}
 use Rattle.vg_found.specs.Disks.{shapes}
-use Rattle.group_edits.proofs.Inserted.{none_passes}
+use Rattle.list_laws.proofs.Inserted.{none_passes}
 use Rattle.group_edits.proofs.ReducedRuns.{none_without}
 use Rattle.group_edits.specs.ReducedGroup.{reduced_group}
 use Rattle.group_edits.specs.RestoredGroup.{found_pv, restored_group}

@@ -6,7 +6,7 @@ use Rattle.std.proofs.lemmas.List.{length-map}
 use Rattle.std.proofs.lemmas.List.Elements.{All-cons, All-head, All-nil, All-tail}
 use Rattle.std.proofs.lemmas.List.FromFn.{length-enumerate_from}
 use Rattle.std.proofs.lemmas.Option.{get_or_from_slice_get, same_Some, slice_get_within}
-use Rattle.scan_rules.proofs.Members.{In}
+use Rattle.list_laws.proofs.Members.{In}
 
 module _ {X : Type 0} {Y : Type 0} (g : ℕ × X → Y) where
   pub mapped_length : (xs : List X) → length (map g (enumerate_from 0 xs)) ≡ length xs

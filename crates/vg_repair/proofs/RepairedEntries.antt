@@ -30,7 +30,7 @@ use Rattle.vg_commit.specs.Written.{area_span, header_span, new_entry}
 use Rattle.group_plan.specs.Judging.{lies_on}
 use Rattle.change_batches.specs.Laws.{IsEmpty, ShowsEntries}
 use Rattle.change_batches.proofs.FarAreas.{IsFar}
-use Rattle.change_batches.proofs.Filtered.{each_of_filtered}
+use Rattle.list_laws.proofs.Filtered.{each_of_filtered}
 use Rattle.vg_repair.specs.Batches.{repair_batches, stray_areas}
 use Rattle.vg_repair.specs.Laws.{IsRight, KeepsImages}
 use Rattle.vg_repair.specs.Repaired.{repaired_area, repaired_contents, repaired_disk, repaired_held, repaired_of, with_entry}

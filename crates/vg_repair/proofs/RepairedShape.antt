@@ -22,7 +22,7 @@ use Rattle.meta_model.specs.declared.group.Group.{Group}
 use Rattle.meta_model.specs.declared.pv.Pv.{Pv}
 use Rattle.scan_rules.specs.Decision.{Reading, first_duplicate, first_misplaced, ids_from}
 use Rattle.scan_rules.specs.Found.{missing_of}
-use Rattle.scan_rules.proofs.Members.{In, flat_has, kept_has}
+use Rattle.list_laws.proofs.Members.{In, flat_has, kept_has}
 use Rattle.disk_contents.specs.Standing.{IsUsable, LiesInside, area_on}
 use Rattle.disk_contents.specs.declared.contents.AreaFound.{AreaFound}
 use Rattle.disk_contents.specs.declared.contents.PvFound.{PvFound}

@@ -15,7 +15,7 @@ use Rattle.scan_rules.specs.Decision.{ScanAnswer, TwoGroups, Unsupported, best, 
 use Rattle.scan_rules.specs.Decision.{first_misplaced, found_with, gives, ids_from, is_held, is_listed, is_something, misshapen_by, no_copy}
 use Rattle.scan_rules.specs.Decision.{readings_in, refusals, stale_in, sum_agrees, two_groups, unsupported}
 use Rattle.scan_rules.specs.Found.{missing_of}
-use Rattle.vg_found.proofs.KeptLists.{all_kept}
+use Rattle.list_laws.proofs.KeptLists.{all_kept}
 
 -- the volumes of a group that was found lie well, and its lists are of these disks
 abbrev pub HasPlaces : List Reading → ScanAnswer → Type 0

@@ -6,7 +6,7 @@ use Rattle.std.proofs.lemmas.Bool.Decides.{nat_tests}
 use Rattle.std.proofs.lemmas.Option.{same_Some}
 use Rattle.disk_model.specs.Steps.{Image}
 use Rattle.line_table.specs.Machine.{PlainState, PlainStep, PlainVolume, key_of, with_key}
-use Rattle.volume_history.proofs.Bits.{eq_to}
+use Rattle.list_laws.proofs.Bools.{eq_to}
 use Rattle.volume_history.proofs.Quiet.{values_length}
 use Rattle.volume_history.specs.Candidates.{is_born, place_at}
 use Rattle.volume_history.specs.Changing.{changed_named, has_named, without_named}

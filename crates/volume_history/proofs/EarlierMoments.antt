@@ -8,7 +8,7 @@ use Rattle.image_scans.specs.Versions.{Version}
 use Rattle.line_table.specs.Machine.{PlainState, plain_after}
 use Rattle.lvm_script.specs.declared.line.Line.{Line}
 use Rattle.sector_base.specs.declared.places.Piece.{Piece}
-use Rattle.volume_history.proofs.Bits.{lt_false, lt_true}
+use Rattle.list_laws.proofs.Bools.{lt_false, lt_true}
 use Rattle.volume_history.specs.Candidates.{IsConsistentMoment, IsConsistentNow}
 use Rattle.volume_history.specs.Chronicles.{Answered, AreUpto, Begun, Changed, Chronicle, ChronicleEntry, Failed, GivenUp, Opened, Origin}
 use Rattle.volume_history.specs.Chronicles.{Took, begun_in, chronicle_at, in_force, moment_of, now_at, origin_at, origin_on, steps_upto}

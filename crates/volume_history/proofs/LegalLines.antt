@@ -8,7 +8,7 @@ use Rattle.line_answers.specs.declared.answer.Answer.TheVariants as answer
 use Rattle.lvm_script.specs.declared.line.Line.{Line}
 use Rattle.disk_model.specs.Order.{WritesNothing}
 use Rattle.image_scans.specs.Versions.{Version}
-use Rattle.volume_history.proofs.Bits.{and_both}
+use Rattle.list_laws.proofs.Bools.{and_both}
 use Rattle.volume_history.proofs.CommandKinds.{commit_says, undata}
 use Rattle.volume_history.proofs.Written.{since_seen}
 use Rattle.volume_history.specs.Chronicles.{Begun, Changed, ChronicleEntry, GivenUp, Origin, Took, begun_in, origin_at, pending}

@@ -1,4 +1,3 @@
-pub mod Bits
 pub mod EarlierMoments
 mod Legal
 mod Bases

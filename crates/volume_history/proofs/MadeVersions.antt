@@ -15,7 +15,7 @@ use Rattle.line_table.specs.Machine.{with_key}
 use Rattle.image_scans.specs.Versions.{Version}
 use Rattle.volume_history.proofs.ComingFrom.{come_both, come_changed, come_kept, come_without, found_key, key_from, none_equal, other_equal}
 use Rattle.volume_history.proofs.ComingFrom.{places_changed, plain_at}
-use Rattle.volume_history.proofs.Bits.{and_both, eq_to, itself, lt_false, lt_true}
+use Rattle.list_laws.proofs.Bools.{and_both, eq_to, itself, lt_false, lt_true}
 use Rattle.volume_history.proofs.Quiet.{value_on, values_length}
 use Rattle.volume_history.proofs.RestoredVersions.{restored_version}
 use Rattle.volume_history.specs.Candidates.{is_born, no_image, place_at}

@@ -6,7 +6,7 @@ use Rattle.disk_model.specs.Moments.{at_moment}
 use Rattle.disk_model.specs.Steps.{Image}
 use Rattle.image_scans.specs.Versions.{FindsVersion, Version}
 use Rattle.line_table.specs.Machine.{PlainState}
-use Rattle.volume_history.proofs.Bits.{lt_true}
+use Rattle.list_laws.proofs.Bools.{lt_true}
 use Rattle.volume_history.proofs.Consistent.{parts_make_consistent}
 use Rattle.volume_history.proofs.EarlierMoments.{all_upto, now_before}
 use Rattle.volume_history.proofs.Reshaped.{HasNoBase, opening_primaries}

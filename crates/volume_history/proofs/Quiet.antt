@@ -9,7 +9,7 @@ use Rattle.image_scans.specs.Versions.{Version}
 use Rattle.line_table.specs.Machine.{Nothing, PlainState, PlainStep, PlainVolume, plain_after, sector_of, sectors_of}
 use Rattle.lvm_script.specs.declared.line.Line.{Line}
 use Rattle.sector_base.specs.declared.places.Piece.{Piece}
-use Rattle.volume_history.proofs.Bits.{eq_to}
+use Rattle.list_laws.proofs.Bools.{eq_to}
 use Rattle.volume_history.proofs.CommandKinds.{quiet_command}
 use Rattle.volume_history.proofs.Consistent.{next_by_keeps, parts_make_consistent}
 use Rattle.volume_history.proofs.EarlierMoments.{now_before}

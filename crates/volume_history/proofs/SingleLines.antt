@@ -10,7 +10,7 @@ use Rattle.disk_model.specs.Moments.{at_moment}
 use Rattle.disk_model.specs.Steps.{Image, Step, Record}
 use Rattle.line_table.specs.Machine.{PlainState, PlainStep, plain_after, sector_of}
 use Rattle.image_scans.specs.Versions.{FindsVersion, Version}
-use Rattle.volume_history.proofs.Bits.{eq_of}
+use Rattle.list_laws.proofs.Bools.{eq_of}
 use Rattle.volume_history.proofs.CommandKinds.{commit_kind, created_quiet, created_says, quiet_command, undata}
 use Rattle.volume_history.proofs.LegalLines.{answered_faithful, created_faithful, created_ordered, fenced_faithful, fenced_ordered}
 use Rattle.volume_history.proofs.LegalLines.{gives_nothing, given_up_faithful, given_up_ordered, made_faithful, made_ordered}

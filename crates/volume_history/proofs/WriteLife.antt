@@ -10,7 +10,7 @@ use Rattle.disk_model.proofs.Durable.{flush_completes, flush_submitted, new_writ
 use Rattle.disk_model.specs.Durability.{OnlyLeavesOrCompleted}
 use Rattle.disk_model.specs.Steps.{Completed, Flushing, Submitted, Writing, step_on, value_at}
 use Rattle.line_table.specs.Machine.{sector_of}
-use Rattle.volume_history.proofs.Bits.{eq_to}
+use Rattle.list_laws.proofs.Bools.{eq_to}
 use Rattle.volume_history.proofs.Places.{fixed_at_take, place_by_ok}
 use Rattle.volume_history.specs.Candidates.{base, base_from, is_ok, writes_line}
 use Rattle.volume_history.specs.Chronicles.{Answered, ChronicleEntry, Origin, Took, answer_in, begun_in, has_answer, origin_on}

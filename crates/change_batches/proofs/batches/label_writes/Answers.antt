@@ -1,7 +1,7 @@
 use Rattle.std.proofs.Common.{◌≡◌, ◌<◌, ℕ, suc, ◌+◌, List, [], ◌∷◌, ◌++◌, length, get_or, drop, map, append_assoc, sym, ap, ◌∙◌, arith}
 use Rattle.std.proofs.Math.Seq.{drop-cons}
-use Rattle.vg_check.proofs.Fronts.{all_done}
-use Rattle.vg_check.proofs.Walks.{all_more_read}
+use Rattle.list_laws.proofs.Fronts.{all_done}
+use Rattle.list_laws.proofs.ItemWalks.{all_more_read}
 use Rattle.change_batches.specs.Batches.{label_put}
 use Rattle.change_batches.specs.Sound.{FitsFields}
 use Rattle.change_batches.proofs.batches.label_writes.Goals as goal

@@ -1,5 +1,5 @@
 use Rattle.std.proofs.Common.{ℕ, ◌==◌}
-use Rattle.sector_base.proofs.Positions.{placed}
+use Rattle.list_laws.proofs.Positions.{placed}
 use Rattle.claim_table.proofs.table.place_of_volume.Goals as goal
 
 pub returns-clause-place : goal.returns-clause-place

@@ -3,7 +3,7 @@ use Rattle.std.specs.List.{flat_map}
 use Rattle.meta_model.specs.declared.extent_span.ExtentSpan.{ExtentSpan}
 use Rattle.extent_map.specs.Covered.{extents_in, lv_on, segment_on}
 use Rattle.extent_map.proofs.LegsOnVolume.{legs_of_row}
-use Rattle.extent_map.proofs.Walks.{sum_row}
+use Rattle.list_laws.proofs.RowWalks.{sum_row}
 use Rattle.extent_map.proofs.leg_runs.covered_there.Goals as goal
 
 pub covered_by_segments-total-requires-clause-legs : goal.covered_by_segments-total-requires-clause-legs

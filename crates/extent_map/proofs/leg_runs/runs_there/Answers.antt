@@ -3,7 +3,7 @@ use Rattle.std.specs.List.{flat_map}
 use Rattle.meta_model.specs.declared.extent_span.ExtentSpan.{ExtentSpan}
 use Rattle.extent_map.specs.Covered.{lv_on, segment_on}
 use Rattle.extent_map.proofs.LegsOnVolume.{legs_of_row}
-use Rattle.extent_map.proofs.Walks.{flat_row}
+use Rattle.list_laws.proofs.RowWalks.{flat_row}
 use Rattle.extent_map.proofs.leg_runs.runs_there.Goals as goal
 
 pub add_segments-requires : goal.add_segments-requires

@@ -3,7 +3,7 @@ use Rattle.std.specs.List.{flat_map, list_any}
 use Rattle.std.proofs.lemmas.Bool.{or_left}
 use Rattle.extent_map.specs.Covered.{is_in, segment_on, lv_on}
 use Rattle.extent_map.proofs.LegsOnVolume.{legs_of_row}
-use Rattle.extent_map.proofs.Walks.{any_row}
+use Rattle.list_laws.proofs.RowWalks.{any_row}
 use Rattle.extent_map.proofs.used_extents.volumes_have.Goals as goal
 
 pub segments_have-requires : goal.segments_have-requires

@@ -1,6 +1,6 @@
 use Rattle.std.proofs.Common.{◌==◌}
 use Rattle.flush_plan.specs.declared.records.Flush.{Flush}
-use Rattle.sector_base.proofs.Positions.{placed}
+use Rattle.list_laws.proofs.Positions.{placed}
 use Rattle.flush_plan.proofs.plan.place_of.Goals as goal
 
 pub returns-clause-place : goal.returns-clause-place

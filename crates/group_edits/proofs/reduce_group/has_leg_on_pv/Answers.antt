@@ -1,6 +1,6 @@
 use Rattle.std.proofs.Common.{List, ℕ, sym, ◌∙◌}
 use Rattle.meta_model.specs.declared.lv.Lv.{Lv}
-use Rattle.sector_base.proofs.Walks.{any_here, any_past}
+use Rattle.list_laws.proofs.Walks.{any_here, any_past}
 use Rattle.group_edits.specs.ReducedGroup.{has_leg_on_pv, lies_on_pv}
 use Rattle.group_edits.proofs.reduce_group.has_leg_on_pv.Goals as goal
 

@@ -1,6 +1,6 @@
 use Rattle.std.proofs.Common.{List, ℕ, sym, ◌∙◌}
 use Rattle.std.specs.Str.{bytes_eq}
-use Rattle.sector_base.proofs.Walks.{any_here, any_past}
+use Rattle.list_laws.proofs.Walks.{any_here, any_past}
 use Rattle.meta_model.specs.declared.pv.Pv.{Pv}
 use Rattle.group_plan.specs.Ids.{has_pv_id}
 use Rattle.group_plan.proofs.ids.has_pv_id.Goals as goal

@@ -1,7 +1,7 @@
 -- One volume more.
 use Rattle.std.proofs.Common.{ℕ, List, length, arith}
 use Rattle.meta_model.specs.declared.lv.Lv.{Lv}
-use Rattle.vg_check.proofs.Walks.{sum_more, sum_so_far}
+use Rattle.list_laws.proofs.ItemWalks.{sum_more, sum_so_far}
 use Rattle.lv_plans.proofs.allocating.segments.Goals as goal
 
 pub overflow_add-count : goal.overflow_add-count

@@ -4,7 +4,7 @@ use Rattle.std.specs.Prelude.{option_map}
 use Rattle.scan_rules.specs.declared.held.HeldCopy.{HeldCopy}
 use Rattle.scan_rules.specs.Decision.{TwoGroups, two_groups}
 use Rattle.scan_rules.specs.Flat.{all_held}
-use Rattle.sector_base.proofs.Walks.{next_at}
+use Rattle.list_laws.proofs.Walks.{next_at}
 use Rattle.scan_rules.proofs.Steps.{first_here}
 use Rattle.scan_rules.proofs.best.find_two_groups.Goals as goal
 

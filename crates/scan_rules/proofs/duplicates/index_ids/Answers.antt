@@ -4,7 +4,7 @@ use Rattle.std.specs.FinMap as map
 use Rattle.scan_rules.specs.Decision.{first_duplicate}
 use Rattle.scan_rules.specs.Found.{disks_by_id}
 use Rattle.scan_rules.proofs.FoundIds.{repeats_later, repeats_with}
-use Rattle.sector_base.proofs.Walks.{next_read}
+use Rattle.list_laws.proofs.Walks.{next_read}
 use Rattle.scan_rules.proofs.duplicates.index_ids.Goals as goal
 use Rattle.scan_rules.proofs.duplicates.index_ids.Goals.{in-Some, in_default}
 

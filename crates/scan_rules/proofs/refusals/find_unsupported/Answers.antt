@@ -1,5 +1,5 @@
 use Rattle.std.proofs.Common.{◌+◌, drop, sym, ◌∙◌}
-use Rattle.sector_base.proofs.Walks.{next_read}
+use Rattle.list_laws.proofs.Walks.{next_read}
 use Rattle.scan_rules.proofs.Steps.{supported_step, unsupported_step}
 use Rattle.scan_rules.proofs.refusals.find_unsupported.Goals as goal
 

@@ -1,5 +1,5 @@
 use Rattle.std.proofs.Common.{List, ℕ, sym, ◌∙◌}
-use Rattle.sector_base.proofs.Walks.{any_here, any_past}
+use Rattle.list_laws.proofs.Walks.{any_here, any_past}
 use Rattle.meta_model.specs.declared.lv.Lv.{Lv}
 use Rattle.volume_rules.specs.Moving.{has_move}
 use Rattle.seg_place.proofs.moving.has_move.Goals as goal

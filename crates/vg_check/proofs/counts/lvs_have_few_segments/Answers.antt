@@ -2,7 +2,7 @@
 use Rattle.std.proofs.Common.{◌≤◌, List, ℕ, length, refl, arith}
 use Rattle.std.proofs.lemmas.Bool.{false≢true}
 use Rattle.meta_model.specs.declared.lv.Lv.{Lv}
-use Rattle.vg_check.proofs.Walks.{all_more, row_of_all, sum_more, sum_so_far}
+use Rattle.list_laws.proofs.ItemWalks.{all_more, row_of_all, sum_more, sum_so_far}
 use Rattle.vg_check.proofs.counts.lvs_have_few_segments.Goals as goal
 
 abbrev segments_in : List ℕ × Lv → ℕ

@@ -3,7 +3,7 @@ use Rattle.std.proofs.lemmas.List.Elements.{All-more}
 use Rattle.meta_model.specs.declared.segment.Leg.{Leg}
 use Rattle.meta_model.specs.declared.segment.On.TheVariants as on
 use Rattle.vg_check.specs.Hidden.{OnIsHidden}
-use Rattle.vg_check.proofs.Fronts.{all_done}
+use Rattle.list_laws.proofs.Fronts.{all_done}
 use Rattle.vg_check.proofs.depth.legs_hide.Goals as goal
 
 pub loop-leg-preserved : goal.loop-leg-preserved

@@ -2,7 +2,7 @@ use Rattle.std.proofs.Common.{rules, subst, ◌∙◌}
 use Rattle.std.specs.Prelude.{All}
 use Rattle.meta_model.specs.declared.segment.Leg.{Leg}
 use Rattle.vg_check.specs.Hidden.{LegsAreHidden, OnIsHidden}
-use Rattle.vg_check.proofs.Fronts.{all_more, all_done}
+use Rattle.list_laws.proofs.Fronts.{all_more, all_done}
 use Rattle.vg_check.proofs.depth.segments_hide.Goals as goal
 
 pub loop-segment-preserved : goal.loop-segment-preserved

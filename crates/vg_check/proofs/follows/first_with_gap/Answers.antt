@@ -2,7 +2,7 @@ use Rattle.std.proofs.Common.{List, ℕ, ◌*◌, ◌^◌, ◌<◌, refl, arith}
 use Rattle.meta_model.specs.declared.lv.Lv.{Lv}
 use Rattle.volume_rules.specs.Extents.{extents_of}
 use Rattle.volume_rules.specs.Rules.{Follow}
-use Rattle.vg_check.proofs.Walks.{all_more, all_seen}
+use Rattle.list_laws.proofs.ItemWalks.{all_more, all_seen}
 use Rattle.vg_check.proofs.follows.first_with_gap.Goals as goal
 
 abbrev IsWhole : ℕ → List ℕ × Lv → Type 0

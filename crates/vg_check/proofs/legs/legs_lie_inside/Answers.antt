@@ -5,7 +5,7 @@ use Rattle.meta_model.specs.declared.segment.Leg.{Leg}
 use Rattle.meta_model.specs.declared.segment.On.TheVariants as on
 use Rattle.volume_rules.specs.Rules.{LiesWithin}
 use Rattle.vg_check.specs.Outside.{LegLiesInside}
-use Rattle.vg_check.proofs.Fronts.{all_done}
+use Rattle.list_laws.proofs.Fronts.{all_done}
 use Rattle.vg_check.proofs.legs.legs_lie_inside.Goals as goal
 
 pub loop-leg-preserved : goal.loop-leg-preserved

@@ -1,5 +1,5 @@
 use Rattle.vg_check.specs.Outside.{LegsLieInside}
-use Rattle.vg_check.proofs.Fronts.{all_more, all_done}
+use Rattle.list_laws.proofs.Fronts.{all_more, all_done}
 use Rattle.vg_check.proofs.legs.segment_outside.Goals as goal
 
 pub loop-number-preserved : goal.loop-number-preserved

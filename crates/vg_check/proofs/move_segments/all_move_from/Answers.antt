@@ -1,6 +1,6 @@
 use Rattle.std.proofs.Common.{rules}
 use Rattle.vg_check.specs.Moves.{MovesFrom}
-use Rattle.vg_check.proofs.Fronts.{all_more, all_done}
+use Rattle.list_laws.proofs.Fronts.{all_more, all_done}
 use Rattle.vg_check.proofs.move_segments.all_move_from.Goals as goal
 
 pub loop-segment-preserved : goal.loop-segment-preserved

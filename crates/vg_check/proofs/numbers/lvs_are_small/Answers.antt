@@ -2,7 +2,7 @@ use Rattle.std.proofs.lemmas.Bool.{false≢true}
 use Rattle.std.proofs.Common.{List, ℕ, refl, arith}
 use Rattle.meta_model.specs.declared.lv.Lv.{Lv}
 use Rattle.volume_rules.specs.Rules.{LvIsSmall}
-use Rattle.vg_check.proofs.Walks.{all_more, all_seen, row_of_all}
+use Rattle.list_laws.proofs.ItemWalks.{all_more, all_seen, row_of_all}
 use Rattle.vg_check.proofs.numbers.lvs_are_small.Goals as goal
 
 abbrev IsSmallRow : List ℕ × Lv → Type 0

@@ -1,6 +1,6 @@
 use Rattle.std.proofs.Common.{refl, arith}
 use Rattle.volume_rules.specs.Rules.{SegmentIsSmall}
-use Rattle.vg_check.proofs.Walks.{all_more_read, all_seen}
+use Rattle.list_laws.proofs.ItemWalks.{all_more_read, all_seen}
 use Rattle.vg_check.proofs.numbers.segments_are_small.Goals as goal
 
 pub loop-number-preserved : goal.loop-number-preserved

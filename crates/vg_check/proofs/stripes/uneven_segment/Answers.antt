@@ -1,7 +1,7 @@
 use Rattle.std.proofs.Common.{refl, arith}
 use Rattle.meta_model.specs.declared.segment.Segment.{Segment}
 use Rattle.volume_rules.specs.Rules.{IsWholeStriped}
-use Rattle.vg_check.proofs.Walks.{all_more_read, all_seen}
+use Rattle.list_laws.proofs.ItemWalks.{all_more_read, all_seen}
 use Rattle.vg_check.proofs.stripes.uneven_segment.Goals as goal
 
 pub loop-number-preserved : goal.loop-number-preserved

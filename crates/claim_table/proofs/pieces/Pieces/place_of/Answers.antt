@@ -1,6 +1,6 @@
 use Rattle.std.proofs.Common.{◌==◌}
 use Rattle.claim_table.specs.declared.claim.Claim.{Claim}
-use Rattle.sector_base.proofs.Positions.{placed}
+use Rattle.list_laws.proofs.Positions.{placed}
 use Rattle.claim_table.proofs.pieces.Pieces.place_of.Goals as goal
 
 pub returns-clause-place : goal.returns-clause-place

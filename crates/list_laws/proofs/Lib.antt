@@ -1,0 +1,11 @@
+pub mod Bools
+pub mod Filtered
+pub mod Fronts
+pub mod Inserted
+pub mod ItemWalks
+pub mod KeptLists
+pub mod Members
+pub mod Pairs
+pub mod Positions
+pub mod RowWalks
+pub mod Walks
