@@ -7,7 +7,7 @@ ghost use Rattle.group_edits.specs.GivenSegments.{extents_in, segments_of};
 ghost use Rattle.group_edits.specs.NewVolume as specs;
 
 use crate::given_segments::add_segments;
-use crate::next::{checked, next_of};
+use crate::next::next_of;
 use bitflags::Flags;
 use extent_alloc::{Given, Part};
 use lvm_id::LvmId;
@@ -46,7 +46,7 @@ pub fn with_volume(
     if next.lvs.push(name, lv).is_err() {
         return Err(AllocError);
     }
-    Ok(checked(next))
+    Ok(Checked::new(next))
 }
 
 fn new_lv(

@@ -5,7 +5,6 @@ ghost use Rattle.volume_rules.specs.Rules.{IsAccepted};
 ghost use Rattle.group_edits.specs.JoinedGroup as specs;
 
 use crate::naming::free_name;
-use crate::next::checked;
 use meta_model::{Group, LvTable, PushRefusal, Pv, PvTable, TryCopy};
 use std::alloc::{AllocError, Global};
 use vg_check::Checked;
@@ -34,7 +33,7 @@ pub fn joined_group(alloc: Global, base: Group, more: &[Pv]) -> Result<Checked, 
         lvs,
     } = base;
     push_all(alloc, &mut pvs, &lvs, more)?;
-    Ok(checked(Group {
+    Ok(Checked::new(Group {
         name,
         id,
         seqno,

@@ -7,7 +7,7 @@ ghost use Rattle.group_edits.specs.Visible.{visible_named};
 
 use crate::finding::is_volume;
 use crate::given_segments::add_segments;
-use crate::next::{checked, with_lvs};
+use crate::next::with_lvs;
 use extent_alloc::{Given, Part};
 use lvm_name::VolumeName;
 use meta_model::{Lv, LvTable, Segment, Segments, TryCopy};
@@ -34,7 +34,7 @@ pub fn longer_volume(
     let found = group.group();
     let lvs = longer_lvs(alloc, &found.lvs, name, given.as_slice())?;
     let next = with_lvs(alloc, found, lvs)?;
-    Ok(checked(next))
+    Ok(Checked::new(next))
 }
 
 // The volumes, where the one of this name is longer. That no name stands twice isn't asked, as in `renamed_volume`.

@@ -26,7 +26,7 @@ pub use creating::with_volume;
 pub use finding::find_visible;
 pub use join_pvs::joined_group;
 pub use lengthen::longer_volume;
-pub use next::{checked, next_version};
+pub use next::next_version;
 pub use reduce_group::{has_leg_on_pv, reduced_group};
 pub use removing::without_volume;
 pub use rename_group::renamed_group;

@@ -1,12 +1,10 @@
 //! The next version of a group.
 ghost use Rattle.std.specs.Prelude.{◌≡◌, ◌≤◌, IfOk};
-ghost use Rattle.meta_model.specs.Standing.{HasTree};
-ghost use Rattle.volume_rules.specs.Rules.{IsAccepted};
 ghost use Rattle.group_edits.specs.NextVersion as specs;
 
 use meta_model::{Group, LvTable};
 use std::alloc::{AllocError, Global};
-use vg_check::{Checked, check};
+use vg_check::Checked;
 
 /// The next version of the group.
 ///
@@ -27,18 +25,6 @@ pub(crate) fn next_of(alloc: Global, group: &Group) -> Result<Group, AllocError>
     let mut next = group.try_copy(alloc)?;
     next.seqno += 1;
     Ok(next)
-}
-
-/// A group that keeps all rules, as one that does.
-pub fn checked(group: Group) -> Checked
-    requires accepted { IsAccepted group }
-    requires tree { HasTree group }
-    ensures { result ≡ group }
-{
-    match check(group) {
-        Ok(group) => group,
-        Err(_) => unreachable!(),
-    }
 }
 
 // The next version of the group, with these volumes.

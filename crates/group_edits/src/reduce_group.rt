@@ -5,7 +5,7 @@ ghost use Rattle.group_edits.specs.ReducedGroup as specs;
 ghost use Rattle.group_edits.specs.Renumbered.{renumbered_row};
 
 use crate::leg_numbers::{Numbering, renumbered_lv};
-use crate::next::{checked, next_of};
+use crate::next::next_of;
 use meta_model::{Group, Leg, Lv, LvTable, On, PvTable, TryCopy};
 use std::alloc::{AllocError, Global};
 use vg_check::Checked;
@@ -24,7 +24,7 @@ pub fn reduced_group(alloc: Global, group: &Checked, number: u32) -> Result<Chec
 {
     let found = group.group();
     let next = without_pv(alloc, found, number)?;
-    Ok(checked(next))
+    Ok(Checked::new(next))
 }
 
 // The next version without this physical volume.

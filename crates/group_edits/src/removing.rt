@@ -11,7 +11,7 @@ ghost use Rattle.group_edits.specs.Visible.{IsVisible};
 
 use crate::leg_numbers::renumbered_lv;
 use crate::new_numbers::{Marks, NewNumbers, is_marked};
-use crate::next::{checked, with_lvs};
+use crate::next::with_lvs;
 use meta_model::{Group, Leg, LvTable, On, Segment};
 use std::alloc::{AllocError, Global};
 use vg_check::Checked;
@@ -33,7 +33,7 @@ pub fn without_volume(alloc: Global, group: &Checked, number: u32) -> Result<Che
     let numbers = NewNumbers::new(goes);
     let lvs = rows_after(alloc, &found.lvs, &numbers)?;
     let next = with_lvs(alloc, found, lvs)?;
-    Ok(checked(next))
+    Ok(Checked::new(next))
 }
 
 // Marks of the volumes that go where this one is removed. It goes over all legs five times.

@@ -3,7 +3,7 @@ ghost use Rattle.std.specs.Prelude.{◌≡◌, ◌≢◌, None, IfOk};
 ghost use Rattle.lvm_name.specs.Names.{group_name_refusal};
 ghost use Rattle.group_edits.specs.RenamedGroup as specs;
 
-use crate::next::{checked, next_of};
+use crate::next::next_of;
 use lvm_name::GroupName;
 use std::alloc::{AllocError, Global};
 use vg_check::Checked;
@@ -20,5 +20,5 @@ pub fn renamed_group(alloc: Global, group: &Checked, name: GroupName) -> Result<
 {
     let mut next = next_of(alloc, group.group())?;
     next.name = name;
-    Ok(checked(next))
+    Ok(Checked::new(next))
 }

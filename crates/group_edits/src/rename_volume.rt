@@ -9,7 +9,7 @@ ghost use Rattle.group_edits.specs.RenamedVolume as specs;
 ghost use Rattle.group_edits.specs.Visible.{visible_named};
 
 use crate::finding::is_volume;
-use crate::next::{checked, with_lvs};
+use crate::next::with_lvs;
 use lvm_name::VolumeName;
 use meta_model::{LvTable, TryCopy};
 use sector_base::Text;
@@ -36,7 +36,7 @@ pub fn renamed_volume(
     let found = group.group();
     let lvs = renamed_lvs(alloc, &found.lvs, old, new)?;
     let next = with_lvs(alloc, found, lvs)?;
-    Ok(checked(next))
+    Ok(Checked::new(next))
 }
 
 // The volumes, where the one of the old name has the new one. That no name stands twice then isn't asked: where one did, it

@@ -2,7 +2,6 @@
 ghost use Rattle.std.specs.Prelude.{◌≡◌, ◌≢◌, ◌<◌, false, IfOk, map};
 ghost use Rattle.group_edits.specs.RestoredGroup as specs;
 
-use crate::next::checked;
 use meta_model::{Group, Pv, PvTable};
 use sector_base::Text;
 use std::alloc::{AllocError, Global};
@@ -19,7 +18,7 @@ pub fn restored_group(alloc: Global, found: &Checked, said: &Checked) -> Result<
     ensures { IfOk result (λ next. next ≡ specs.restored_group found.now said.now) }
 {
     let next = restored(alloc, found.group(), said.group())?;
-    Ok(checked(next))
+    Ok(Checked::new(next))
 }
 
 // The same of groups by themselves.

@@ -9,7 +9,7 @@ ghost use Rattle.group_edits.specs.ShortenedVolume as specs;
 ghost use Rattle.group_edits.specs.Visible.{visible_named};
 
 use crate::finding::is_volume;
-use crate::next::{checked, with_lvs};
+use crate::next::with_lvs;
 use lvm_name::VolumeName;
 use meta_model::{Leg, Lv, LvTable, On, SegKind, Segment, Segments, TryCopy};
 use sector_base::Text;
@@ -112,7 +112,7 @@ pub fn shortened_volume(
     let found = group.group();
     let lvs = shortened_lvs(alloc, &found.lvs, name, left)?;
     let next = with_lvs(alloc, found, lvs)?;
-    Ok(checked(next))
+    Ok(Checked::new(next))
 }
 
 // The volumes, where the one of this name has its first extents alone. That no name stands twice isn't asked, as in

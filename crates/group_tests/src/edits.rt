@@ -3,8 +3,8 @@ ghost use Rattle.std.specs.Prelude.{◌≢◌};
 
 use crate::groups::{group_of_text, small_group_text};
 use group_edits::{
-    checked, find_visible, has_leg_on_pv, next_version, reduced_group, renamed_group,
-    renamed_volume, restored_group, without_volume,
+    find_visible, has_leg_on_pv, next_version, reduced_group, renamed_group, renamed_volume,
+    restored_group, without_volume,
 };
 use lvm_name::{GroupName, VolumeName};
 use sector_base::Text;
@@ -51,7 +51,7 @@ fn the_next_version_has_the_next_seqno(rt: HostRuntime) {
 #[test]
 fn a_group_that_keeps_all_rules_is_checked(rt: HostRuntime) {
     let group = small_group(&rt, rt.alloc());
-    let again = checked(group.into_group());
+    let again = Checked::new(group.into_group());
     assert!(rt; again.group().seqno == 7);
 }
 

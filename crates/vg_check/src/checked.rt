@@ -7,7 +7,7 @@ use meta_model::Group;
 use std::alloc::{AllocError, Global};
 use std::marker::Model;
 
-/// A group that keeps all rules, and that some metadata text stands for. `check` alone makes one.
+/// A group that keeps all rules, and that some metadata text stands for: one that `check` has taken, or that is proved to.
 #[derive(Debug, Drop)]
 pub struct Checked {
     group: Group,
@@ -26,8 +26,8 @@ impl Model for Checked {
 }
 
 impl Checked {
-    // The group, which keeps all rules.
-    pub(crate) fn new(group: Group) -> Self
+    /// The group, which is proved to keep all rules, so that nothing is checked.
+    pub fn new(group: Group) -> Self
         requires accepted { IsAccepted group }
         requires stands { HasTree group }
         ensures { result ≡ group }

@@ -12,8 +12,8 @@ new_lv-requires c =
 pub next_of-requires : goal.next_of-requires
 next_of-requires c = (c.group-found.ensures.accepted Numbers).seqno.1
 
-pub checked-requires-clause-accepted : goal.checked-requires-clause-accepted
-checked-requires-clause-accepted c =
+pub new-requires-clause-accepted : goal.new-requires-clause-accepted
+new-requires-clause-accepted c =
     (made_whole c.args.group.now c.group-found.result.now c.args.name.now c.args.id c.args.kind.now c.args.given.now c.as_slice.result.now
     c.args.now c.group-found.ensures.group c.as_slice.ensures (record c.in_ok-next.next { lvs = c.push.new.self })
     (new_made c.args.group.now c.group-found.result.now c.args.name.now c.args.id c.args.kind.now c.args.given.now c.as_slice.result.now
@@ -23,8 +23,8 @@ checked-requires-clause-accepted c =
     c.requires.free c.requires.valid c.requires.id c.requires.volume c.requires.seqno c.group-found.ensures.accepted
     c.group-found.ensures.stands).accepted
 
-pub checked-requires-clause-tree : goal.checked-requires-clause-tree
-checked-requires-clause-tree c =
+pub new-requires-clause-stands : goal.new-requires-clause-stands
+new-requires-clause-stands c =
     (made_whole c.args.group.now c.group-found.result.now c.args.name.now c.args.id c.args.kind.now c.args.given.now c.as_slice.result.now
     c.args.now c.group-found.ensures.group c.as_slice.ensures (record c.in_ok-next.next { lvs = c.push.new.self })
     (new_made c.args.group.now c.group-found.result.now c.args.name.now c.args.id c.args.kind.now c.args.given.now c.as_slice.result.now
@@ -36,7 +36,7 @@ checked-requires-clause-tree c =
 
 pub returns : goal.returns
 returns c =
-    c.checked.ensures
+    c.new.ensures
     ∙ new_made c.args.group.now c.group-found.result.now c.args.name.now c.args.id c.args.kind.now c.args.given.now c.as_slice.result.now
     c.args.now c.group-found.ensures.group c.as_slice.ensures c.in_ok-next.next c.in_ok-lv.lv c.in_ok-name.name c.push.new.self
     c.in_ok-next.ensures c.in_ok-lv.ensures c.in_ok-name.ensures

@@ -11,16 +11,16 @@ longer_lvs-requires c =
 pub with_lvs-requires : goal.with_lvs-requires
 with_lvs-requires c = (c.group-found.ensures.accepted Numbers).seqno.1
 
-pub checked-requires-clause-accepted : goal.checked-requires-clause-accepted
-checked-requires-clause-accepted c =
+pub new-requires-clause-accepted : goal.new-requires-clause-accepted
+new-requires-clause-accepted c =
     (made_whole c.args.group.now c.group-found.result.now c.args.name.now c.args.given.now c.as_slice.result.now c.group-found.ensures.group
     c.as_slice.ensures c.in_ok-next.next
     (longer_made c.args.group.now c.group-found.result.now c.args.name.now c.args.given.now c.as_slice.result.now
     c.group-found.ensures.group c.as_slice.ensures c.in_ok-lvs.lvs c.in_ok-next.next c.in_ok-lvs.ensures c.in_ok-next.ensures)
     c.requires.grows c.requires.seqno c.group-found.ensures.accepted c.group-found.ensures.stands).accepted
 
-pub checked-requires-clause-tree : goal.checked-requires-clause-tree
-checked-requires-clause-tree c =
+pub new-requires-clause-stands : goal.new-requires-clause-stands
+new-requires-clause-stands c =
     (made_whole c.args.group.now c.group-found.result.now c.args.name.now c.args.given.now c.as_slice.result.now c.group-found.ensures.group
     c.as_slice.ensures c.in_ok-next.next
     (longer_made c.args.group.now c.group-found.result.now c.args.name.now c.args.given.now c.as_slice.result.now
@@ -29,6 +29,6 @@ checked-requires-clause-tree c =
 
 pub returns : goal.returns
 returns c =
-    c.checked.ensures
+    c.new.ensures
     ∙ longer_made c.args.group.now c.group-found.result.now c.args.name.now c.args.given.now c.as_slice.result.now
     c.group-found.ensures.group c.as_slice.ensures c.in_ok-lvs.lvs c.in_ok-next.next c.in_ok-lvs.ensures c.in_ok-next.ensures

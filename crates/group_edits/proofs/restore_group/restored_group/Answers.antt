@@ -15,17 +15,17 @@ restored-requires-clause-said c =
     seqno_below c.group-2.result.now c.group-2.ensures.accepted
     (subst (λ (g : Group). g.seqno ≢ 4294967295) (sym c.group-2.ensures.group) c.requires.said)
 
-pub checked-requires-clause-accepted : goal.checked-requires-clause-accepted
-checked-requires-clause-accepted c =
+pub new-requires-clause-accepted : goal.new-requires-clause-accepted
+new-requires-clause-accepted c =
     (made_whole c.args.found.now c.args.said.now c.group.result.now c.group-2.result.now c.in_ok-next.next c.group.ensures.group
     c.group-2.ensures.group c.in_ok-next.ensures c.requires.found c.requires.said
     c.group.ensures.accepted c.group-2.ensures.accepted c.group-2.ensures.stands).accepted
 
-pub checked-requires-clause-tree : goal.checked-requires-clause-tree
-checked-requires-clause-tree c =
+pub new-requires-clause-stands : goal.new-requires-clause-stands
+new-requires-clause-stands c =
     (made_whole c.args.found.now c.args.said.now c.group.result.now c.group-2.result.now c.in_ok-next.next c.group.ensures.group
     c.group-2.ensures.group c.in_ok-next.ensures c.requires.found c.requires.said
     c.group.ensures.accepted c.group-2.ensures.accepted c.group-2.ensures.stands).tree
 
 pub returns : goal.returns
-returns c = c.checked.ensures ∙ c.in_ok-next.ensures ∙ (λ i. restored_group (c.group.ensures.group i) (c.group-2.ensures.group i))
+returns c = c.new.ensures ∙ c.in_ok-next.ensures ∙ (λ i. restored_group (c.group.ensures.group i) (c.group-2.ensures.group i))

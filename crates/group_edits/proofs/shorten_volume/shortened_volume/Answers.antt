@@ -6,15 +6,15 @@ use Rattle.group_edits.proofs.shorten_volume.shortened_volume.Goals as goal
 pub with_lvs-requires : goal.with_lvs-requires
 with_lvs-requires c = (c.group-found.ensures.accepted Numbers).seqno.1
 
-pub checked-requires-clause-accepted : goal.checked-requires-clause-accepted
-checked-requires-clause-accepted c =
+pub new-requires-clause-accepted : goal.new-requires-clause-accepted
+new-requires-clause-accepted c =
     (made_whole c.args.group.now c.group-found.result.now c.in_ok-next.next c.args.name.now c.args.left c.group-found.ensures.group
     (shortened_made c.args.group.now c.group-found.result.now c.in_ok-next.next c.args.name.now c.args.left c.in_ok-lvs.lvs
     c.group-found.ensures.group c.in_ok-lvs.ensures c.in_ok-next.ensures)
     c.requires.may c.requires.seqno c.group-found.ensures.accepted c.group-found.ensures.stands).accepted
 
-pub checked-requires-clause-tree : goal.checked-requires-clause-tree
-checked-requires-clause-tree c =
+pub new-requires-clause-stands : goal.new-requires-clause-stands
+new-requires-clause-stands c =
     (made_whole c.args.group.now c.group-found.result.now c.in_ok-next.next c.args.name.now c.args.left c.group-found.ensures.group
     (shortened_made c.args.group.now c.group-found.result.now c.in_ok-next.next c.args.name.now c.args.left c.in_ok-lvs.lvs
     c.group-found.ensures.group c.in_ok-lvs.ensures c.in_ok-next.ensures)
@@ -22,6 +22,6 @@ checked-requires-clause-tree c =
 
 pub returns : goal.returns
 returns c =
-    c.checked.ensures
+    c.new.ensures
     ∙ shortened_made c.args.group.now c.group-found.result.now c.in_ok-next.next c.args.name.now c.args.left c.in_ok-lvs.lvs
     c.group-found.ensures.group c.in_ok-lvs.ensures c.in_ok-next.ensures
