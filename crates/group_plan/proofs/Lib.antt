@@ -1,6 +1,4 @@
 pub mod AddedFacts
-mod ByDisks
-mod ByNames
 pub mod Chained
 mod Contents
 mod DataApart

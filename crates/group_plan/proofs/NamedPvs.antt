@@ -1,25 +1,14 @@
 -- The physical volumes on the disks that the words of a line name, one word after another.
 use Rattle.std.proofs.Common.{◌≡◌, ◌<◌, ℕ, ◌+◌, Bool, true, false, cond, List, ◌∷◌, drop, get_or, length, Option, Some, sym, ap, ◌∙◌}
-use Rattle.std.specs.Prelude.{filter_map, find, option_and_then, option_map}
+use Rattle.std.specs.Prelude.{filter_map, find, option_map}
 use Rattle.std.specs.FinSet as set
 use Rattle.std.specs.List.{cons_option}
 use Rattle.std.specs.Ordering.{nat_cmp}
 use Rattle.std.proofs.lemmas.List.{drop_more}
-use Rattle.command_table.specs.Options.{number_named}
 use Rattle.line_answers.specs.declared.op_refusal.OpRefusal.TheVariants.{NotInGroup}
 use Rattle.group_plan.specs.Judging.{with_all}
-use Rattle.group_plan.specs.Members.{is_outside, number_on, outside_row, pv_named}
+use Rattle.group_plan.specs.Members.{is_outside, outside_row, pv_named}
 use Rattle.group_plan.specs.declared.state.GroupState.{GroupState}
-
--- what is found by these names and on these disks is what the state says
-pub found_named : (state : GroupState) (names : List (List ℕ)) (disk_of : List ℕ) (name : List ℕ) (found : Option ℕ) → names ≡ state.names
-    → disk_of ≡ state.disk_of
-    → found ≡ option_and_then (number_on disk_of) (number_named names name) → found ≡ pv_named state name
-unfolding pv_named
-found_named state names disk_of name found of_names of_disks is =
-    is
-    ∙ ap (λ (listed : List (List ℕ)). option_and_then (number_on disk_of) (number_named listed name)) of_names
-    ∙ ap (λ (listed : List ℕ). option_and_then (number_on listed) (number_named state.names name)) of_disks
 
 module _ (state : GroupState) (names : List (List ℕ)) (i : ℕ) (own : List ℕ) (within : i < length names) (is : own ≡ get_or names i own)
   where

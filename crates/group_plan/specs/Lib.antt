@@ -6,7 +6,6 @@ pub mod Ids
 pub mod Judging
 pub mod Members
 pub mod NewGroup
-pub mod Numbers
 pub mod Plans
 pub mod State
 pub mod Stripes

@@ -1,5 +1,5 @@
 -- The group that a line gives, and what stands beside it in the change.
-use Rattle.std.specs.Prelude.{ℕ, List, [], ◌∷◌, ◌++◌, map, Option, Some}
+use Rattle.std.specs.Prelude.{ℕ, List, [], ◌++◌, map, Option, Some}
 use Rattle.std.specs.FinSet as set
 use Rattle.line_answers.specs.declared.op_refusal.OpRefusal.{OpRefusal}
 use Rattle.meta_model.specs.declared.group.Group.{Group}

@@ -6,7 +6,6 @@ ghost use Rattle.group_plan.specs.Judging.{IsRefusedBy, Judges, is_small, need_o
 ghost use Rattle.group_plan.specs.State.{IsState};
 
 use crate::copied::copied_text;
-use crate::disks_by_name::DisksByName;
 use crate::{GroupState, PlanRefusal};
 use disk_contents::PvFound;
 use line_answers::OpRefusal;
@@ -98,10 +97,9 @@ pub fn find_all_added(
         (λ all. (unknown_row state.now names.now ≡ None) × (all.items ≡ added_of state.now names.now))
         (IsRefusedBy (unknown_row state.now names.now)) }
 {
-    let disks = DisksByName::of(alloc, &state.names)?;
     let mut all = Vec::new(alloc);
     for name in names {
-        let number = disks.number_of(name.as_bytes());
+        let number = state.names.number_of(name.as_bytes());
         match find_added(alloc, state, name, number)? {
             Some(added) => all.push(added)?,
             None => {

@@ -1,17 +1,14 @@
 //! The physical volumes of the group that the words of a line name.
-ghost use Rattle.std.specs.Prelude.{◌≡◌, ◌≤◌, ◌<◌, IfOk, IfSome, length, option_and_then};
-ghost use Rattle.command_table.specs.Options.{number_named};
+ghost use Rattle.std.specs.Prelude.{◌≡◌, ◌≤◌, ◌<◌, IfSome, length};
 ghost use Rattle.group_plan.specs.Judging.{Judges};
 ghost use Rattle.group_plan.specs.Members as specs;
 ghost use Rattle.group_plan.specs.State.{IsState};
 
 use crate::copied::copied_text;
-use crate::disks_by_name::DisksByName;
-use crate::pvs_by_disk::PvsByDisk;
 use crate::{GroupState, PlanRefusal};
 use line_answers::OpRefusal;
 use sector_base::{PvSet, Text};
-use std::alloc::{AllocError, Global};
+use std::alloc::Global;
 
 /// The group lists a physical volume on the disk with each of these names.
 ///
@@ -24,10 +21,8 @@ pub fn judge_members(alloc: Global, state: &GroupState, names: &[Text]) -> Resul
     requires few { length state.now.disk_of ≤ 64 }
     ensures { Judges result (specs.outside_row state.now names.now) }
 {
-    let disks = DisksByName::of(alloc, &state.names)?;
-    let pvs = PvsByDisk::of(alloc, state.disk_of.as_slice())?;
     for name in names {
-        if pv_on(&disks, &pvs, name).is_none() {
+        if pv_named(state, name).is_none() {
             let name = copied_text(alloc, name)?;
             return Err(PlanRefusal::Refused(OpRefusal::NotInGroup(name)));
         }
@@ -36,34 +31,19 @@ pub fn judge_members(alloc: Global, state: &GroupState, names: &[Text]) -> Resul
 }
 
 /// The numbers in the text of the group of its physical volumes on the disks with these names.
-///
-/// # Errors
-///
-/// Where memory is wanting.
 #[tactic(auto, unfolding(crate::specs::Members::pvs_named))]
-pub fn pvs_named(alloc: Global, state: &GroupState, names: &[Text]) -> Result<PvSet, AllocError>
+pub fn pvs_named(state: &GroupState, names: &[Text]) -> PvSet
     requires state { IsState state.now }
     requires few { length state.now.disk_of ≤ 64 }
-    ensures { IfOk result (λ all. all ≡ specs.pvs_named state.now names.now) }
+    ensures { result ≡ specs.pvs_named state.now names.now }
 {
-    let disks = DisksByName::of(alloc, &state.names)?;
-    let pvs = PvsByDisk::of(alloc, state.disk_of.as_slice())?;
     let mut all = PvSet::new();
     for name in names {
-        if let Some(pv) = pv_on(&disks, &pvs, name) {
+        if let Some(pv) = pv_named(state, name) {
             all.insert(pv);
         }
     }
-    Ok(all)
-}
-
-// The number of that of these on the disk with this name, where there is one.
-fn pv_on(disks: &DisksByName<'_>, pvs: &PvsByDisk<'_>, name: &Text) -> Option<u32>
-    ensures number { result ≡ option_and_then (specs.number_on pvs.now) (number_named disks.now name.now) }
-    ensures within { IfSome result (λ number. number < length pvs.now) }
-{
-    let disk = disks.number_of(name.as_bytes())?;
-    pvs.number_on(disk)
+    all
 }
 
 /// The number of the one on the disk with this name, where the group lists one there.

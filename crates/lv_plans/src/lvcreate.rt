@@ -83,7 +83,7 @@ fn create(
     let found = group.group();
     judge_names(alloc, state, found, new)?;
     judge_limits(state, found, id, new)?;
-    let on = pvs_named(alloc, state, new.pvs.as_slice())?;
+    let on = pvs_named(state, new.pvs.as_slice());
     let want = want_on(on, found.extent_size, new);
     let given = take_extents(alloc, state, group, &want)?;
     add(alloc, state, group, id, new, &given, now)

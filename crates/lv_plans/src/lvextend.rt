@@ -112,7 +112,7 @@ fn extend_visible(
 {
     let found = group.group();
     judge_growth(alloc, state, found, number, lv, name, growth, pvs)?;
-    let on = pvs_named(alloc, state, pvs)?;
+    let on = pvs_named(state, pvs);
     let want = more_for(found, lv, growth, on);
     let given = take_extents(alloc, state, group, &want)?;
     lengthen(alloc, state, group, name, &given, now)

@@ -40,8 +40,8 @@ pub take_extents-requires : goal.take_extents-requires
 take_extents-requires c =
     asks_well c.args.state.now c.group-found.result.now c.args.group.now c.group-found.ensures.group c.args.new.now c.requires.state
     c.requires.found (subst IsAccepted c.group-found.ensures.group c.group-found.ensures.accepted) c.requires.new
-    c.want_on-want.result (want_is c.args.state.now c.group-found.result.now c.args.group.now c.args.new.now c.in_ok-on.on
-    c.want_on-want.result c.group-found.ensures.group (c.in_ok-on.ensures ∙ ap (pvs_named c.args.state.now) c.as_slice.ensures)
+    c.want_on-want.result (want_is c.args.state.now c.group-found.result.now c.args.group.now c.args.new.now c.pvs_named-on.result
+    c.want_on-want.result c.group-found.ensures.group (c.pvs_named-on.ensures ∙ ap (pvs_named c.args.state.now) c.as_slice.ensures)
     c.want_on-want.ensures)
 
 pub returns-in_err-given-clause-plans : goal.returns-in_err-given-clause-plans
@@ -49,8 +49,8 @@ returns-in_err-given-clause-plans c =
     let p = err_from_is_err_and c.from_residual-in_err-given.result c.from_residual-in_err-given.ensures.1 in
     rw (p.1, p.2) (refused_room c.args.state.now c.args.id.now c.args.new.now c.args.now c.group-found.result.now c.args.group.now
     c.group-found.ensures.group c.in_ok-judge_names.ensures c.in_ok-judge_limits.ensures
-    c.want_on-want.result (want_is c.args.state.now c.group-found.result.now c.args.group.now c.args.new.now c.in_ok-on.on
-    c.want_on-want.result c.group-found.ensures.group (c.in_ok-on.ensures ∙ ap (pvs_named c.args.state.now) c.as_slice.ensures)
+    c.want_on-want.result (want_is c.args.state.now c.group-found.result.now c.args.group.now c.args.new.now c.pvs_named-on.result
+    c.want_on-want.result c.group-found.ensures.group (c.pvs_named-on.ensures ∙ ap (pvs_named c.args.state.now) c.as_slice.ensures)
     c.want_on-want.ensures) _ c.in_err-given.ensures)
 
 pub add-requires-clause-free : goal.add-requires-clause-free
@@ -62,8 +62,8 @@ pub add-requires-clause-volume : goal.add-requires-clause-volume
 add-requires-clause-volume c =
     may_add c.args.state.now c.group-found.result.now c.args.group.now c.group-found.ensures.group c.args.new.now c.requires.state
     c.requires.found (subst IsAccepted c.group-found.ensures.group c.group-found.ensures.accepted) c.requires.new
-    c.want_on-want.result (want_is c.args.state.now c.group-found.result.now c.args.group.now c.args.new.now c.in_ok-on.on
-    c.want_on-want.result c.group-found.ensures.group (c.in_ok-on.ensures ∙ ap (pvs_named c.args.state.now) c.as_slice.ensures)
+    c.want_on-want.result (want_is c.args.state.now c.group-found.result.now c.args.group.now c.args.new.now c.pvs_named-on.result
+    c.want_on-want.result c.group-found.ensures.group (c.pvs_named-on.ensures ∙ ap (pvs_named c.args.state.now) c.as_slice.ensures)
     c.want_on-want.ensures)
     c.args.id.now c.args.now c.requires.time c.in_ok-judge_limits.ensures c.in_ok-given.given c.in_ok-given.ensures.0
 
@@ -71,8 +71,8 @@ pub add-requires-clause-few : goal.add-requires-clause-few
 add-requires-clause-few c =
     few_given c.args.state.now c.group-found.result.now c.args.group.now c.group-found.ensures.group c.args.new.now c.requires.state
     c.requires.found (subst IsAccepted c.group-found.ensures.group c.group-found.ensures.accepted) c.requires.new
-    c.want_on-want.result (want_is c.args.state.now c.group-found.result.now c.args.group.now c.args.new.now c.in_ok-on.on
-    c.want_on-want.result c.group-found.ensures.group (c.in_ok-on.ensures ∙ ap (pvs_named c.args.state.now) c.as_slice.ensures)
+    c.want_on-want.result (want_is c.args.state.now c.group-found.result.now c.args.group.now c.args.new.now c.pvs_named-on.result
+    c.want_on-want.result c.group-found.ensures.group (c.pvs_named-on.ensures ∙ ap (pvs_named c.args.state.now) c.as_slice.ensures)
     c.want_on-want.ensures)
     c.in_ok-given.given c.in_ok-given.ensures.0
 
@@ -85,7 +85,7 @@ pub returns-clause-plans : goal.returns-clause-plans
 returns-clause-plans c =
     planned_new c.args.state.now c.args.id.now c.args.new.now c.args.now c.group-found.result.now c.args.group.now
     c.group-found.ensures.group c.in_ok-judge_names.ensures c.in_ok-judge_limits.ensures
-    c.want_on-want.result (want_is c.args.state.now c.group-found.result.now c.args.group.now c.args.new.now c.in_ok-on.on
-    c.want_on-want.result c.group-found.ensures.group (c.in_ok-on.ensures ∙ ap (pvs_named c.args.state.now) c.as_slice.ensures)
+    c.want_on-want.result (want_is c.args.state.now c.group-found.result.now c.args.group.now c.args.new.now c.pvs_named-on.result
+    c.want_on-want.result c.group-found.ensures.group (c.pvs_named-on.ensures ∙ ap (pvs_named c.args.state.now) c.as_slice.ensures)
     c.want_on-want.ensures)
     c.in_ok-given.given c.in_ok-given.ensures.0 c.in_ok-given.ensures.1 c.in_ok-given.ensures.2 c.add.result c.add.ensures.plans

@@ -66,7 +66,7 @@ more_for-want-requires-clause-legs c =
 pub take_extents-requires : goal.take_extents-requires
 take_extents-requires c =
     subst IsRequest (sym (more_is c.args.state.now c.group-found.result.now c.args.group.now c.args.growth c.args.pvs.now c.args.lv.now
-    c.in_ok-on.on c.more_for-want.result c.group-found.ensures.group c.in_ok-on.ensures c.more_for-want.ensures))
+    c.pvs_named-on.result c.more_for-want.result c.group-found.ensures.group c.pvs_named-on.ensures c.more_for-want.ensures))
     (is_request c.args.group.now (subst IsAccepted c.group-found.ensures.group c.group-found.ensures.accepted) c.args.name.now c.args.number
     c.args.lv.now c.requires.volume c.args.state.now c.args.growth c.args.pvs.now c.requires.growth
     (growth_passes c.args.state.now c.args.name.now c.args.growth c.args.pvs.now c.args.group.now c.args.number c.args.lv.now
@@ -79,16 +79,16 @@ returns-in_err-given c =
     rw (p.1, p.2)
     (refused_space c.args.state.now c.args.name.now c.args.growth c.args.pvs.now c.args.now c.args.number c.args.lv.now
     c.group-found.result.now c.args.group.now c.group-found.ensures.group c.in_ok-judge_growth.ensures c.more_for-want.result
-    (more_is c.args.state.now c.group-found.result.now c.args.group.now c.args.growth c.args.pvs.now c.args.lv.now c.in_ok-on.on
-    c.more_for-want.result c.group-found.ensures.group c.in_ok-on.ensures c.more_for-want.ensures) _ c.in_err-given.ensures)
+    (more_is c.args.state.now c.group-found.result.now c.args.group.now c.args.growth c.args.pvs.now c.args.lv.now c.pvs_named-on.result
+    c.more_for-want.result c.group-found.ensures.group c.pvs_named-on.ensures c.more_for-want.ensures) _ c.in_err-given.ensures)
 
 pub lengthen-requires-clause-grows : goal.lengthen-requires-clause-grows
 lengthen-requires-clause-grows c =
     grows_if c.args.group.now (subst IsAccepted c.group-found.ensures.group c.group-found.ensures.accepted) c.args.name.now c.args.number
     c.args.lv.now c.requires.volume c.args.state.now c.requires.state c.requires.found
     (subst HasTree c.group-found.ensures.group c.group-found.ensures.stands) c.args.growth c.args.pvs.now c.more_for-want.result
-    (more_is c.args.state.now c.group-found.result.now c.args.group.now c.args.growth c.args.pvs.now c.args.lv.now c.in_ok-on.on
-    c.more_for-want.result c.group-found.ensures.group c.in_ok-on.ensures c.more_for-want.ensures) c.in_ok-given.given
+    (more_is c.args.state.now c.group-found.result.now c.args.group.now c.args.growth c.args.pvs.now c.args.lv.now c.pvs_named-on.result
+    c.more_for-want.result c.group-found.ensures.group c.pvs_named-on.ensures c.more_for-want.ensures) c.in_ok-given.given
     (growth_passes c.args.state.now c.args.name.now c.args.growth c.args.pvs.now c.args.group.now c.args.number c.args.lv.now
     (subst (λ (g : Group). first_refusal (growth_rows c.args.state.now c.args.name.now c.args.growth c.args.pvs.now g
     (c.args.number, c.args.lv.now)) ≡ None) c.group-found.ensures.group c.in_ok-judge_growth.ensures)).apart
@@ -100,7 +100,7 @@ lengthen-requires-clause-few c =
     (subst IsAccepted c.group-found.ensures.group c.group-found.ensures.accepted)
     (lie_on_disks c.args.state.now c.requires.state c.args.group.now c.requires.found)
     (subst IsRequest (sym (more_is c.args.state.now c.group-found.result.now c.args.group.now c.args.growth c.args.pvs.now c.args.lv.now
-    c.in_ok-on.on c.more_for-want.result c.group-found.ensures.group c.in_ok-on.ensures c.more_for-want.ensures))
+    c.pvs_named-on.result c.more_for-want.result c.group-found.ensures.group c.pvs_named-on.ensures c.more_for-want.ensures))
     (is_request c.args.group.now (subst IsAccepted c.group-found.ensures.group c.group-found.ensures.accepted) c.args.name.now c.args.number
     c.args.lv.now c.requires.volume c.args.state.now c.args.growth c.args.pvs.now c.requires.growth
     (growth_passes c.args.state.now c.args.name.now c.args.growth c.args.pvs.now c.args.group.now c.args.number c.args.lv.now
@@ -118,6 +118,6 @@ pub returns : goal.returns
 returns c =
     planned_volume c.args.state.now c.args.name.now c.args.growth c.args.pvs.now c.args.now c.args.number c.args.lv.now
     c.group-found.result.now c.args.group.now c.group-found.ensures.group c.in_ok-judge_growth.ensures c.more_for-want.result
-    (more_is c.args.state.now c.group-found.result.now c.args.group.now c.args.growth c.args.pvs.now c.args.lv.now c.in_ok-on.on
-    c.more_for-want.result c.group-found.ensures.group c.in_ok-on.ensures c.more_for-want.ensures) c.in_ok-given.given
+    (more_is c.args.state.now c.group-found.result.now c.args.group.now c.args.growth c.args.pvs.now c.args.lv.now c.pvs_named-on.result
+    c.more_for-want.result c.group-found.ensures.group c.pvs_named-on.ensures c.more_for-want.ensures) c.in_ok-given.given
     c.in_ok-given.ensures.0 c.in_ok-given.ensures.1 c.in_ok-given.ensures.2 c.lengthen.result c.lengthen.ensures
