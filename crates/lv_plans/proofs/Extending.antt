@@ -1,5 +1,5 @@
 -- What the rows of an lvextend say of its volume, and what it may be given.
-use Rattle.std.proofs.Common.{◌≡◌, ◌≢◌, ◌≤◌, ◌<◌, ℕ, zero, suc, ◌+◌, ◌-◌, ◌*◌, false, List, [], ◌∷◌, ◌++◌, length, Option, Some, None}
+use Rattle.std.proofs.Common.{◌≡◌, ◌≤◌, ◌<◌, ℕ, zero, suc, ◌+◌, ◌-◌, ◌*◌, false, List, [], ◌∷◌, ◌++◌, length, Option, Some, None}
 use Rattle.std.proofs.Common.{Result, Err, inl, inr, refl, sym, ap, subst, ◌∙◌, arith}
 use Rattle.std.specs.Prelude.{nat_le, nat_lt, option_map, slice_get, All, IsSomeAnd}
 use Rattle.std.specs.FinSet as set
@@ -38,7 +38,7 @@ use Rattle.group_edits.specs.ShortenedVolume.{HasFewLegs, kept_of, parts_of}
 use Rattle.group_edits.specs.Visible.{visible_named}
 use Rattle.group_plan.proofs.Chained.{none_both, none_row, one_row, plans_back, refused_back, refused_front}
 use Rattle.group_plan.proofs.PlacedGroup.{lie_on_disks}
-use Rattle.group_plan.proofs.Rows.{none_holds, test_fails, seqno_left}
+use Rattle.group_plan.proofs.Rows.{test_fails}
 use Rattle.group_plan.specs.Committing.{length_row, named_rows, version_change}
 use Rattle.group_plan.specs.Judging.{IsRefusedBy, first_refusal}
 use Rattle.group_plan.specs.Members.{pvs_named}
@@ -53,7 +53,7 @@ use Rattle.lv_plans.specs.Allocating.{Asking, segments_row, space_row, PlansWith
 use Rattle.lv_plans.specs.Lvextend.{extend_asks, extend_in_rows, extend_lv_rows, growth_rows, lengthen_rows, longer_row, more_for, more_on}
 use Rattle.lv_plans.specs.Lvextend.{share_of, volume_asks}
 use Rattle.lv_plans.specs.Sizes.{IsGrowth, extents_for, growth_for, kept_by}
-use Rattle.lv_plans.specs.Volumes.{layered_row, locked_row, rows_on}
+use Rattle.lv_plans.specs.Volumes.{layered_row, rows_on}
 
 -- ---- the rows
 

@@ -28,8 +28,8 @@ returns-in_err-judge_limits-clause-plans c =
     rw (p.1, p.2) (refused_limits c.args.state.now c.args.id.now c.args.new.now c.args.now c.group-found.result.now c.args.group.now
     c.group-found.ensures.group c.in_ok-judge_names.ensures _ c.in_err-judge_limits.ensures)
 
-pub pvs_named-requires-clause-few : goal.pvs_named-requires-clause-few
-pvs_named-requires-clause-few c =
+pub pvs_named-on-requires-clause-few : goal.pvs_named-on-requires-clause-few
+pvs_named-on-requires-clause-few c =
     few_listed c.args.state.now c.requires.state c.args.group.now c.requires.found
     (subst IsAccepted c.group-found.ensures.group c.group-found.ensures.accepted)
 

@@ -40,8 +40,8 @@ returns-in_err-judge_growth c =
     (refused_growth c.args.state.now c.args.name.now c.args.growth c.args.pvs.now c.args.now c.args.number c.args.lv.now
     c.group-found.result.now c.args.group.now c.group-found.ensures.group _ c.in_err-judge_growth.ensures)
 
-pub pvs_named-requires-clause-few : goal.pvs_named-requires-clause-few
-pvs_named-requires-clause-few c =
+pub pvs_named-on-requires-clause-few : goal.pvs_named-on-requires-clause-few
+pvs_named-on-requires-clause-few c =
     few_listed c.args.state.now c.requires.state c.args.group.now c.requires.found
     (subst IsAccepted c.group-found.ensures.group c.group-found.ensures.accepted)
 
