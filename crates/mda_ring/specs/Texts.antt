@@ -1,5 +1,5 @@
 -- The bytes of a text in the ring's sectors, and a text that is put into sectors.
-use Rattle.std.specs.Prelude.{◌≡◌, ◌≢◌, ℕ, ◌-◌, ◌*◌, ◌/◌, ◌%◌, ◌<◌, ◌==◌, if◌then◌else◌, List, [], ◌++◌, length, take, drop, map, replicate}
+use Rattle.std.specs.Prelude.{◌≡◌, ◌≢◌, ℕ, ◌+◌, ◌-◌, ◌*◌, ◌/◌, ◌%◌, ◌<◌, ◌==◌, if◌then◌else◌, List, [], ◌++◌, length, take, drop, map, replicate}
 use Rattle.std.specs.Prelude.{slice_index, slice_index_or}
 use Rattle.std.specs.List.{range_with_len}
 use Rattle.sector_base.specs.Checksum.{checksum, lvm_crc_start}
@@ -50,3 +50,7 @@ text_sectors text sectors = map (text_sector text) (range_with_len 0 sectors)
 -- the byte at this place of the sectors, one behind the other, and the first behind the last
 abbrev pub byte_in : List (List ℕ) → ℕ → ℕ
 byte_in sectors at = slice_index (slice_index_or sectors (at % (512 * length sectors) / 512) []) (at % (512 * length sectors) % 512)
+
+-- the bytes that these sectors have of the entry's text
+abbrev pub taken_bytes : Locn → List (List ℕ) → List ℕ
+taken_bytes locn sectors = map (λ j. byte_in sectors (locn.offset % 512 + j)) (range_with_len 0 locn.size)

@@ -21,5 +21,5 @@ pub use next_place::plan_next;
 pub use place::Place;
 pub use refusal::RingRefusal;
 pub use ring_spans::spans;
-pub use text_read::{gather, gather_bytes, is_stored_as, stored_text};
+pub use text_read::{gather, gather_bytes, is_stored_in, stored_text};
 pub use text_write::scatter;

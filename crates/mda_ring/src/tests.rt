@@ -4,7 +4,7 @@ ghost use Rattle.mda_header.specs.Header.{IsInside};
 
 use crate::counts::touched_sectors;
 use crate::{
-    Area, Place, RingRefusal, gather, gather_bytes, is_stored_as, plan_next, scatter, spans,
+    Area, Place, RingRefusal, gather, gather_bytes, is_stored_in, plan_next, scatter, spans,
     stored_text,
 };
 use mda_header::Locn;
@@ -67,6 +67,15 @@ fn stored(
     gather_bytes(alloc, &AREA, text, sectors)
 }
 
+// Whether this text is stored in these sectors, if they are as many as the entry's text touches.
+fn is_stored(rt: &impl Abort, bytes: &[u8], text: Locn, sectors: &Sectors) -> bool
+    requires { IsInside 4096 text }
+{
+    let touched_count = touched_sectors(4_096, text.offset, text.size);
+    assert!(rt; sectors.len() as u64 == touched_count);
+    is_stored_in(bytes, &AREA, text, sectors)
+}
+
 // The sectors of the text, at the ring's begin.
 fn scattered(rt: &impl Abort, alloc: Global) -> Sectors {
     let text = text(alloc).expect(rt, "memory");
@@ -92,8 +101,8 @@ fn what_is_put_is_gathered(rt: HostRuntime) {
 fn what_is_stored_is_the_text(rt: HostRuntime) {
     let sectors = scattered(&rt, rt.alloc());
     let bytes = stored(&rt, rt.alloc(), entry(SUM), &sectors).expect(&rt, "memory");
-    assert!(rt; is_stored_as(b"vg {}", bytes.as_slice()));
-    assert!(rt; !is_stored_as(b"vg {", bytes.as_slice()));
+    assert!(rt; is_stored(&rt, b"vg {}", entry(SUM), &sectors));
+    assert!(rt; !is_stored(&rt, b"vg {", entry(SUM), &sectors));
     let text = stored_text(bytes, entry(SUM)).expect(&rt, "a text");
     assert!(rt; text.as_bytes() == b"vg {}".as_slice());
 }

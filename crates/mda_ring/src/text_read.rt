@@ -1,12 +1,12 @@
 //! Reading a text from sectors.
-ghost use Rattle.std.specs.Prelude.{◌≡◌, ℕ, ◌+◌, ◌%◌, ◌^◌, ◌<◌, ◌≤◌, ◌≢◌, ◌↔◌, IsTrue, List, [], ◌∷◌, ◌++◌, length, map, IfErr, IfOk, MatchResult};
+ghost use Rattle.std.specs.Prelude.{◌≡◌, ℕ, ◌+◌, ◌-◌, ◌==◌, if◌then◌else◌, ◌%◌, ◌^◌, ◌<◌, ◌≤◌, ◌≢◌, ◌↔◌, IsTrue, List, [], ◌∷◌, ◌++◌, length, map, IfErr, IfOk, MatchResult};
 ghost use Rattle.std.specs.List.{range_with_len};
 ghost use Rattle.sector_base.specs.Checksum.{checksum, lvm_crc_start};
 ghost use Rattle.mda_header.specs.Header.{IsInside};
 ghost use Rattle.mda_ring.specs.declared.refusal.RingRefusal.TheVariants.{NoMemory};
 ghost use Rattle.mda_ring.specs.Areas.{IsArea};
 ghost use Rattle.mda_ring.specs.Ring.{need, touched_count};
-ghost use Rattle.mda_ring.specs.Texts.{AreRead, IsDamaged, IsTextOf, byte_in, text_sectors, text_at, without_zero};
+ghost use Rattle.mda_ring.specs.Texts.{AreRead, IsDamaged, IsTextOf, byte_in, taken_bytes, text_sectors, text_at, without_zero};
 
 use crate::{Area, RingRefusal};
 use mda_header::Locn;
@@ -58,6 +58,7 @@ pub fn gather_bytes(
     ensures text_sectors { (text : List ℕ) → sectors.now ≡ text_sectors text (need (length text + 1))
         → locn.offset % 512 ≡ 0 → locn.size ≡ length text + 1 → IfOk result (λ bytes. bytes.items ≡ text ++ 0 ∷ []) }
     ensures count { IfOk result (λ bytes. length bytes.items ≡ locn.size) }
+    ensures taken { IfOk result (λ bytes. bytes.items ≡ taken_bytes locn sectors.now) }
 {
     let skip = (locn.offset % 512) as usize;
     bytes_from(alloc, sectors.as_slice(), skip, locn.size as usize)
@@ -79,11 +80,18 @@ pub fn stored_text(bytes: Vec<u8>, locn: Locn) -> Result<Text, RingRefusal>
     Ok(Text::from_vec(drop_zero(bytes)))
 }
 
-/// Whether the text is what is stored as these bytes, one final zero byte dropped where it stands.
-pub fn is_stored_as(text: &[u8], bytes: &[u8]) -> bool
-    ensures { IsTrue result ↔ (text.now ≡ without_zero bytes.now) }
+/// Whether the text is what these sectors of the entry's spans, in order, store for it, one final zero byte dropped where it
+/// stands.
+pub fn is_stored_in(text: &[u8], area: &Area, locn: Locn, sectors: &Sectors) -> bool
+    requires area { IsArea area.now }
+    requires entry { IsInside area.now.size locn }
+    requires sectors { length sectors.now ≡ touched_count area.now.size locn.offset locn.size }
+    ensures { IsTrue result ↔ (text.now ≡ without_zero (taken_bytes locn sectors.now)) }
 {
-    text == before_zero(bytes)
+    let sectors = sectors.as_slice();
+    let skip = (locn.offset % 512) as usize;
+    let count = kept_count(sectors, skip, locn.size as usize);
+    text.len() == count && are_at(sectors, skip, text)
 }
 
 // So many bytes of the sectors, one behind the other, from the byte `skip` on; behind the last comes the first.
@@ -130,13 +138,41 @@ fn drop_zero(mut bytes: Vec<u8>) -> Vec<u8>
     bytes
 }
 
-// The bytes without one final zero byte, where they are.
-fn before_zero(bytes: &[u8]) -> &[u8]
-    ensures { result.now ≡ without_zero bytes.now }
+// How many of so many bytes of the sectors from the byte `skip` on there are without a final zero.
+fn kept_count(sectors: &[Bytes512], skip: usize, count: usize) -> usize
+    requires some { 0 < length sectors.now }
+    requires few { length sectors.now < 2 ^ 48 }
+    requires bytes { 0 < count }
+    requires fits { skip + count < 2 ^ 64 }
+    ensures { result ≡ (if byte_in sectors.now (skip + (count - 1)) == 0 then count - 1 else count) }
 {
-    if bytes.last() == Some(&0) {
-        &bytes[..bytes.len() - 1]
-    } else {
-        bytes
+    let last = byte_at(sectors, skip + (count - 1));
+    if last == 0 { count - 1 } else { count }
+}
+
+// The byte at this place of the sectors; behind the last comes the first.
+fn byte_at(sectors: &[Bytes512], at: usize) -> u8
+    requires some { 0 < length sectors.now }
+    requires few { length sectors.now < 2 ^ 48 }
+    ensures { result ≡ byte_in sectors.now at }
+{
+    part_at(sectors, at, 1)[0]
+}
+
+// Whether these are the bytes of the sectors from the byte `skip` on.
+fn are_at(sectors: &[Bytes512], skip: usize, bytes: &[u8]) -> bool
+    requires some { 0 < length sectors.now }
+    requires few { length sectors.now < 2 ^ 48 }
+    requires fits { skip + length bytes.now < 2 ^ 64 }
+    ensures { IsTrue result ↔ (bytes.now ≡ map (λ j. byte_in sectors.now (skip + j)) (range_with_len 0 (length bytes.now))) }
+{
+    let mut done = 0;
+    while done < bytes.len() {
+        let part = part_at(sectors, skip + done, bytes.len() - done);
+        if &bytes[done..done + part.len()] != part {
+            return false;
+        }
+        done += part.len();
     }
+    true
 }
