@@ -1,4 +1,4 @@
-mod EntryBytes
+pub mod EntryBytes
 pub mod NextPlace
 pub mod RingPlaces
 mod SectorParts

@@ -7,6 +7,8 @@ ghost use Rattle.disk_contents.specs.Parts.{ReadsUntil, ReadsWell};
 ghost use Rattle.disk_contents.specs.Standing.{IsUsable, LiesInside};
 ghost use Rattle.mda_header.specs.Header.{IsInside};
 ghost use Rattle.mda_ring.specs.Areas.{IsArea};
+ghost use Rattle.mda_ring.specs.Ring.{touched_count};
+ghost use Rattle.mda_ring.specs.Texts.{taken_bytes};
 ghost use Rattle.scan_rules.specs.Readings.{GivesAtMost, GivesOneOf, area_of, gives_of};
 ghost use Rattle.vg_scan.specs.Collected.{Continues};
 ghost use Rattle.vg_scan.specs.Readings.{AreAreaReadings, IsAreaReading, IsGiven};
@@ -16,12 +18,13 @@ ghost use Rattle.vg_scan.specs.Texts.{IsStored, stored_bytes, text_spans};
 
 use crate::collected::Collected;
 use crate::judge::judge;
-use crate::text_bytes::read_bytes;
+use crate::text_sectors::read_text_sectors;
 use disk_contents::{AreaFound, ReadRefusal};
 use disk_model::Shelf;
 use mda_header::{HeaderEntry, Locn};
-use mda_ring::Area;
+use mda_ring::{Area, gather_bytes};
 use scan_rules::{AreaGives, AreaRead, CopyRefusal};
+use sector_base::Sectors;
 use std::alloc::Global;
 
 // What each of these areas gives, in their order. The committed text of each that isn't ignored is read, and new copies
@@ -142,28 +145,32 @@ fn read_text<S: Shelf>(
     ensures continues { Continues collected.old.copies collected.new.copies }
     ensures disks { collected.new.disks ≡ collected.old.disks }
 {
-    let bytes = read_bytes(alloc, shelf, area, locn)?;
-    take_text(alloc, locn, bytes, collected)
+    let sectors = read_text_sectors(alloc, shelf, area, locn)?;
+    take_text(alloc, area, locn, &sectors, collected)
 }
 
-// What the bytes that are stored for the entry give. A text that is known by them is neither summed nor parsed again.
+// What these sectors of the entry's spans give. A text that they are known to store is neither gathered, summed nor parsed again.
 fn take_text(
     alloc: Global,
+    area: &Area,
     locn: Locn,
-    bytes: Vec<u8>,
+    sectors: &Sectors,
     collected: &mut Collected,
 ) -> Result<AreaGives, ReadRefusal>
-    requires { length bytes.items ≡ locn.size }
+    requires area { IsArea area.now }
+    requires entry { IsInside area.now.size locn }
+    requires sectors { length sectors.now ≡ touched_count area.now.size locn.offset locn.size }
     ensures given { MatchResult result
-        (λ gives. IsStored locn bytes.items (gives_of collected.new.copies gives))
+        (λ gives. IsStored locn (taken_bytes locn sectors.now) (gives_of collected.new.copies gives))
         (λ refusal. refusal ≡ NoMemory) }
     ensures numbers { IfOk result (GivesOneOf (length collected.new.copies)) }
     ensures continues { Continues collected.old.copies collected.new.copies }
     ensures disks { collected.new.disks ≡ collected.old.disks }
 {
-    if let Some(number) = collected.find(locn, &bytes) {
+    if let Some(number) = collected.find(area, locn, sectors) {
         return Ok(AreaGives::Copy(number));
     }
+    let bytes = gather_bytes(alloc, area, locn, sectors)?;
     match judge(alloc, locn, bytes)? {
         Ok(copy) => Ok(AreaGives::Copy(collected.push_copy(locn, copy)?)),
         Err(refusal) => Ok(AreaGives::Refused(refusal)),

@@ -1,13 +1,18 @@
 //! What was read of the disks so far. A text that was read before is known again by its bytes, and neither summed nor parsed.
 ghost use Rattle.std.specs.Prelude.{◌≡◌, ◌<◌, ◌++◌, [], ◌∷◌, length, IfSome, MatchResult};
+ghost use Rattle.mda_header.specs.Header.{IsInside};
+ghost use Rattle.mda_ring.specs.Areas.{IsArea};
+ghost use Rattle.mda_ring.specs.Ring.{touched_count};
+ghost use Rattle.mda_ring.specs.Texts.{taken_bytes};
 ghost use Rattle.scan_rules.specs.Readings.{DiskIsOf, gives_of, reading_of};
 ghost use Rattle.scan_rules.specs.declared.readings.AreaGives.TheVariants.{Copy as Numbered};
 ghost use Rattle.vg_scan.specs.Collected.{IsKnown};
 ghost use Rattle.vg_scan.specs.Texts.{IsStored};
 
 use mda_header::Locn;
-use mda_ring::is_stored_as;
+use mda_ring::{Area, is_stored_in};
 use scan_rules::{DiskRead, GroupCopy, Readings};
+use sector_base::Sectors;
 use std::alloc::{AllocError, Global};
 use std::collections::BTreeMap;
 use std::marker::Model;
@@ -43,14 +48,17 @@ impl Collected {
         }
     }
 
-    // The number of a copy whose text is stored as these bytes, at an entry of this size and sum.
-    pub(crate) fn find(&self, locn: Locn, bytes: &[u8]) -> Option<usize>
-        requires { length bytes.now ≡ locn.size }
-        ensures { IfSome result (λ number. (number < length self.now.copies) × IsStored locn bytes.now (gives_of self.now.copies (Numbered number))) }
+    // The number of a copy that was read at an entry of this size and sum, and whose text these sectors of the entry's spans store.
+    pub(crate) fn find(&self, area: &Area, locn: Locn, sectors: &Sectors) -> Option<usize>
+        requires area { IsArea area.now }
+        requires entry { IsInside area.now.size locn }
+        requires sectors { length sectors.now ≡ touched_count area.now.size locn.offset locn.size }
+        ensures { IfSome result (λ number. (number < length self.now.copies)
+            × IsStored locn (taken_bytes locn sectors.now) (gives_of self.now.copies (Numbered number))) }
     {
         let number = self.numbers.get(&(locn.size, locn.sum)).copied()?;
         let copy = self.readings.copies().get(number)?;
-        if is_stored_as(copy.text.as_bytes(), bytes) {
+        if is_stored_in(copy.text.as_bytes(), area, locn, sectors) {
             Some(number)
         } else {
             None

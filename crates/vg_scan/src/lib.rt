@@ -12,7 +12,7 @@ mod judge;
 mod laws;
 mod outcome;
 mod scanning;
-mod text_bytes;
+mod text_sectors;
 
 pub use laws::one_reading;
 pub use scanning::{ScanStopped, scan};

@@ -1,31 +1,31 @@
--- The bytes are read, and give what those of the disk give.
+-- The sectors are read, and give what the bytes of the disk give.
 use Rattle.std.proofs.Common.{refl}
 use Rattle.std.proofs.lemmas.Result.{err_from_is_err_and, MatchResult-weaker}
 use Rattle.vg_scan.specs.Texts.{text_spans}
 use Rattle.vg_scan.proofs.Continued.{continues_same}
-use Rattle.vg_scan.proofs.EntryReading.{given_by_bytes, wanting_after}
+use Rattle.vg_scan.proofs.EntryReading.{given_by_sectors, wanting_after}
 use Rattle.vg_scan.proofs.area.read_text.Goals as goal
 
-pub returns-in_err-bytes-clause-reads : goal.returns-in_err-bytes-clause-reads
-returns-in_err-bytes-clause-reads g c =
+pub returns-in_err-sectors-clause-reads : goal.returns-in_err-sectors-clause-reads
+returns-in_err-sectors-clause-reads g c =
     let p = err_from_is_err_and c.from_residual.result c.from_residual.ensures.1 in
-    rw (p.1, p.2) c.in_err-bytes.ensures.bytes
+    rw (p.1, p.2) c.in_err-sectors.ensures.read
 
-pub returns-in_err-bytes-clause-continues : goal.returns-in_err-bytes-clause-continues
-returns-in_err-bytes-clause-continues g c = continues_same c.args.collected.now.copies c.args.collected.now.copies refl
+pub returns-in_err-sectors-clause-continues : goal.returns-in_err-sectors-clause-continues
+returns-in_err-sectors-clause-continues g c = continues_same c.args.collected.now.copies c.args.collected.now.copies refl
 
 pub returns-clause-reads : goal.returns-clause-reads
 returns-clause-reads g c =
     let before = g.S.Shelf.state c.args.shelf.now in
-    let after = g.S.Shelf.state c.read_bytes.new.shelf in
+    let after = g.S.Shelf.state c.read_text_sectors.new.shelf in
     let area = c.args.area.now in
     let texts = text_spans area c.args.locn in
-    let went = c.in_ok-bytes.ensures.bytes.0 in
+    let went = c.in_ok-sectors.ensures.read.0 in
     MatchResult-weaker c.take_text.result c.take_text.ensures.given (λ gives is. went)
     (λ refusal wanting. wanting_after area.pv before after texts refusal wanting went)
 
 pub returns-clause-given : goal.returns-clause-given
 returns-clause-given g c =
     let before = g.S.Shelf.state c.args.shelf.now in
-    given_by_bytes c.args.area.now c.args.locn before c.in_ok-bytes.bytes.items c.take_text.new.collected.copies
-    c.in_ok-bytes.ensures.bytes.1 c.take_text.result c.take_text.ensures.given
+    given_by_sectors c.args.area.now c.args.locn before c.in_ok-sectors.sectors c.take_text.new.collected.copies c.requires.area
+    c.requires.entry c.in_ok-sectors.ensures.count c.in_ok-sectors.ensures.read.1 c.take_text.result c.take_text.ensures.given

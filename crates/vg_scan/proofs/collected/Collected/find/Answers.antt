@@ -1,9 +1,10 @@
--- The copy at this size and sum, where its text is stored as these bytes.
-use Rattle.std.proofs.Common.{◌≡◌, ℕ, List, Some, get_or, sym, ap, subst, ◌∙◌}
+-- The copy at this size and sum, where the sectors store its text.
+use Rattle.std.proofs.Common.{◌≡◌, ℕ, ◌+◌, ◌%◌, List, length, Some, get_or, sym, ap, subst, ◌∙◌}
 use Rattle.std.specs.Prelude.{slice_get}
 use Rattle.std.specs.BTreeMap.{get}
 use Rattle.std.proofs.lemmas.Option.{get_or_from_slice_get, slice_get_within}
-use Rattle.mda_ring.specs.Texts.{without_zero}
+use Rattle.std.proofs.lemmas.List.FromFn.{length-map-range_with_len}
+use Rattle.mda_ring.specs.Texts.{byte_in, taken_bytes, without_zero}
 use Rattle.scan_rules.specs.Readings.{AllRead}
 use Rattle.scan_rules.specs.declared.readings.GroupCopy.{GroupCopy}
 use Rattle.vg_scan.specs.Collected.{WasReadAt, key_cmp}
@@ -11,10 +12,11 @@ use Rattle.vg_scan.specs.Texts.{IsStored}
 use Rattle.vg_scan.proofs.KnownTexts.{gives_number, known_again}
 use Rattle.vg_scan.proofs.collected.Collected.find.Goals as goal
 
-pub returns-then-is_stored_as : goal.returns-then-is_stored_as
-returns-then-is_stored_as c =
+pub returns-then-is_stored_in : goal.returns-then-is_stored_in
+returns-then-is_stored_in c =
     let locn = c.args.locn in
-    let bytes = c.args.bytes.now in
+    let bytes : List ℕ = taken_bytes locn c.args.sectors.now in
+    let long : length bytes ≡ locn.size = length-map-range_with_len (λ j. byte_in c.args.sectors.now (locn.offset % 512 + j)) 0 locn.size in
     let copies : List GroupCopy = c.self.inside.readings.copies in
     let all : List GroupCopy = c.args.self.now.copies in
     let i : ℕ = c.in_ok-number.number in
@@ -27,8 +29,8 @@ returns-then-is_stored_as c =
     ∙ get_or_from_slice_get copies i was.1 c.in_ok-copy.copy.now was.3
     in
     let text : was.1.text ≡ without_zero bytes =
-    ap (λ (copy : GroupCopy). copy.text) (sym same) ∙ sym c.as_bytes.ensures ∙ c.is_stored_as.ensures.0 c.if-is_stored_as.true in (
+    ap (λ (copy : GroupCopy). copy.text) (sym same) ∙ sym c.as_bytes.ensures ∙ c.is_stored_in.ensures.0 c.if-is_stored_in.true in (
       slice_get_within all i was.1 at,
       subst (IsStored locn bytes) (sym (gives_number all i was.1 at))
-          (known_again was.0 locn was.1 bytes was.4 (ap (λ (k : ℕ × ℕ). k.0) was.2) (ap (λ (k : ℕ × ℕ). k.1) was.2) c.requires text),
+          (known_again was.0 locn was.1 bytes was.4 (ap (λ (k : ℕ × ℕ). k.0) was.2) (ap (λ (k : ℕ × ℕ). k.1) was.2) long text),
     )

@@ -1,50 +1,48 @@
-//! The bytes of a text, read from its area.
+//! The sectors of a text, read from its area.
 ghost use Rattle.std.specs.Prelude.{◌≡◌, ◌≤◌, ◌<◌, ◌+◌, ◌*◌, ◌/◌, ◌++◌, [], length, slice_index_or, IfOk, MatchResult};
 ghost use Rattle.disk_model.specs.Since.{HoldsOfDisk};
 ghost use Rattle.mda_header.specs.Header.{IsInside};
 ghost use Rattle.mda_ring.specs.Areas.{IsArea};
 ghost use Rattle.mda_ring.specs.Ring.{touched_count};
 ghost use Rattle.disk_contents.specs.Parts.{ReadsUntil, ReadsWell};
-ghost use Rattle.vg_scan.specs.Texts.{AreTextSectors, stored_bytes, text_spans};
+ghost use Rattle.vg_scan.specs.Texts.{AreTextSectors, text_spans};
 
 use disk_contents::{ReadRefusal, read_sectors};
 use disk_model::Shelf;
 use mda_header::Locn;
-use mda_ring::{Area, gather_bytes, spans};
+use mda_ring::{Area, spans};
 use sector_base::Sectors;
 use std::alloc::{AllocError, Global};
 
 // The most bytes of a text that is read.
 const MOST_BYTES: u64 = 1_099_511_627_776;
 
-// Reads the bytes that are stored for the entry, its spans in their order. A text of more than 2^40 bytes is want of
-// memory.
-pub(crate) fn read_bytes<S: Shelf>(
+// Reads the sectors that the entry's text touches, its spans in their order. A text of more than 2^40 bytes is want of memory.
+pub(crate) fn read_text_sectors<S: Shelf>(
     alloc: Global,
     shelf: &mut S,
     area: &Area,
     locn: Locn,
-) -> Result<Vec<u8>, ReadRefusal>
+) -> Result<Sectors, ReadRefusal>
     requires idle { (S.state shelf.old).in_flight ≡ [] }
     requires disk { area.now.pv < length (S.state shelf.old).sizes }
     requires area { IsArea area.now }
     requires within { area.now.start + area.now.size ≤ slice_index_or (S.state shelf.old).sizes area.now.pv 0 * 512 }
     requires entry { IsInside area.now.size locn }
-    ensures bytes { MatchResult result
-        (λ bytes. ReadsWell (S.state shelf.old) (text_spans area.now locn) (S.state shelf.new)
+    ensures read { MatchResult result
+        (λ sectors. ReadsWell (S.state shelf.old) (text_spans area.now locn) (S.state shelf.new)
         × HoldsOfDisk (S.state shelf.old).told area.now.pv
-        (λ sector_at. bytes.items ≡ stored_bytes sector_at area.now locn))
+        (λ sector_at. AreTextSectors sector_at area.now locn sectors))
         (ReadsUntil area.now.pv (S.state shelf.old) (text_spans area.now locn) (S.state shelf.new)) }
-    ensures count { IfOk result (λ bytes. length bytes.items ≡ locn.size) }
+    ensures count { IfOk result (λ sectors. length sectors ≡ touched_count area.now.size locn.offset locn.size) }
 {
     if locn.size > MOST_BYTES {
         return Err(ReadRefusal::NoMemory);
     }
-    let sectors = read_ring(alloc, shelf, area, locn)?;
-    Ok(gather_bytes(alloc, area, locn, &sectors)?)
+    read_ring(alloc, shelf, area, locn)
 }
 
-// Reads the sectors that the entry's text touches.
+// Reads the sectors that the text of an entry touches that isn't huge.
 fn read_ring<S: Shelf>(
     alloc: Global,
     shelf: &mut S,

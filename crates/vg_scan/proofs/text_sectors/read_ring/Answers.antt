@@ -9,7 +9,7 @@ use Rattle.vg_scan.specs.Texts.{AreTextSectors, text_spans}
 use Rattle.disk_contents.specs.Parts.{ReadsWell}
 use Rattle.disk_contents.proofs.ReadingParts.{until_wanting}
 use Rattle.vg_scan.proofs.TextSectors.{AreSpansOf, IsSpanRead, both_read, first_ended, in_area_rest, read_joined, rest_ended}
-use Rattle.vg_scan.proofs.text_bytes.read_ring.Goals as goal
+use Rattle.vg_scan.proofs.text_sectors.read_ring.Goals as goal
 
 pub returns-in_err-sectors-clause-read : goal.returns-in_err-sectors-clause-read
 returns-in_err-sectors-clause-read g c =
