@@ -1,6 +1,6 @@
 -- A text is compared with what is stored in sectors, byte by byte.
 use Rattle.std.proofs.Common.{◌≡◌, ◌≤◌, ◌<◌, ℕ, ◌+◌, ◌-◌, ◌==◌, ◌↔◌, Bool, true, false, not, cond, IsTrue, List, ◌++◌, length, take, drop, map}
-use Rattle.std.proofs.Common.{get_or, refl, sym, ap, subst, ◌∙◌, arith}
+use Rattle.std.proofs.Common.{get_or, refl, sym, ap, ◌∙◌, arith}
 use Rattle.std.specs.Prelude.{nat_eq, slice_index_or}
 use Rattle.std.specs.Cmp.Lexicographic.{nat_list_eq_equiv, pointwise, same_text}
 use Rattle.std.proofs.Math.Seq.{take-add}
@@ -65,8 +65,7 @@ module _ (sectors : List (List ℕ)) (skip done : ℕ) (bytes part : List ℕ) (
     more_stored was same =
         let count : done + length part - done ≡ length part = omega arith in
         let is : take (length part) (drop done bytes) ≡ part =
-        ap (λ (n : ℕ). take n (drop done bytes)) (sym count) ∙ same_text compared part (sym (true_of (pointwise nat_eq compared part) same)) in
-        (
+        ap (λ (n : ℕ). take n (drop done bytes)) (sym count) ∙ same_text compared part (sym (true_of (pointwise nat_eq compared part) same)) in (
           taken_more sectors skip done (skip + done) (done + length part) (take done bytes) part (take (done + length part) bytes) was next
               refl (take-add done (length part) bytes ∙ ap (λ (l : List ℕ). take done bytes ++ l) is) refl,
           omega (arith, fits, within),

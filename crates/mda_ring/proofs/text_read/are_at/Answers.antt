@@ -6,8 +6,7 @@ use Rattle.mda_ring.proofs.text_read.are_at.Goals as goal
 pub returns-then-ne : goal.returns-then-ne
 returns-then-ne c =
     let bytes = c.args.bytes.now in
-    let part = c.part_at-part.result.now in
-    (
+    let part = c.part_at-part.result.now in (
       λ no. cc,
       λ are. absurd (part_stored c.args.sectors.now c.args.skip c.loop-done.done bytes part c.loop-done.invariant.1
           c.part_at-part.ensures.most c.part_at-part.ensures.bytes are (sym c.ne.ensures ∙ c.if-ne.true)),

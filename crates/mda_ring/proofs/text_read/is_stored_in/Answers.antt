@@ -1,6 +1,6 @@
 -- The text is compared as far as what is stored goes without its final zero.
 use Rattle.std.proofs.Common.{◌≡◌, ◌↔◌, ℕ, ◌+◌, ◌%◌, IsTrue, List, eqb, length, subst}
-use Rattle.std.proofs.lemmas.Bool.{eq-eqb, eqb-true}
+use Rattle.std.proofs.lemmas.Bool.{eqb-true}
 use Rattle.mda_ring.specs.Texts.{byte_in, taken_bytes, without_zero}
 use Rattle.mda_ring.proofs.StoredTexts.{other_stored, same_stored}
 use Rattle.mda_ring.proofs.text_read.is_stored_in.Goals as goal
