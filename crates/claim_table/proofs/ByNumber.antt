@@ -1,5 +1,5 @@
 -- Looking for numbers among pieces that stand in the order of theirs.
-use Rattle.std.proofs.Common.{◌≡◌, ◌<◌, ◌≤◌, ℕ, ◌+◌, true, false, ◌||◌, nat_eq, nat_le, nat_lt, List, length, get_or, refl, sym, ap}
+use Rattle.std.proofs.Common.{◌≡◌, ◌<◌, ◌≤◌, ℕ, true, false, ◌||◌, nat_eq, nat_le, nat_lt, List, length, get_or, refl, sym, ap}
 use Rattle.std.proofs.Common.{subst, ◌∙◌, arith}
 use Rattle.std.specs.Prelude.{All, AllPairs, None, Some, filter, is_some, position, remove, take, ◌∷◌, ◌++◌, []}
 use Rattle.std.specs.List.{list_any, position_or_len}

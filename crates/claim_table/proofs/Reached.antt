@@ -1,5 +1,5 @@
 -- The claims after any calls, and what a conflict is.
-use Rattle.std.proofs.Common.{◌≡◌, ◌<◌, ℕ, zero, suc, ◌+◌, max, min, Bool, true, false, cond, ◌&&◌, ◌||◌, nat_eq, nat_lt, List}
+use Rattle.std.proofs.Common.{◌≡◌, ◌<◌, ℕ, zero, suc, max, min, Bool, true, false, cond, ◌&&◌, ◌||◌, nat_eq, nat_lt, List}
 use Rattle.std.proofs.Common.{[], ◌∷◌, ◌++◌, length, get_or, take, refl, sym, subst, ◌∙◌, arith}
 use Rattle.std.specs.Prelude.{Contains, None, Option, Some, remove}
 use Rattle.std.specs.List.{insert, list_any}

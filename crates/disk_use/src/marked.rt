@@ -119,5 +119,6 @@ fn first_apart(found: &Found, marked: &[u32]) -> Option<u32>
 fn is_among(found: &Found, disk: u32) -> bool
     ensures { IsTrue result ↔ IsAmong found.now disk }
 {
-    found.group.is_some() && (found.strays.contains(disk) || found.disk_of.as_slice().contains(&disk))
+    found.group.is_some()
+        && (found.strays.contains(disk) || found.disk_of.as_slice().contains(&disk))
 }

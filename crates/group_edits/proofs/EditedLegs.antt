@@ -16,7 +16,7 @@ use Rattle.meta_model.specs.declared.segment.On.TheVariants as on
 use Rattle.meta_model.specs.declared.segment.SegKind.{SegKind}
 use Rattle.meta_model.specs.declared.segment.SegKind.TheVariants.{Striped, Mirror}
 use Rattle.meta_model.specs.declared.segment.Segment.{Segment}
-use Rattle.meta_model.specs.declared.status.LvStatus.{LvStatus}
+use Rattle.meta_model.specs.Status.{LvStatus}
 use Rattle.volume_rules.proofs.LegRuns.{contains_first, contains_later, related_or_same, run_of}
 use Rattle.volume_rules.specs.Depths.{load}
 use Rattle.volume_rules.specs.Extents.{extents_of}

@@ -48,12 +48,7 @@ pub fn joined_group(alloc: Global, base: Group, more: &[Pv]) -> Result<Checked, 
 }
 
 // Puts these physical volumes behind the others, each with a name that no volume has.
-fn push_all(
-    alloc: Global,
-    pvs: &mut PvTable,
-    lvs: &LvTable,
-    more: &[Pv],
-) -> Result<(), AllocError>
+fn push_all(alloc: Global, pvs: &mut PvTable, lvs: &LvTable, more: &[Pv]) -> Result<(), AllocError>
     requires few { length pvs.old + length lvs.now + length more.now < 2 ^ 32 }
     ensures { IfOk result (λ _. pvs.new ≡ specs.with_pvs lvs.now pvs.old more.now) }
 {

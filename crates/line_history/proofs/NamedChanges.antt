@@ -32,7 +32,7 @@ or_true true b is = refl
 or_true false b is = is
 
 -- no row behind it has its name
-others_named : (old : List ℕ) (rows : List (List ℕ × Lv)) (taken : List (List ℕ))
+pub others_named : (old : List ℕ) (rows : List (List ℕ × Lv)) (taken : List (List ℕ))
     → AreNames taken (map (λ (row : List ℕ × Lv). row.0) rows) → is_among taken old ≡ true
     → Each (λ (row : List ℕ × Lv). bytes_eq row.0 old ≡ false) rows
 others_named old [] taken are among = tt

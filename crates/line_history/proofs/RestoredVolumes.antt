@@ -20,7 +20,7 @@ use Rattle.list_laws.proofs.Bools.{same_text}
 use Rattle.volume_history.specs.Changing.{ChangesVolumes, HaveOwnIds, HaveOwnNames, has_named}
 use Rattle.volume_history.specs.Placed.{PlacedVolume, placed_from, places_of, volumes_of}
 use Rattle.volume_history.specs.Replay.{volume_of_id}
-use Rattle.line_history.proofs.RenamedVolumes.{others_named}
+use Rattle.line_history.proofs.NamedChanges.{others_named}
 
 abbrev Row : Type 0
 Row = List ℕ × Lv

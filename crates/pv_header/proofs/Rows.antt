@@ -3,7 +3,7 @@ use Rattle.std.proofs.Common.{◌≡◌, ℕ, List, [], ◌∷◌, map, Option, 
 use Rattle.std.specs.Prelude.{◌-◌, ◌/◌, codes, find, option_map}
 use Rattle.std.specs.Fmt.{digits}
 use Rattle.sector_base.specs.Shown.{shown_text}
-use Rattle.pv_header.specs.Areas.{end_of, first_overlap, is_misshapen, is_outside, next_start, shares_byte}
+use Rattle.pv_header.specs.Areas.{first_overlap, is_misshapen, is_outside, next_start, shares_byte}
 use Rattle.pv_header.specs.DataSectors.{data_end_of, data_start_of}
 use Rattle.pv_header.specs.PvRefusal.{offsets_of}
 use Rattle.pv_header.specs.ShownPv.{shown_pv}

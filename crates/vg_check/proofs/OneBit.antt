@@ -1,6 +1,6 @@
 -- Powers of two are the numbers with one bit.
 use Rattle.std.specs.Int.{is_power_of_two}
-use Rattle.std.proofs.Common.{◌≡◌, ◌↔◌, Bool, true, IsTrue, eq-eqb, subst, ℕ, zero, suc, ◌+◌, ◌*◌, ◌/◌, ◌%◌, ◌^◌, ◌≤◌, count_ones, refl}
+use Rattle.std.proofs.Common.{◌≡◌, ◌↔◌, Bool, true, IsTrue, eq-eqb, ℕ, zero, suc, ◌/◌, ◌%◌, ◌^◌, ◌≤◌, count_ones, refl}
 use Rattle.std.proofs.Common.{sym, ap, ◌∙◌, inl, inr, arith}
 use Rattle.std.proofs.lemmas.Bool.{cases_eq, eqb-true}
 use Rattle.std.proofs.lemmas.Nat.{ones_le_self, zero_from_ones}

@@ -11,8 +11,8 @@ ghost use Rattle.vg_plans.specs.Vgcreate.{IsEmptyGroup, create_rows, empty_group
 
 use bitflags::Flags;
 use group_plan::{
-    AddedPv, Change, GroupState, PlanRefusal, commit, copied_bytes, disks_with,
-    find_all_added, group_name, judge_areas, judge_count, judge_sizes, judge_used, stands_on_disk,
+    AddedPv, Change, GroupState, PlanRefusal, commit, copied_bytes, disks_with, find_all_added,
+    group_name, judge_areas, judge_count, judge_sizes, judge_used, stands_on_disk,
 };
 use line_answers::OpRefusal;
 use lvm_id::LvmId;

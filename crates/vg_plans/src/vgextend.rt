@@ -10,9 +10,9 @@ ghost use Rattle.vg_plans.specs.Vgextend.{extend_by, extend_rows, found_rows, gr
 
 use group_edits::next_version;
 use group_plan::{
-    AddedPv, Change, GroupState, PlanRefusal, commit, disks_with, find_all_added,
-    judge_areas, judge_count, judge_name, judge_resizeable, judge_seqno, judge_sizes, judge_used,
-    judge_write, unknown_group,
+    AddedPv, Change, GroupState, PlanRefusal, commit, disks_with, find_all_added, judge_areas,
+    judge_count, judge_name, judge_resizeable, judge_seqno, judge_sizes, judge_used, judge_write,
+    unknown_group,
 };
 use id_index::{IdMap, lvs_by_id};
 use line_answers::OpRefusal;

@@ -7,7 +7,6 @@ use Rattle.std.proofs.lemmas.Bool.{or_cases, false≢true}
 use Rattle.meta_model.specs.declared.group.Group.{Group}
 use Rattle.meta_model.specs.declared.lv.Lv.{Lv}
 use Rattle.volume_rules.specs.Legs.{IsWayDown}
-use Rattle.volume_rules.specs.declared.rule.Rule.TheVariants.{Depth}
 use Rattle.volume_rules.specs.Rules.{DepthIsAtMostThree, IsPvmove, IsMoving}
 use Rattle.volume_rules.specs.Moving.{has_pvmove, leads_to_pvmove, named_by}
 use Rattle.volume_rules.proofs.LegRuns.{contains_later, contains_first}

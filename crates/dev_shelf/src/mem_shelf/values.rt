@@ -74,7 +74,16 @@ fn values_on(
             RecordedWork::Flushes(disk) => {
                 // The last value that was written always stays.
                 if well && disk == number && all.len() > 1 {
-                    return kept_of(alloc, &row.written, &row.steps, at, tag, number, sector, &all);
+                    return kept_of(
+                        alloc,
+                        &row.written,
+                        &row.steps,
+                        at,
+                        tag,
+                        number,
+                        sector,
+                        &all,
+                    );
                 }
                 Ok(all)
             }

@@ -3,7 +3,6 @@ use Rattle.std.proofs.Common.{◌≡◌, ◌<◌, ℕ, List, Some, None, length,
 use Rattle.std.specs.Option.{option_or}
 use Rattle.std.specs.Cmp.Lexicographic.{pointwise}
 use Rattle.meta_model.specs.declared.segment.On.TheVariants.{Lv}
-use Rattle.meta_read.specs.Places.{place_in}
 use Rattle.meta_read.proofs.Finding.{next_found}
 use Rattle.meta_read.proofs.places.add_lvs.Goals as goal
 

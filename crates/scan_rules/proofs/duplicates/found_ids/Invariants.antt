@@ -1,4 +1,4 @@
-use Rattle.std.proofs.Common.{◌≡◌, ◌+◌, ◌++◌, [], drop}
+use Rattle.std.proofs.Common.{◌≡◌, ◌++◌, [], drop}
 use Rattle.scan_rules.specs.Decision.{ids_from}
 use Rattle.scan_rules.specs.Readings.{readings_of}
 use Rattle.scan_rules.proofs.duplicates.found_ids.Given as goal

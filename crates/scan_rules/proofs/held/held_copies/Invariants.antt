@@ -1,4 +1,4 @@
-use Rattle.std.proofs.Common.{◌≡◌, ◌+◌, ◌++◌, drop}
+use Rattle.std.proofs.Common.{◌≡◌, ◌++◌, drop}
 use Rattle.scan_rules.specs.Flat.{held_on}
 use Rattle.scan_rules.proofs.held.held_copies.Given as goal
 

@@ -1,4 +1,4 @@
-use Rattle.std.proofs.Common.{◌≡◌, ◌+◌, ◌++◌, drop}
+use Rattle.std.proofs.Common.{◌≡◌, ◌++◌, drop}
 use Rattle.std.specs.Prelude.{filter_map}
 use Rattle.scan_rules.specs.Flat.{held_in}
 use Rattle.scan_rules.proofs.held.push_held.Given as goal

@@ -1,4 +1,4 @@
-use Rattle.std.proofs.Common.{◌≡◌, ◌+◌, ◌++◌}
+use Rattle.std.proofs.Common.{◌≡◌, ◌++◌}
 use Rattle.std.specs.Prelude.{filter_map}
 use Rattle.scan_rules.specs.Flat.{refused_in}
 use Rattle.scan_rules.proofs.refusals.push_refusals.Given as goal

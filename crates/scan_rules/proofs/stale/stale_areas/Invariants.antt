@@ -1,4 +1,4 @@
-use Rattle.std.proofs.Common.{◌≡◌, ◌+◌, ◌++◌, drop}
+use Rattle.std.proofs.Common.{◌≡◌, ◌++◌, drop}
 use Rattle.std.specs.List.{AllByRecursion}
 use Rattle.scan_rules.specs.Found.{HasFewAreas, stale_on}
 use Rattle.scan_rules.specs.Readings.{readings_of}

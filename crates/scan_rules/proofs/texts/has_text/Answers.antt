@@ -1,5 +1,5 @@
 -- Equal numbers have equal texts.
-use Rattle.std.proofs.Common.{ℕ, true, false, Option, ap, sym, ◌∙◌, refl}
+use Rattle.std.proofs.Common.{ℕ, false, Option, ap, sym, ◌∙◌, refl}
 use Rattle.std.specs.Prelude.{option_map, unwrap_or, slice_get}
 use Rattle.std.specs.Str.{bytes_eq}
 use Rattle.scan_rules.specs.declared.readings.GroupCopy.{GroupCopy}
