@@ -2,6 +2,7 @@
 use Rattle.std.proofs.Common.{◌≡◌, ◌≤◌, ◌<◌, ℕ, ◌+◌, Bool, IsTrue, List, [], ◌∷◌, ◌++◌, length, map, Option, Some, None, IfSome, option_map}
 use Rattle.std.proofs.Common.{refl, sym, ap, subst, ◌∙◌, ⊎_elim, arith, append_assoc, length-append}
 use Rattle.std.proofs.lemmas.Bool.{cases_lt}
+use Rattle.std.proofs.lemmas.List.{map-append}
 use Rattle.sector_base.specs.declared.spans.Span.{Span}
 use Rattle.disk_model.specs.declared.ops.Done.{Done}
 use Rattle.disk_model.specs.Steps.{Work, Flushing, Step, Completed, Record, step_on, steps_on}
@@ -11,18 +12,19 @@ use Rattle.disk_model.specs.State.{State}
 use Rattle.disk_model.specs.Record.{Operation}
 use Rattle.disk_model.specs.Durability.{AllLeave}
 use Rattle.disk_model.specs.Moments.{Throughout}
-use Rattle.disk_model.specs.Submitting.{BringAt, submitted_on}
+use Rattle.disk_model.specs.Submitting.{BringAt, SubmitsAll, submitted_on, works_of}
 use Rattle.disk_model.proofs.EachMoment.{leaves_throughout, moment_now, throughout_now, throughout_step, throughout_weaken}
 use Rattle.disk_model.proofs.WhereTold.{told_after, told_both, told_weaker}
 use Rattle.disk_batch.specs.declared.batching.BatchStep.{BatchStep}
 use Rattle.disk_batch.specs.declared.batching.BatchStep.TheVariants.{Going, Well, Lost}
 use Rattle.disk_batch.specs.Along.{AllAlong, HoldsSince}
 use Rattle.disk_batch.specs.Batches.{Follows, Goes, Starts, after_done}
-use Rattle.disk_batch.specs.Submits.{SubmitsWorks}
-use Rattle.disk_batch.specs.Views.{View, Turn, Waits, Flushes, IsWell, IsLost, turn_of}
+use Rattle.disk_batch.specs.Submits.{SubmitsWorks, put_operation}
+use Rattle.disk_batch.specs.Views.{View, Turn, Waits, Writes, Flushes, IsWell, IsLost, turn_of}
 use Rattle.disk_batch.specs.Writes.{IsWrittenBy, write_work}
 use Rattle.disk_batch.proofs.Carrying.{submissions, submitted_steps}
 use Rattle.disk_batch.proofs.Growing.{throughout_grown}
+use Rattle.disk_batch.proofs.Works.{bring_left}
 use Rattle.disk_batch.proofs.WrittenBy.{bring_at_weaker, bring_written}
 
 -- two stretches of a record
@@ -153,20 +155,27 @@ submitted_told os (Some t) = ap (λ (u : Record). Some u) (submitted_steps os t)
 
 module _ (mine : ℕ → ℕ → Bool) (Now : ℕ → ℕ → List ℕ → Type 0) where
   -- submissions of writes that bring only allowed values
-  pub along_submits : (old new : State) (works : List Work) (tags : List ℕ) → SubmitsWorks old works tags new
-      → ((pv sector : ℕ) → IsTrue (mine pv sector) → BringAt works pv sector (Now pv sector))
-      → IfSome old.told (AllLeave mine Now) → AllAlong (AllLeave mine Now) old new
-  along_submits old new works tags s bring h = record {
-    newer = submissions s.os;
-    told = s.submits.told ∙ submitted_told s.os old.told;
-    next = s.submits.next;
-    throughout = told_weaker (AllLeave mine Now) (HoldsSince (AllLeave mine Now) (submissions s.os)) old.told
-        (λ t now.
-        subst (λ (u : Record). Throughout (length t.steps) (length u.steps) u (AllLeave mine Now)) (submitted_steps s.os t)
-        (leaves_throughout mine Now s.os t (length t.steps)
-        (λ pv sector own. subst (λ (ws : List Work). BringAt ws pv sector (Now pv sector)) (sym s.works_are) (bring pv sector own)) now
-        (throughout_now t (AllLeave mine Now) now))) h;
+  abbrev Allows : List Work → Type 0
+  Allows works = (pv sector : ℕ) → IsTrue (mine pv sector) → BringAt works pv sector (Now pv sector)
+
+  along_submitted : (old new : State) (os : List Operation) → SubmitsAll old os new
+      → IfSome old.told (λ told. AllLeave mine Now told × Allows (works_of os)) → AllAlong (AllLeave mine Now) old new
+  along_submitted old new os submits h = record {
+    newer = submissions os;
+    told = submits.told ∙ submitted_told os old.told;
+    next = submits.next;
+    throughout = told_weaker (λ t. AllLeave mine Now t × Allows (works_of os)) (HoldsSince (AllLeave mine Now) (submissions os)) old.told
+        (λ t both.
+        subst (λ (u : Record). Throughout (length t.steps) (length u.steps) u (AllLeave mine Now)) (submitted_steps os t)
+        (leaves_throughout mine Now os t (length t.steps) both.1 both.0 (throughout_now t (AllLeave mine Now) both.0))) h;
   }
+
+  pub along_submits : (old new : State) (works : List Work) (tags : List ℕ) → SubmitsWorks old works tags new → Allows works
+      → IfSome old.told (AllLeave mine Now) → AllAlong (AllLeave mine Now) old new
+  along_submits old new works tags s bring h =
+      along_submitted old new s.os s.submits
+      (told_weaker (AllLeave mine Now) (λ t. AllLeave mine Now t × Allows (works_of s.os)) old.told
+      (λ t now. (now, subst Allows (sym s.works_are) bring)) h)
 
   flushes_bring : (disks : List ℕ) (pv sector : ℕ) → BringAt (map Flushing disks) pv sector (Now pv sector)
   flushes_bring [] pv sector = tt
@@ -179,27 +188,44 @@ module _ (mine : ℕ → ℕ → Bool) (Now : ℕ → ℕ → List ℕ → Type 
   along_starts old new [] disks view starts allowed h =
       along_submits old new (map Flushing disks) view.tags starts.0 (λ pv sector own. flushes_bring disks pv sector) h
   along_starts old new (put ∷ puts) disks view starts allowed h =
-      along_submits old new (map write_work (put ∷ puts)) view.tags starts.0
-      (λ pv sector own. bring_at_weaker (put ∷ puts) pv sector (IsWrittenBy (put ∷ puts) pv sector) (Now pv sector)
-      (λ value by. allowed pv sector value own by) (bring_written (put ∷ puts) pv sector)) h
+      let first : List Work = map write_work starts.first in
+      let rest : List Work = map write_work view.rest in
+      let parts : map write_work (put ∷ puts) ≡ first ++ rest =
+      ap (λ (l : List (Span × List (List ℕ))). map write_work l) starts.parts ∙ map-append write_work starts.first view.rest in
+      along_submits old new first view.tags starts.works
+      (λ pv sector own. bring_left first rest pv sector (Now pv sector)
+      (subst (λ (ws : List Work). BringAt ws pv sector (Now pv sector)) parts
+      (bring_at_weaker (put ∷ puts) pv sector (IsWrittenBy (put ∷ puts) pv sector) (Now pv sector)
+      (λ value by. allowed pv sector value own by) (bring_written (put ∷ puts) pv sector)))) h
 
-  -- what a batch does at a completion: nothing, or its flushes
+  -- what is known where the writes that a batch has still to submit bring only allowed values
+  abbrev pub LeavesAndAllows : View → Record → Type 0
+  LeavesAndAllows view told = AllLeave mine Now told × Allows (map write_work view.rest)
+
+  leaves_now : (state : State) (view : View) → IfSome state.told (LeavesAndAllows view) → IfSome state.told (AllLeave mine Now)
+  leaves_now state view h = told_weaker (LeavesAndAllows view) (AllLeave mine Now) state.told (λ t both. both.0) h
+
+  -- what a batch does at a completion: nothing, its next write, or its flushes
   along_follows : (old new : State) (view : View) (turn : Turn) (step : BatchStep) → Follows old view turn step new
-      → IfSome old.told (AllLeave mine Now) → AllAlong (AllLeave mine Now) old new
-  along_follows old new view Waits (Going next) f h = along_same (AllLeave mine Now) old new f.0 h
+      → IfSome old.told (LeavesAndAllows view) → AllAlong (AllLeave mine Now) old new
+  along_follows old new view Waits (Going next) f h = along_same (AllLeave mine Now) old new f.0 (leaves_now old view h)
+  along_follows old new view Writes (Going next) f h =
+      along_submitted old new (put_operation f.tag f.put ∷ []) f.submits
+      (told_weaker (LeavesAndAllows view) (λ t. AllLeave mine Now t × Allows (write_work f.put ∷ [])) old.told
+      (λ t both. (
+        both.0,
+        λ pv sector own. (
+          (subst (λ (l : List (Span × List (List ℕ))). BringAt (map write_work l) pv sector (Now pv sector)) f.next_is
+              (both.1 pv sector own)).0,
+          tt,
+        ),
+      )) h)
   along_follows old new view Flushes (Going next) f h =
-      along_submits old new (map Flushing view.flush) _ f.0 (λ pv sector own. flushes_bring view.flush pv sector) h
-  along_follows old new view IsWell Well f h = along_same (AllLeave mine Now) old new f h
-  along_follows old new view (IsLost pv) (Lost pv') f h = along_same (AllLeave mine Now) old new f.0 h
-  along_follows old new view Waits Well f h = absurd f
-  along_follows old new view Waits (Lost pv) f h = absurd f
-  along_follows old new view Flushes Well f h = absurd f
-  along_follows old new view Flushes (Lost pv) f h = absurd f
-  along_follows old new view IsWell (Going next) f h = absurd f
-  along_follows old new view IsWell (Lost pv) f h = absurd f
-  along_follows old new view (IsLost pv) (Going next) f h = absurd f
-  along_follows old new view (IsLost pv) Well f h = absurd f
+      along_submits old new (map Flushing view.flush) _ f.0 (λ pv sector own. flushes_bring view.flush pv sector) (leaves_now old view h)
+  along_follows old new view IsWell Well f h = along_same (AllLeave mine Now) old new f (leaves_now old view h)
+  along_follows old new view (IsLost pv) (Lost pv') f h = along_same (AllLeave mine Now) old new f.0 (leaves_now old view h)
+  along_follows old new view turn step f h = absurd f
 
   pub along_goes : (old new : State) (view : View) (done : Done) (step : BatchStep) → Goes old view done step new
-      → IfSome old.told (AllLeave mine Now) → AllAlong (AllLeave mine Now) old new
+      → IfSome old.told (LeavesAndAllows view) → AllAlong (AllLeave mine Now) old new
   along_goes old new view done step goes h = along_follows old new (after_done view done) (turn_of (after_done view done)) step goes h

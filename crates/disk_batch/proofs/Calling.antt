@@ -1,6 +1,7 @@
 -- What the calls of a batch and the completions of a shelf do to what a batch has made sure of.
-use Rattle.std.proofs.Common.{◌<◌, length, arith, ◌≡◌, ℕ, Bool, true, false, IsTrue, List, [], ◌∷◌, map, Option, Some, None, IfSome}
+use Rattle.std.proofs.Common.{◌<◌, length, arith, ◌≡◌, ℕ, Bool, true, false, IsTrue, List, [], ◌∷◌, ◌++◌, map, Option, Some, None, IfSome}
 use Rattle.std.proofs.Common.{option_map, refl, sym, ap, subst, ◌∙◌}
+use Rattle.std.proofs.lemmas.List.{map-append}
 use Rattle.sector_base.specs.declared.spans.Span.{Span}
 use Rattle.disk_model.specs.declared.ops.Op.{Op}
 use Rattle.disk_model.specs.declared.ops.Done.{Done}
@@ -14,13 +15,22 @@ use Rattle.disk_model.specs.Durability.{OnlyLeaves, AllLeave}
 use Rattle.disk_model.proofs.WhereTold.{told_at, told_after, told_weaker}
 use Rattle.disk_batch.specs.declared.batching.BatchStep.{BatchStep}
 use Rattle.disk_batch.specs.declared.batching.BatchStep.TheVariants.{Going, Well, Lost}
-use Rattle.disk_batch.specs.Views.{View, Turn, Waits, Flushes, IsWell, IsLost, turn_of}
+use Rattle.disk_batch.specs.Views.{View, Turn, Waits, Writes, Flushes, IsWell, IsLost, turn_of}
 use Rattle.disk_batch.specs.Writes.{write_work}
 use Rattle.disk_batch.specs.Batches.{Starts, Follows, Goes, view_of, after_done}
 use Rattle.disk_batch.specs.Rounds.{AreStill, BatchHolds, WriteTargets}
-use Rattle.disk_batch.proofs.Rounding.{batch_started, batch_elsewhere, batch_done, batch_flushes, batch_brought, batch_still}
-use Rattle.disk_model.specs.Submitting.{submitted_on}
+use Rattle.disk_batch.proofs.Rounding.{batch_started, batch_elsewhere, batch_done, batch_next, batch_flushes, batch_brought, batch_still}
+use Rattle.disk_model.specs.Record.{Operation}
+use Rattle.disk_model.specs.Submitting.{submitted_on, works_of}
+use Rattle.disk_batch.specs.Submits.{put_operation}
 use Rattle.disk_model.specs.InFlight.{IsAmong}
+
+-- what the first of some writes and the others do
+pub works_parted : (puts first rest : List (Span × List (List ℕ))) (os : List Operation) → puts ≡ first ++ rest
+    → works_of os ≡ map write_work first → map write_work puts ≡ works_of os ++ map write_work rest
+works_parted puts first rest os parts is =
+    ap (λ (l : List (Span × List (List ℕ))). map write_work l) parts ∙ map-append write_work first rest
+    ∙ ap (λ (ws : List Work). ws ++ map write_work rest) (sym is)
 
 module _ (mine target : ℕ → ℕ → Bool) (Now Goal : ℕ → ℕ → List ℕ → Type 0) where
   -- what a batch makes sure of, where the shelf tells its record
@@ -33,14 +43,16 @@ module _ (mine target : ℕ → ℕ → Bool) (Now Goal : ℕ → ℕ → List �
       → WriteTargets mine target Now Goal (map write_work (put ∷ puts))
       → IfSome old.told (λ told. AreStill mine told × AllLeave mine Now told) → Holds view new
   starts_hold old new put puts disks view starts targets h =
-      told_after (submitted_on starts.0.os) (λ told. AreStill mine told × AllLeave mine Now told) (BatchHolds mine target Now Goal view)
-      old.told new.told starts.0.submits.told
+      let os = starts.works.os in
+      told_after (submitted_on os) (λ told. AreStill mine told × AllLeave mine Now told) (BatchHolds mine target Now Goal view)
+      old.told new.told starts.works.submits.told
       (λ t is quiet.
-      subst (λ (v : View). BatchHolds mine target Now Goal v (submitted_on starts.0.os t)) (sym starts.1)
-      (subst (λ (tags : List ℕ). BatchHolds mine target Now Goal (record { tags = tags; flush = disks; flushing = false; lost = None })
-      (submitted_on starts.0.os t)) starts.0.tags_are
-      (batch_started mine target Now Goal starts.0.os disks t
-      (subst (λ (ws : List Work). WriteTargets mine target Now Goal ws) (sym starts.0.works_are) targets) quiet.0 quiet.1))) h
+      subst (λ (v : View). BatchHolds mine target Now Goal v (submitted_on os t)) (sym starts.view_is)
+      (subst (λ (tags : List ℕ). BatchHolds mine target Now Goal
+      (record { tags = tags; flush = disks; flushing = false; lost = None; rest = view.rest }) (submitted_on os t)) starts.works.tags_are
+      (batch_started mine target Now Goal os disks view.rest t
+      (subst (λ (ws : List Work). WriteTargets mine target Now Goal ws)
+      (works_parted (put ∷ puts) starts.first view.rest os starts.parts starts.works.works_are) targets) quiet.0 quiet.1))) h
 
   -- an operation of its own completes
   pub own_completes : (before mid : State) (done : Done) (view : View) → IsLawful mid → Completes before done mid → Holds view before
@@ -83,17 +95,24 @@ module _ (mine target : ℕ → ℕ → Bool) (Now Goal : ℕ → ℕ → List �
 -- which turn a view has
 abbrev pub IsTurn : View → Turn → Type 0
 IsTurn view Waits = 0 < length view.tags
-IsTurn view Flushes = (view.tags ≡ []) × (view.flushing ≡ false) × (view.lost ≡ None)
+IsTurn view Writes = view.flushing ≡ false
+IsTurn view Flushes = (view.tags ≡ []) × (view.flushing ≡ false) × (view.lost ≡ None) × (view.rest ≡ [])
 IsTurn view IsWell = (view.tags ≡ []) × (view.flushing ≡ true) × (view.lost ≡ None)
-IsTurn view (IsLost pv) = (view.tags ≡ []) × (view.lost ≡ Some pv)
+IsTurn view (IsLost pv) = (view.tags ≡ []) × (view.lost ≡ Some pv) × (view.flushing ≡ false → view.rest ≡ [])
 
-pub is_turn : (tags flush : List ℕ) (flushing : Bool) (lost : Option ℕ)
-    → IsTurn (record { tags = tags; flush = flush; flushing = flushing; lost = lost })
-    (turn_of (record { tags = tags; flush = flush; flushing = flushing; lost = lost }))
-is_turn (t ∷ ts) flush flushing lost = omega arith
-is_turn [] flush flushing (Some pv) = (refl, refl)
-is_turn [] flush true None = (refl, refl, refl)
-is_turn [] flush false None = (refl, refl, refl)
+turn_by : (tags flush : List ℕ) (flushing : Bool) (lost : Option ℕ) (rest : List (Span × List (List ℕ)))
+    → IsTurn (record { tags = tags; flush = flush; flushing = flushing; lost = lost; rest = rest })
+    (turn_of (record { tags = tags; flush = flush; flushing = flushing; lost = lost; rest = rest }))
+turn_by tags flush false lost (put ∷ puts) = refl
+turn_by (t ∷ ts) flush false lost [] = omega arith
+turn_by [] flush false (Some pv) [] = (refl, refl, λ f. refl)
+turn_by [] flush false None [] = (refl, refl, refl, refl)
+turn_by (t ∷ ts) flush true lost rest = omega arith
+turn_by [] flush true (Some pv) rest = (refl, refl, λ (f : true ≡ false). cc)
+turn_by [] flush true None rest = (refl, refl, refl)
+
+pub is_turn : (view : View) → IsTurn view (turn_of view)
+is_turn view = turn_by view.tags view.flush view.flushing view.lost view.rest
 
 module _ (mine target : ℕ → ℕ → Bool) (Now Goal : ℕ → ℕ → List ℕ → Type 0) where
   -- a batch goes on after a completion of its own
@@ -103,6 +122,13 @@ module _ (mine target : ℕ → ℕ → Bool) (Now Goal : ℕ → ℕ → List �
   follows_came old new view Waits (Going next) is among f h =
       subst (λ (s : State). Holds mine target Now Goal (view_of next) s) (sym f.0)
       (subst (λ (v : View). Holds mine target Now Goal v old) (sym f.1) h)
+  follows_came old new view Writes (Going next) is among f h =
+      let o : Operation = put_operation f.tag f.put in
+      told_after (submitted_on (o ∷ [])) (BatchHolds mine target Now Goal view) (BatchHolds mine target Now Goal (view_of next)) old.told
+      new.told f.submits.told
+      (λ t told b.
+      subst (λ (v : View). BatchHolds mine target Now Goal v (submitted_on (o ∷ []) t)) (sym f.view_is)
+      (batch_next mine target Now Goal view f.put f.puts o t f.next_is is refl b)) h
   follows_came old new view Flushes (Going next) is among f h =
       told_after (submitted_on f.0.os) (BatchHolds mine target Now Goal view) (BatchHolds mine target Now Goal (view_of next)) old.told
       new.told f.0.submits.told
@@ -110,7 +136,7 @@ module _ (mine target : ℕ → ℕ → Bool) (Now Goal : ℕ → ℕ → List �
       subst (λ (v : View). BatchHolds mine target Now Goal v (submitted_on f.0.os t)) (sym f.1)
       (subst (λ (tags : List ℕ). BatchHolds mine target Now Goal (record view { tags = tags; flushing = true }) (submitted_on f.0.os t))
       f.0.tags_are
-      (batch_flushes mine target Now Goal view f.0.os t is.0 is.1 is.2 f.0.works_are among b))) h
+      (batch_flushes mine target Now Goal view f.0.os t is.0 is.1 is.2 is.3 f.0.works_are among b))) h
   follows_came old new view IsWell Well is among f h =
       subst (λ (s : State). Came mine target Now Goal Well s) (sym f)
       (told_weaker (BatchHolds mine target Now Goal view)
@@ -121,14 +147,7 @@ module _ (mine target : ℕ → ℕ → Bool) (Now Goal : ℕ → ℕ → List �
       subst (λ (s : State). Came mine target Now Goal (Lost pv') s) (sym f.0)
       (told_weaker (BatchHolds mine target Now Goal view) (λ told. AreStill mine told × AllLeave mine Now told) old.told
       (λ t b. (batch_still mine target Now Goal view t is.0 b, b.leaves)) h)
-  follows_came old new view Waits Well is among f h = absurd f
-  follows_came old new view Waits (Lost pv) is among f h = absurd f
-  follows_came old new view Flushes Well is among f h = absurd f
-  follows_came old new view Flushes (Lost pv) is among f h = absurd f
-  follows_came old new view IsWell (Going next) is among f h = absurd f
-  follows_came old new view IsWell (Lost pv) is among f h = absurd f
-  follows_came old new view (IsLost pv) (Going next) is among f h = absurd f
-  follows_came old new view (IsLost pv) Well is among f h = absurd f
+  follows_came old new view turn step is among f h = absurd f
 
   -- a completion of its own, and what the batch does at it
   pub goes_came : (before mid new : State) (view : View) (done : Done) (step : BatchStep) → IsLawful mid
@@ -137,5 +156,5 @@ module _ (mine target : ℕ → ℕ → Bool) (Now Goal : ℕ → ℕ → List �
       → Came mine target Now Goal step new
   goes_came before mid new view done step lawful among completes goes h =
       let after = after_done view done in
-      follows_came mid new after (turn_of after) step (is_turn after.tags after.flush after.flushing after.lost) among goes
+      follows_came mid new after (turn_of after) step (is_turn after) among goes
       (own_completes mine target Now Goal before mid done view lawful completes h)

@@ -1,6 +1,6 @@
 -- What a batch that is carried out alone has done to the record, step by step.
 use Rattle.disk_batch.specs.declared.batching.Batching.{Batching}
-use Rattle.std.proofs.lemmas.List.{append-nil}
+use Rattle.std.proofs.lemmas.List.{append-nil, map-append}
 use Rattle.std.proofs.Common.{◌≡◌, ◌≤◌, ◌⊎◌, ℕ, Bool, true, false, ◌==◌, IsTrue, List, [], ◌∷◌, ◌++◌, length, map, filter, All, Option}
 use Rattle.std.proofs.Common.{Some, None, option_map, inl, inr, ⊎_elim, refl, sym, ap, subst, ◌∙◌, arith, append_assoc, ◌<◌, not}
 use Rattle.std.specs.List.{list_any}
@@ -25,7 +25,8 @@ use Rattle.disk_model.proofs.Ordered.{writes_nothing_append}
 use Rattle.disk_model.proofs.WhereTold.{told_at}
 use Rattle.disk_batch.specs.declared.batching.BatchStep.{BatchStep}
 use Rattle.disk_batch.specs.declared.batching.BatchStep.TheVariants.{Going, Well, Lost}
-use Rattle.disk_batch.specs.Views.{View, Turn, Waits, Flushes, IsWell, IsLost, turn_of, done_on}
+use Rattle.disk_batch.specs.Views.{View, Turn, Waits, Writes, Flushes, IsWell, IsLost, turn_of, done_on}
+use Rattle.disk_batch.specs.Submits.{put_operation}
 use Rattle.disk_batch.specs.Writes.{IsWrittenBy, write_work}
 use Rattle.disk_batch.specs.Batches.{Starts, Follows, view_of, after_done}
 use Rattle.disk_batch.specs.Rounds.{BatchHolds, WriteTargets}
@@ -35,8 +36,9 @@ use Rattle.disk_batch.specs.Alone.{IsOn, Turns}
 use Rattle.disk_batch.proofs.Among.{all_of_each}
 use Rattle.disk_batch.proofs.Submissions.{any_among, among_any}
 use Rattle.disk_batch.proofs.Progressing.{OnlyFlushes, only_leaves_submitted, flushes_write_nothing}
-use Rattle.disk_batch.proofs.Rounding.{batch_started, batch_done, batch_flushes, batch_brought}
-use Rattle.disk_batch.proofs.Calling.{IsTurn, is_turn}
+use Rattle.disk_batch.proofs.Rounding.{batch_started, batch_done, batch_next, batch_flushes, batch_brought}
+use Rattle.disk_batch.proofs.Calling.{IsTurn, is_turn, works_parted}
+use Rattle.disk_batch.proofs.Works.{bring_left, bring_right}
 use Rattle.disk_batch.proofs.Flushing.{flushes_done, flushes_submitted, flushes_well}
 use Rattle.disk_batch.proofs.WrittenBy.{bring_written, bring_at_weaker}
 use Rattle.disk_batch.proofs.AloneRun.{no_tags}
@@ -180,7 +182,8 @@ module _ (puts : List (Span × List (List ℕ))) (disks : List ℕ) (old : Recor
   pub record Carries (view : View) (told : Record) : Type 0 where
     pub since : List Step
     pub steps : told ≡ steps_on since old
-    pub writes : writes_submitted since ≡ puts
+    pub writes : writes_submitted since ++ view.rest ≡ puts
+    pub all_submitted : view.flushing ≡ true → view.rest ≡ []
     pub reads : spans_read since ≡ []
     pub flush : view.flush ≡ disks
     pub leaves : AllLeave everywhere Allowed told
@@ -206,24 +209,28 @@ module _ (puts : List (Span × List (List ℕ))) (disks : List ℕ) (old : Recor
   leaves_old pv sector own = record { each = λ write value may. inl (write, may) }
 
   -- it starts
-  pub carries_started : (os : List Operation) → works_of os ≡ map write_work puts → in_flight_after old.steps ≡ []
-      → Carries (record { tags = tags_of os; flush = disks; flushing = false; lost = None }) (submitted_on os old)
-  carries_started os e idle =
+  pub carries_started : (os : List Operation) (first rest : List (Span × List (List ℕ))) → puts ≡ first ++ rest
+      → works_of os ≡ map write_work first → in_flight_after old.steps ≡ []
+      → Carries (record { tags = tags_of os; flush = disks; flushing = false; lost = None; rest = rest }) (submitted_on os old)
+  carries_started os first rest parts e idle =
+      let works : map write_work puts ≡ works_of os ++ map write_work rest = works_parted puts first rest os parts e in
       let bring : (pv sector : ℕ) → BringAt (works_of os) pv sector (Allowed pv sector) =
-      λ pv sector. subst (λ (ws : List Work). BringAt ws pv sector (Allowed pv sector)) (sym e) (bring_allowed pv sector) in
+      λ pv sector. bring_left (works_of os) (map write_work rest) pv sector (Allowed pv sector)
+      (subst (λ (ws : List Work). BringAt ws pv sector (Allowed pv sector)) works (bring_allowed pv sector)) in
       record {
         since = submissions os;
         steps = submitted_steps os old;
-        writes = writes_of_submissions os puts e;
-        reads = reads_of_writes os puts e;
+        writes = ap (λ (l : List (Span × List (List ℕ))). l ++ rest) (writes_of_submissions os first e) ∙ sym parts;
+        all_submitted = λ (f : false ≡ true). cc;
+        reads = reads_of_writes os first e;
         flush = refl;
         leaves = λ pv sector own. only_leaves_submitted os old pv sector (Allowed pv sector) (bring pv sector) (leaves_old pv sector own);
         so_far =
             leaves_throughout everywhere Allowed os old (length old.steps) (λ pv sector own. bring pv sector) leaves_old
             (throughout_now old (AllLeave everywhere Allowed) leaves_old);
         holds =
-            batch_started of_disks written Allowed (IsWrittenBy puts) os disks old
-            (subst (λ (ws : List Work). WriteTargets of_disks written Allowed (IsWrittenBy puts) ws) (sym e) targets)
+            batch_started of_disks written Allowed (IsWrittenBy puts) os disks rest old
+            (subst (λ (ws : List Work). WriteTargets of_disks written Allowed (IsWrittenBy puts) ws) works targets)
             (λ pv sector own o a w. absurd (subst (λ (l : List Operation). IsIn l o) idle a)) (λ pv sector own. leaves_old pv sector refl);
         well = λ none. well_submissions os;
         flushes = λ none (f : false ≡ true). cc;
@@ -244,6 +251,7 @@ module _ (puts : List (Span × List (List ℕ))) (disks : List ℕ) (old : Recor
         since = step ∷ h.since;
         steps = ap (step_on step) h.steps;
         writes = h.writes;
+        all_submitted = h.all_submitted;
         reads = h.reads;
         flush = h.flush;
         leaves = leaves_done told tag work true fresh h.leaves;
@@ -272,6 +280,7 @@ module _ (puts : List (Span × List (List ℕ))) (disks : List ℕ) (old : Recor
         since = step ∷ h.since;
         steps = ap (step_on step) h.steps;
         writes = h.writes;
+        all_submitted = h.all_submitted;
         reads = h.reads;
         flush = h.flush;
         leaves = leaves_done told tag work false fresh h.leaves;
@@ -283,12 +292,50 @@ module _ (puts : List (Span × List (List ℕ))) (disks : List ℕ) (old : Recor
         flushes = λ (e : Some disk ≡ None) f. cc;
       }
 
+  -- the next of its writes to come is submitted
+  pub carries_next : (view : View) (put : Span × List (List ℕ)) (more : List (Span × List (List ℕ))) (tag : ℕ) (told : Record)
+      → view.rest ≡ put ∷ more → view.flushing ≡ false → Carries view told
+      → Carries (record view { tags = view.tags ++ tag ∷ []; rest = more }) (submitted_on (put_operation tag put ∷ []) told)
+  carries_next view put more tag told first writing h =
+      let o : Operation = put_operation tag put in
+      let so_far : List (Span × List (List ℕ)) = writes_submitted h.since in
+      let parts : puts ≡ so_far ++ put ∷ more = sym h.writes ∙ ap (λ (l : List (Span × List (List ℕ))). so_far ++ l) first in
+      let bring : (pv sector : ℕ) → BringAt (works_of (o ∷ [])) pv sector (Allowed pv sector) =
+      λ pv sector. (
+        (bring_right (map write_work so_far) (map write_work (put ∷ more)) pv sector (Allowed pv sector)
+            (subst (λ (ws : List Work). BringAt ws pv sector (Allowed pv sector))
+            (ap (λ (l : List (Span × List (List ℕ))). map write_work l) parts ∙ map-append write_work so_far (put ∷ more))
+            (bring_allowed pv sector))).0,
+        tt,
+      ) in
+      record {
+        since = submissions (o ∷ []) ++ h.since;
+        steps = steps_joined old told (submitted_on (o ∷ []) told) h.since (submissions (o ∷ [])) h.steps refl;
+        writes = append_assoc so_far (put ∷ []) more ∙ sym parts;
+        all_submitted = λ f. absurd (let e : false ≡ true = sym writing ∙ f in cc);
+        reads = h.reads;
+        flush = h.flush;
+        leaves =
+            λ pv sector own. only_leaves_submitted (o ∷ []) told pv sector (Allowed pv sector) (bring pv sector) (h.leaves pv sector own);
+        so_far =
+            leaves_throughout everywhere Allowed (o ∷ []) told (length old.steps) (λ pv sector own. bring pv sector) h.leaves h.so_far;
+        holds = batch_next of_disks written Allowed (IsWrittenBy puts) view put more o told first writing refl h.holds;
+        well = λ e. h.well e;
+        flushes = λ e f. absurd (let d : false ≡ true = sym writing ∙ f in cc);
+      }
+
+  -- once all are submitted, these are all
+  pub all_writes : (view : View) (told : Record) → view.rest ≡ [] → (h : Carries view told) → writes_submitted h.since ≡ puts
+  all_writes view told over h =
+      sym (append-nil (writes_submitted h.since))
+      ∙ ap (λ (l : List (Span × List (List ℕ))). writes_submitted h.since ++ l) (sym over) ∙ h.writes
+
   -- its flushes are submitted
   pub carries_flushes : (view : View) (os : List Operation) (told : Record) (from : ℕ) → view.tags ≡ [] → view.flushing ≡ false
-      → view.lost ≡ None → OnlyFlushes os view.flush
+      → view.lost ≡ None → view.rest ≡ [] → OnlyFlushes os view.flush
       → in_flight_after told.steps ≡ [] → IsNewTag from told.steps → All (λ (o : Operation). from ≤ o.tag) os → Carries view told
       → Carries (record view { tags = tags_of os; flushing = true }) (submitted_on os told)
-  carries_flushes view os told from none writing well only idle new_tags fresh h =
+  carries_flushes view os told from none writing well over only idle new_tags fresh h =
       let quiet = nothing_of_flushes os view.flush only in
       let bring : (pv sector : ℕ) → BringAt (works_of os) pv sector (Allowed pv sector) =
       λ pv sector. (flushes_write_nothing os view.flush pv sector (Allowed pv sector) only).0 in
@@ -296,9 +343,11 @@ module _ (puts : List (Span × List (List ℕ))) (disks : List ℕ) (old : Recor
         since = submissions os ++ h.since;
         steps = steps_joined old told (submitted_on os told) h.since (submissions os) h.steps (submitted_steps os told);
         writes =
-            writes_submitted-append (submissions os) h.since
+            ap (λ (l : List (Span × List (List ℕ))). l ++ view.rest)
+            (writes_submitted-append (submissions os) h.since
             ∙ ap (λ (l : List (Span × List (List ℕ))). writes_submitted h.since ++ l) (writes_of_nothing (submissions os) quiet)
-            ∙ append-nil (writes_submitted h.since) ∙ h.writes;
+            ∙ append-nil (writes_submitted h.since)) ∙ h.writes;
+        all_submitted = λ f. over;
         reads =
             spans_read-append (submissions os) h.since
             ∙ ap (λ (l : List Span). spans_read h.since ++ l) (reads_of_flushes os view.flush only) ∙ append-nil (spans_read h.since)
@@ -307,14 +356,14 @@ module _ (puts : List (Span × List (List ℕ))) (disks : List ℕ) (old : Recor
         leaves = λ pv sector own. only_leaves_submitted os told pv sector (Allowed pv sector) (bring pv sector) (h.leaves pv sector own);
         so_far = leaves_throughout everywhere Allowed os told (length old.steps) (λ pv sector own. bring pv sector) h.leaves h.so_far;
         holds =
-            batch_flushes of_disks written Allowed (IsWrittenBy puts) view os told none writing well only
+            batch_flushes of_disks written Allowed (IsWrittenBy puts) view os told none writing well over only
             (λ pv sector own aim. subst (λ (l : List ℕ). IsAmong l pv) (sym h.flush) (any_among disks pv own)) h.holds;
         well = λ e. well_append (submissions os) h.since (well_submissions os) (h.well e);
         flushes = λ e f. record {
           newer = submissions os;
           older = h.since;
           parts = refl;
-          writes = h.writes;
+          writes = all_writes view told over h;
           settled = subst (λ (t : Record). in_flight_after t.steps ≡ []) h.steps idle;
           quiet = quiet;
           from = from;
@@ -324,30 +373,31 @@ module _ (puts : List (Span × List (List ℕ))) (disks : List ℕ) (old : Recor
       }
 
   -- it is over: what a read gives
-  now_of : (view : View) (told : Record) → IsRecord told.steps → in_flight_after old.steps ≡ [] → Carries view told → (pv sector : ℕ)
+  now_of : (view : View) (told : Record) → view.rest ≡ [] → IsRecord told.steps → in_flight_after old.steps ≡ [] → Carries view told
+      → (pv sector : ℕ)
       → (now_after told.opened told.steps pv sector ≡ now_after old.opened old.steps pv sector)
       ⊎ IsWrittenBy puts pv sector (now_after told.opened told.steps pv sector)
-  now_of view told is idle h pv sector =
+  now_of view told over is idle h pv sector =
       subst (λ (t : Record). (now_after t.opened t.steps pv sector ≡ now_after old.opened old.steps pv sector)
       ⊎ IsWrittenBy puts pv sector (now_after t.opened t.steps pv sector)) (sym h.steps)
       (now_kept_or_brought old.opened old.steps idle pv sector (IsWrittenBy puts pv sector) h.since
       (subst (λ (t : Record). IsRecord t.steps) h.steps is)
-      (subst (λ (ws : List (Span × List (List ℕ))). StepsBring h.since pv sector (IsWrittenBy ws pv sector)) h.writes
+      (subst (λ (ws : List (Span × List (List ℕ))). StepsBring h.since pv sector (IsWrittenBy ws pv sector)) (all_writes view told over h)
       (steps_bring_written h.since pv sector)))
 
-  now_written : (view : View) (told : Record) → IsRecord told.steps → in_flight_after old.steps ≡ [] → in_flight_after told.steps ≡ []
-      → view.lost ≡ None → Carries view told → (pv sector : ℕ) → IsTrue (written pv sector)
+  now_written : (view : View) (told : Record) → view.rest ≡ [] → IsRecord told.steps → in_flight_after old.steps ≡ []
+      → in_flight_after told.steps ≡ [] → view.lost ≡ None → Carries view told → (pv sector : ℕ) → IsTrue (written pv sector)
       → IsWrittenBy puts pv sector (now_after told.opened told.steps pv sector)
-  now_written view told is idle over well h pv sector here =
+  now_written view told all is idle over well h pv sector here =
       subst (λ (t : Record). IsWrittenBy puts pv sector (now_after t.opened t.steps pv sector)) (sym h.steps)
       (now_brought old.opened old.steps idle pv sector (IsWrittenBy puts pv sector) h.since
       (subst (λ (t : Record). IsRecord t.steps) h.steps is)
       (subst (λ (t : Record). in_flight_after t.steps ≡ []) h.steps over)
-      (subst (λ (ws : List (Span × List (List ℕ))). StepsBring h.since pv sector (IsWrittenBy ws pv sector)) h.writes
+      (subst (λ (ws : List (Span × List (List ℕ))). StepsBring h.since pv sector (IsWrittenBy ws pv sector)) (all_writes view told all h)
       (steps_bring_written h.since pv sector))
       (h.well well)
       (one_brings h.since pv sector (subst (λ (ws : List (Span × List (List ℕ))). IsTrue (writes_at (map write_work ws) pv sector))
-      (sym h.writes) here)))
+      (sym (all_writes view told all h)) here)))
 
   -- and which disks were flushed
   flushed_last : (view : View) (told : Record) → IsRecord told.steps → IsTurn view IsWell → (h : Carries view told)
@@ -376,26 +426,26 @@ module _ (puts : List (Span × List (List ℕ))) (disks : List ℕ) (old : Recor
   carried_well view told is idle over turn h = record {
     since = h.since;
     steps = h.steps;
-    writes = h.writes;
+    writes = all_writes view told (h.all_submitted turn.1) h;
     reads = h.reads;
     adds = λ moment from until pv sector. h.so_far moment from until pv sector refl;
-    now = now_of view told is idle h;
-    written = λ ok. now_written view told is idle over turn.2 h;
+    now = now_of view told (h.all_submitted turn.1) is idle h;
+    written = λ ok. now_written view told (h.all_submitted turn.1) is idle over turn.2 h;
     lasting =
         λ ok pv sector aim among. batch_brought of_disks written Allowed (IsWrittenBy puts) view told turn.0 turn.1 turn.2 h.holds pv sector
         (among_any disks pv among) aim;
     flushes = λ ok. flushed_last view told is turn h;
   }
 
-  pub carried_lost : (view : View) (told : Record) → IsRecord told.steps → in_flight_after old.steps ≡ [] → Carries view told
-      → WritesAll old puts disks false told
-  carried_lost view told is idle h = record {
+  pub carried_lost : (view : View) (told : Record) → view.rest ≡ [] → IsRecord told.steps → in_flight_after old.steps ≡ []
+      → Carries view told → WritesAll old puts disks false told
+  carried_lost view told over is idle h = record {
     since = h.since;
     steps = h.steps;
-    writes = h.writes;
+    writes = all_writes view told over h;
     reads = h.reads;
     adds = λ moment from until pv sector. h.so_far moment from until pv sector refl;
-    now = now_of view told is idle h;
+    now = now_of view told over is idle h;
     written = λ (e : IsTrue false). cc;
     lasting = λ (e : IsTrue false). cc;
     flushes = λ (e : IsTrue false). cc;
@@ -405,13 +455,26 @@ module _ (puts : List (Span × List (List ℕ))) (disks : List ℕ) (old : Recor
   abbrev pub CarriesOn : BatchStep → Record → Type 0
   CarriesOn (Going next) told = Carries (view_of next) told
   CarriesOn Well told = (view : View) × IsTurn view IsWell × Carries view told
-  CarriesOn (Lost pv) told = (view : View) × Carries view told
+  CarriesOn (Lost pv) told = (view : View) × (view.rest ≡ []) × Carries view told
+
+  -- none is to come where an operation was lost and nothing is in flight
+  lost_over : (view : View) (told : Record) (flushing : Bool) → view.flushing ≡ flushing → (view.flushing ≡ false → view.rest ≡ [])
+      → Carries view told → view.rest ≡ []
+  lost_over view told true e writing h = h.all_submitted e
+  lost_over view told false e writing h = writing e
 
   follows_carries : (mid new : State) (view : View) (turn : Turn) (step : BatchStep) (told : Record) → IsTurn view turn → IsLawful mid
       → tags_of mid.in_flight ≡ view.tags → Follows mid view turn step new → mid.told ≡ Some told → Carries view told
       → (u : Record) × (new.told ≡ Some u) × CarriesOn step u
   follows_carries mid new view Waits (Going next) told is lawful tags f e h =
       (told, ap (λ (s : State). s.told) f.0 ∙ e, subst (λ (v : View). Carries v told) (sym f.1) h)
+  follows_carries mid new view Writes (Going next) told is lawful tags f e h =
+      let os : List Operation = put_operation f.tag f.put ∷ [] in (
+        submitted_on os told,
+        f.submits.told ∙ ap (option_map (submitted_on os)) e,
+        subst (λ (v : View). Carries v (submitted_on os told)) (sym f.view_is)
+            (carries_next view f.put f.puts f.tag told f.next_is is h),
+      )
   follows_carries mid new view Flushes (Going next) told is lawful tags f e h =
       let idle : in_flight_after told.steps ≡ [] =
       sym (told_at (λ t. mid.in_flight ≡ in_flight_after t.steps) mid.told told lawful.in_flight e)
@@ -421,18 +484,15 @@ module _ (puts : List (Span × List (List ℕ))) (disks : List ℕ) (old : Recor
         f.0.submits.told ∙ ap (option_map (submitted_on f.0.os)) e,
         subst (λ (v : View). Carries v (submitted_on f.0.os told)) (sym f.1)
             (subst (λ (tags : List ℕ). Carries (record view { tags = tags; flushing = true }) (submitted_on f.0.os told)) f.0.tags_are
-            (carries_flushes view f.0.os told mid.next_tag is.0 is.1 is.2 f.0.works_are idle new_tags f.0.submits.fresh h)),
+            (carries_flushes view f.0.os told mid.next_tag is.0 is.1 is.2 is.3 f.0.works_are idle new_tags f.0.submits.fresh h)),
       )
   follows_carries mid new view IsWell Well told is lawful tags f e h = (told, ap (λ (s : State). s.told) f ∙ e, (view, is, h))
-  follows_carries mid new view (IsLost pv) (Lost pv') told is lawful tags f e h = (told, ap (λ (s : State). s.told) f.0 ∙ e, (view, h))
-  follows_carries mid new view Waits Well told is lawful tags f e h = absurd f
-  follows_carries mid new view Waits (Lost pv) told is lawful tags f e h = absurd f
-  follows_carries mid new view Flushes Well told is lawful tags f e h = absurd f
-  follows_carries mid new view Flushes (Lost pv) told is lawful tags f e h = absurd f
-  follows_carries mid new view IsWell (Going next) told is lawful tags f e h = absurd f
-  follows_carries mid new view IsWell (Lost pv) told is lawful tags f e h = absurd f
-  follows_carries mid new view (IsLost pv) (Going next) told is lawful tags f e h = absurd f
-  follows_carries mid new view (IsLost pv) Well told is lawful tags f e h = absurd f
+  follows_carries mid new view (IsLost pv) (Lost pv') told is lawful tags f e h = (
+    told,
+    ap (λ (s : State). s.told) f.0 ∙ e,
+    (view, lost_over view told view.flushing refl is.2 h, h),
+  )
+  follows_carries mid new view turn step told is lawful tags f e h = absurd f
 
 -- where the shelf tells its record
 abbrev pub CarriesTold : List (Span × List (List ℕ)) → List ℕ → BatchStep → Option Record → Option Record → Type 0
@@ -453,13 +513,16 @@ module _ (puts : List (Span × List (List ℕ))) (disks : List ℕ) where
           → (u : Record) × (new.told ≡ Some u) × CarriesOn ps disks t (Going batching) u
       by_puts [] starts some = absurd (omega arith)
       by_puts (p ∷ ps) starts some =
-          let os = starts.0.os in (
+          let os = starts.works.os in
+          let rest = (view_of batching).rest in (
             submitted_on os t,
-            starts.0.submits.told ∙ ap (option_map (submitted_on os)) e,
-            subst (λ (v : View). Carries (p ∷ ps) disks t v (submitted_on os t)) (sym starts.1)
-                (subst (λ (tags : List ℕ). Carries (p ∷ ps) disks t (record { tags = tags; flush = disks; flushing = false; lost = None })
-                (submitted_on os t)) starts.0.tags_are
-                (carries_started (p ∷ ps) disks t os starts.0.works_are (idle_record old t lawful idle e))),
+            starts.works.submits.told ∙ ap (option_map (submitted_on os)) e,
+            subst (λ (v : View). Carries (p ∷ ps) disks t v (submitted_on os t)) (sym starts.view_is)
+                (subst (λ (tags : List ℕ). Carries (p ∷ ps) disks t
+                (record { tags = tags; flush = disks; flushing = false; lost = None; rest = rest }) (submitted_on os t))
+                starts.works.tags_are
+                (carries_started (p ∷ ps) disks t os starts.first rest starts.parts starts.works.works_are
+                (idle_record old t lawful idle e))),
           )
 
   pub turns_carries : (first before mid new : State) (step next : BatchStep) (done : Done) → IsLawful mid → IsOn step before
@@ -472,7 +535,7 @@ module _ (puts : List (Span × List (List ℕ))) (disks : List ℕ) where
       let is : IsRecord (step_on step u.0).steps = told_at (λ s. IsRecord s.steps) mid.told (step_on step u.0) lawful.follows told in
       let after : View = after_done (view_of b) done in
       follows_carries puts disks t mid new after (turn_of after) next (step_on step u.0)
-      (is_turn after.tags after.flush after.flushing after.lost) lawful
+      (is_turn after) lawful
       (ap (λ (l : List Operation). tags_of l) completes.in_flight ∙ tags_left before.in_flight done.tag
       ∙ ap (λ (l : List ℕ). filter (λ (n : ℕ). not (n == done.tag)) l) on.0) goes told
       (carries_done puts disks t (view_of b) u.0 done.tag (disk_of done.op) (work_of done.op) done.well completes.told.0 is u.2)
@@ -498,4 +561,4 @@ module _ (puts : List (Span × List (List ℕ))) (disks : List ℕ) where
   ends_lost old new pv lawful lawful' idle h t e =
       let u = h t e in
       let is : IsRecord u.0.steps = told_at (λ s. IsRecord s.steps) new.told u.0 lawful'.follows u.1 in
-      (u.0, u.1, carried_lost puts disks t u.2.0 u.0 is (idle_record old t lawful idle e) u.2.1)
+      (u.0, u.1, carried_lost puts disks t u.2.0 u.0 u.2.1 is (idle_record old t lawful idle e) u.2.2)

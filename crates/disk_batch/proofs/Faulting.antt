@@ -8,7 +8,7 @@ use Rattle.disk_model.specs.Calls.{Completes}
 use Rattle.disk_model.specs.State.{State}
 use Rattle.disk_batch.specs.declared.batching.BatchStep.{BatchStep}
 use Rattle.disk_batch.specs.declared.batching.BatchStep.TheVariants.{Going, Well, Lost}
-use Rattle.disk_batch.specs.Views.{View, Turn, Waits, Flushes, IsWell, IsLost, turn_of}
+use Rattle.disk_batch.specs.Views.{View, Turn, Waits, Writes, Flushes, IsWell, IsLost, turn_of}
 use Rattle.disk_batch.specs.Submits.{SubmitsWorks}
 use Rattle.disk_batch.specs.Batches.{Starts, Follows, Goes, view_of, after_done}
 use Rattle.disk_batch.specs.Faults.{FaultsSince, FaultsAlone}
@@ -72,6 +72,13 @@ follows_faults : (faults : ℕ → ℕ) (old new : State) (view : View) (turn : 
 follows_faults faults old new view Waits (Going next) is f h =
     subst (λ (s : State). FaultsSince faults (view_of next).lost s) (sym f.0)
     (subst (λ (l : Option ℕ). FaultsSince faults l old) (sym (ap (λ (v : View). v.lost) f.1)) h)
+follows_faults faults old new view Writes (Going next) is f h =
+    let same : (pv : ℕ) → new.faults pv ≡ old.faults pv = λ pv. ap (λ (g : ℕ → ℕ). g pv) f.submits.faults in
+    subst (λ (l : Option ℕ). FaultsSince faults l new) (sym (ap (λ (v : View). v.lost) f.view_is))
+    (record {
+      rise = λ pv. omega (arith, same pv, h.rise pv);
+      lost_rose = λ pv is. omega (arith, same pv, h.lost_rose pv is);
+    })
 follows_faults faults old new view Flushes (Going next) is f h =
     subst (λ (l : Option ℕ). FaultsSince faults l new) (sym (ap (λ (v : View). v.lost) f.1))
     (faults_submitted faults old new _ _ view.lost f.0 h)
@@ -80,20 +87,13 @@ follows_faults faults old new view IsWell Well is f h =
 follows_faults faults old new view (IsLost pv) (Lost pv') is f h =
     subst (λ (s : State). FaultsSince faults (Some pv') s) (sym f.0)
     (subst (λ (l : Option ℕ). FaultsSince faults l old) (is.1 ∙ ap (λ (n : ℕ). Some n) (sym f.1)) h)
-follows_faults faults old new view Waits Well is f h = absurd f
-follows_faults faults old new view Waits (Lost pv) is f h = absurd f
-follows_faults faults old new view Flushes Well is f h = absurd f
-follows_faults faults old new view Flushes (Lost pv) is f h = absurd f
-follows_faults faults old new view IsWell (Going next) is f h = absurd f
-follows_faults faults old new view IsWell (Lost pv) is f h = absurd f
-follows_faults faults old new view (IsLost pv) (Going next) is f h = absurd f
-follows_faults faults old new view (IsLost pv) Well is f h = absurd f
+follows_faults faults old new view turn step is f h = absurd f
 
 pub faults_go : (faults : ℕ → ℕ) (before mid new : State) (view : View) (done : Done) (step : BatchStep) → Completes before done mid
     → Goes mid view done step new → FaultsSince faults view.lost before → FaultsSince faults (lost_of step) new
 faults_go faults before mid new view done step completes goes h =
     let after = after_done view done in
-    follows_faults faults mid new after (turn_of after) step (is_turn after.tags after.flush after.flushing after.lost) goes
+    follows_faults faults mid new after (turn_of after) step (is_turn after) goes
     (faults_done faults before mid done view completes h)
 
 -- where nothing else is in flight
@@ -109,17 +109,12 @@ same_after : (old new : State) (view : View) (turn : Turn) (step : BatchStep) �
     → lost_of step ≡ None → (view.lost ≡ None) × ((pv : ℕ) → new.faults pv ≡ old.faults pv)
 same_after old new view Waits (Going next) is f none =
     (sym (ap (λ (v : View). v.lost) f.1) ∙ none, λ pv. ap (λ (s : State). s.faults pv) f.0)
+same_after old new view Writes (Going next) is f none =
+    (sym (ap (λ (v : View). v.lost) f.view_is) ∙ none, λ pv. ap (λ (g : ℕ → ℕ). g pv) f.submits.faults)
 same_after old new view Flushes (Going next) is f none = (is.2, λ pv. ap (λ (g : ℕ → ℕ). g pv) f.0.submits.faults)
 same_after old new view IsWell Well is f none = (is.2, λ pv. ap (λ (s : State). s.faults pv) f)
 same_after old new view (IsLost pv) (Lost pv') is f none = absurd (let z : Some pv' ≡ None = none in cc)
-same_after old new view Waits Well is f none = absurd f
-same_after old new view Waits (Lost pv) is f none = absurd f
-same_after old new view Flushes Well is f none = absurd f
-same_after old new view Flushes (Lost pv) is f none = absurd f
-same_after old new view IsWell (Going next) is f none = absurd f
-same_after old new view IsWell (Lost pv) is f none = absurd f
-same_after old new view (IsLost pv) (Going next) is f none = absurd f
-same_after old new view (IsLost pv) Well is f none = absurd f
+same_after old new view turn step is f none = absurd f
 
 pub turns_faults : (old before mid new : State) (step next : BatchStep) (done : Done) → Completes before done mid
     → Turns mid step done next new → FaultsAlone old (lost_of step) before → FaultsAlone old (lost_of next) new
@@ -127,7 +122,7 @@ turns_faults old before mid new (Going b) next done completes goes h =
     let after : View = after_done (view_of b) done in (
       faults_go old.faults before mid new (view_of b) done next completes goes h.0,
       λ none pv.
-          let a = same_after mid new after (turn_of after) next (is_turn after.tags after.flush after.flushing after.lost) goes none in
+          let a = same_after mid new after (turn_of after) next (is_turn after) goes none in
           let b' = none_lost (view_of b).lost before mid (disk_of done.op) done.well completes.faults a.0 in
           a.1 pv ∙ b'.1 pv ∙ h.1 b'.0 pv,
     )
@@ -138,7 +133,7 @@ turns_faults old before mid new (Lost pv) next done completes goes h = absurd go
 starts_lost : (old new : State) (puts : List (Span × List (List ℕ))) (disks : List ℕ) (view : View) → Starts old puts disks view new
     → (view.lost ≡ None) × (new.faults ≡ old.faults)
 starts_lost old new [] disks view starts = (ap (λ (v : View). v.lost) starts.1, starts.0.submits.faults)
-starts_lost old new (put ∷ puts) disks view starts = (ap (λ (v : View). v.lost) starts.1, starts.0.submits.faults)
+starts_lost old new (put ∷ puts) disks view starts = (ap (λ (v : View). v.lost) starts.view_is, starts.works.submits.faults)
 
 pub faults_start : (old new : State) (puts : List (Span × List (List ℕ))) (disks : List ℕ) (view : View) → Starts old puts disks view new
     → FaultsAlone old view.lost new

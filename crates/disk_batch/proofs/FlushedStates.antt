@@ -16,7 +16,8 @@ use Rattle.disk_batch.specs.declared.batching.BatchStep.TheVariants.{Going, Well
 use Rattle.disk_batch.specs.declared.batching.Batching.{Batching}
 use Rattle.disk_batch.specs.Batches.{Follows, Goes, Starts, after_done, view_of}
 use Rattle.disk_batch.specs.Flushed.{FlushesSince, HasFlushedSince}
-use Rattle.disk_batch.specs.Views.{View, Turn, Waits, Flushes, IsWell, IsLost, turn_of}
+use Rattle.disk_batch.specs.Submits.{put_operation}
+use Rattle.disk_batch.specs.Views.{View, Turn, Waits, Writes, Flushes, IsWell, IsLost, turn_of}
 use Rattle.disk_batch.proofs.Among.{all_of_each}
 use Rattle.disk_batch.proofs.Calling.{IsTurn, is_turn}
 use Rattle.disk_batch.proofs.Flushing.{flushes_done, flushes_later, flushes_submitted, flushes_well}
@@ -37,10 +38,11 @@ module _ (from pv : ℕ) where
       → Starts old puts disks view new → FlushingHolds view new
   starts_flushing old new [] disks view some starts = absurd (omega arith)
   starts_flushing old new (put ∷ puts) disks view some starts =
-      let later : view.flushing ≡ false = ap (λ (v : View). v.flushing) starts.1 in
-      subst (λ (o : Option Record). IfSome o (λ told. FlushesSince view told from pv)) (sym starts.0.submits.told)
-      (told_map (submitted_on starts.0.os) (λ told. FlushesSince view told from pv) old.told
-      (λ t is. flushes_later view (submitted_on starts.0.os t) from pv later))
+      let later : view.flushing ≡ false = ap (λ (v : View). v.flushing) starts.view_is in
+      let os = starts.works.os in
+      subst (λ (o : Option Record). IfSome o (λ told. FlushesSince view told from pv)) (sym starts.works.submits.told)
+      (told_map (submitted_on os) (λ told. FlushesSince view told from pv) old.told
+      (λ t is. flushes_later view (submitted_on os t) from pv later))
 
   -- an operation of its own completes
   flushing_done : (before mid : State) (done : Done) (view : View) → IsLawful mid → Completes before done mid → FlushingHolds view before
@@ -65,6 +67,12 @@ module _ (from pv : ℕ) where
       → IsAmong view.flush pv → Follows old view turn step new → FlushingHolds view old → FlushingCame step new
   flushing_follows old new view Waits (Going next) is since among f h =
       subst (λ (s : State). FlushingHolds (view_of next) s) (sym f.0) (subst (λ (v : View). FlushingHolds v old) (sym f.1) h)
+  flushing_follows old new view Writes (Going next) is since among f h =
+      let later : (view_of next).flushing ≡ false = ap (λ (v : View). v.flushing) f.view_is ∙ is in
+      let os : List Operation = put_operation f.tag f.put ∷ [] in
+      subst (λ (o : Option Record). IfSome o (λ told. FlushesSince (view_of next) told from pv)) (sym f.submits.told)
+      (told_map (submitted_on os) (λ told. FlushesSince (view_of next) told from pv) old.told
+      (λ t told. flushes_later (view_of next) (submitted_on os t) from pv later))
   flushing_follows old new view Flushes (Going next) is since among f h =
       let os : List Operation = f.0.os in
       let fresh : All (λ (o : Operation). from ≤ o.tag) os =
@@ -80,21 +88,14 @@ module _ (from pv : ℕ) where
       (told_weaker (λ told. FlushesSince view told from pv) (λ told. HasFlushedSince from pv told.steps) old.told
       (λ t b. flushes_well view t from pv is.0 is.1 is.2 b) h)
   flushing_follows old new view (IsLost disk) (Lost disk') is since among f h = tt
-  flushing_follows old new view Waits Well is since among f h = absurd f
-  flushing_follows old new view Waits (Lost disk) is since among f h = absurd f
-  flushing_follows old new view Flushes Well is since among f h = absurd f
-  flushing_follows old new view Flushes (Lost disk) is since among f h = absurd f
-  flushing_follows old new view IsWell (Going next) is since among f h = absurd f
-  flushing_follows old new view IsWell (Lost disk) is since among f h = absurd f
-  flushing_follows old new view (IsLost disk) (Going next) is since among f h = absurd f
-  flushing_follows old new view (IsLost disk) Well is since among f h = absurd f
+  flushing_follows old new view turn step is since among f h = absurd f
 
   -- a completion of its own, and what the batch does at it
   pub goes_flushing : (before mid new : State) (view : View) (done : Done) (step : BatchStep) → IsLawful mid → from ≤ mid.next_tag
       → IsAmong view.flush pv → Completes before done mid → Goes mid view done step new → FlushingHolds view before → FlushingCame step new
   goes_flushing before mid new view done step lawful since among completes goes h =
       let after : View = after_done view done in
-      flushing_follows mid new after (turn_of after) step (is_turn after.tags after.flush after.flushing after.lost) since among goes
+      flushing_follows mid new after (turn_of after) step (is_turn after) since among goes
       (flushing_done before mid done view lawful completes h)
 
 -- the batch flushes the same disks
@@ -106,6 +107,7 @@ KeepsFlush flush (Lost pv) = Unit {0}
 follows_flush : (old new : State) (view : View) (turn : Turn) (next : Batching) → Follows old view turn (Going next) new
     → (view_of next).flush ≡ view.flush
 follows_flush old new view Waits next f = ap (λ (v : View). v.flush) f.1
+follows_flush old new view Writes next f = ap (λ (v : View). v.flush) f.view_is
 follows_flush old new view Flushes next f = ap (λ (v : View). v.flush) f.1
 follows_flush old new view IsWell next f = absurd f
 follows_flush old new view (IsLost pv) next f = absurd f

@@ -13,20 +13,21 @@ use Rattle.disk_model.proofs.EveryMoment.{drop_newer}
 use Rattle.disk_batch.specs.declared.batching.Batching.{Batching}
 use Rattle.disk_batch.specs.declared.batching.BatchStep.{BatchStep}
 use Rattle.disk_batch.specs.declared.batching.BatchStep.TheVariants.{Going, Well, Lost}
-use Rattle.disk_batch.specs.Views.{View, Turn, Waits, Flushes, IsWell, IsLost, turn_of}
+use Rattle.disk_batch.specs.Views.{View, Turn, Waits, Writes, Flushes, IsWell, IsLost, sectors_to_come, to_come, turn_of}
 use Rattle.disk_batch.specs.Writes.{write_work, span_count}
-use Rattle.disk_batch.specs.Views.{to_come}
-use Rattle.disk_batch.specs.Batches.{Starts, Follows, view_of, after_done}
-use Rattle.disk_batch.specs.Alone.{Turns, steps_to_come}
+use Rattle.disk_batch.specs.Submits.{put_operation}
+use Rattle.disk_batch.specs.Batches.{Starts, StartsWrites, Follows, view_of, after_done}
+use Rattle.disk_batch.specs.Alone.{Turns, sectors_ahead, steps_to_come}
 use Rattle.disk_batch.proofs.Calling.{IsTurn, is_turn}
+use Rattle.disk_batch.proofs.Fitting.{next_uses}
 use Rattle.disk_model.specs.Submitting.{works_of}
 use Rattle.disk_model.specs.Moments.{Throughout}
 
 -- what a batch has used up so far, with the submissions to come, and how many steps it takes, none of them taken back
-pub record WorksOn (old : State) (ops sectors to_submit : ℕ) (new : State) : Type 0 where
+pub record WorksOn (old : State) (ops sectors to_submit sectors_to_submit : ℕ) (new : State) : Type 0 where
   pub sizes : new.sizes ≡ old.sizes
   pub spare_ops : old.spare_ops + to_submit ≤ new.spare_ops + ops
-  pub spare_sectors : old.spare_sectors ≤ new.spare_sectors + sectors
+  pub spare_sectors : old.spare_sectors + sectors_to_submit ≤ new.spare_sectors + sectors
   pub steps : new.steps + length new.in_flight + 2 * to_submit ≤ old.steps + length old.in_flight + 2 * ops
   pub later : old.steps ≤ new.steps
 
@@ -70,38 +71,61 @@ writes_sectors (o ∷ os) (p ∷ puts) e =
     omega (arith, all, all', one, writes_sectors os puts rest)
 
 -- the start
-starts_works : (old new : State) (put : Span × List (List ℕ)) (puts : List (Span × List (List ℕ))) (disks : List ℕ) (batching : Batching)
-    → Starts old (put ∷ puts) disks (view_of batching) new
-    → WorksOn old (length (put ∷ puts) + length disks) (sum_by span_count (put ∷ puts)) (steps_to_come (Going batching)) new
-starts_works old new put puts disks batching starts =
-    let s = starts.0.submits in
-    let many : length starts.0.os ≡ suc (length puts) =
-    sym (length-map starts.0.os (λ (o : Operation). o.work)) ∙ ap (λ (l : List Work). length l) starts.0.works_are
-    ∙ ap suc (length-map puts write_work) in
-    let come : to_come (view_of batching) ≡ length disks = ap to_come starts.1 in
-    let inflight : length new.in_flight ≡ length old.in_flight + length starts.0.os =
-    ap (λ (l : List Operation). length l) s.in_flight ∙ length-append old.in_flight starts.0.os in
+pub starts_works : (old new : State) (puts : List (Span × List (List ℕ))) (disks : List ℕ) (batching : Batching)
+    → StartsWrites old puts disks (view_of batching) new
+    → WorksOn old (length puts + length disks) (sum_by span_count puts) (steps_to_come (Going batching)) (sectors_ahead (Going batching)) new
+starts_works old new puts disks batching starts =
+    let s = starts.works.submits in
+    let os = starts.works.os in
+    let rest = (view_of batching).rest in
+    let many : length os ≡ length starts.first =
+    sym (length-map os (λ (o : Operation). o.work)) ∙ ap (λ (l : List Work). length l) starts.works.works_are
+    ∙ length-map starts.first write_work in
+    let all : length puts ≡ length starts.first + length rest =
+    ap (λ (l : List (Span × List (List ℕ))). length l) starts.parts ∙ length-append starts.first rest in
+    let sectors : sum_by span_count puts ≡ sum_by span_count starts.first + sum_by span_count rest =
+    ap (λ (l : List (Span × List (List ℕ))). sum_by span_count l) starts.parts ∙ sum_by-append span_count starts.first rest in
+    let come : to_come (view_of batching) ≡ length rest + length disks = ap to_come starts.view_is in
+    let inflight : length new.in_flight ≡ length old.in_flight + length os =
+    ap (λ (l : List Operation). length l) s.in_flight ∙ length-append old.in_flight os in
     record {
       sizes = s.sizes;
       spare_ops = omega (arith, s.spare_ops);
-      spare_sectors = omega (arith, s.spare_sectors, writes_sectors starts.0.os (put ∷ puts) starts.0.works_are);
+      spare_sectors = omega (arith, s.spare_sectors, writes_sectors os starts.first starts.works.works_are);
       steps = omega (arith, s.steps, inflight);
       later = omega (arith, s.steps);
     }
 
 pub alone_works : (old new : State) (disks : List ℕ) (batching : Batching) (puts : List (Span × List (List ℕ))) → 0 < length puts
     → Starts old puts disks (view_of batching) new
-    → WorksOn old (length puts + length disks) (sum_by span_count puts) (steps_to_come (Going batching)) new
+    → WorksOn old (length puts + length disks) (sum_by span_count puts) (steps_to_come (Going batching)) (sectors_ahead (Going batching)) new
 alone_works old new disks batching [] some starts = absurd (omega arith)
-alone_works old new disks batching (put ∷ puts) some starts = starts_works old new put puts disks batching starts
+alone_works old new disks batching (put ∷ puts) some starts = starts_works old new (put ∷ puts) disks batching starts
 
 -- what a batch does at a completion
 follows_works : (mid new : State) (view : View) (turn : Turn) (step : BatchStep) → IsTurn view turn → Follows mid view turn step new
-    → WorksOn mid (to_come view) 0 (steps_to_come step) new
+    → WorksOn mid (to_come view) (sectors_to_come view) (steps_to_come step) (sectors_ahead step) new
 follows_works mid new view Waits (Going next) is f =
-    subst (λ (s : State). WorksOn mid (to_come view) 0 (to_come (view_of next)) s) (sym f.0)
-    (let e : to_come (view_of next) ≡ to_come view = ap to_come
-    f.1 in record { sizes = refl; spare_ops = omega arith; spare_sectors = omega arith; steps = omega arith; later = omega arith })
+    subst (λ (s : State). WorksOn mid (to_come view) (sectors_to_come view) (to_come (view_of next)) (sectors_to_come (view_of next)) s)
+    (sym f.0)
+    (let e : to_come (view_of next) ≡ to_come view = ap to_come f.1 in
+    let d : sectors_to_come (view_of next) ≡ sectors_to_come view = ap sectors_to_come f.1 in
+    record { sizes = refl; spare_ops = omega arith; spare_sectors = omega arith; steps = omega arith; later = omega arith })
+follows_works mid new view Writes (Going next) is f =
+    let s = f.submits in
+    let o : Operation = put_operation f.tag f.put in
+    let u = next_uses view (view_of next) f.put f.puts (view.tags ++ f.tag ∷ []) f.next_is f.view_is in
+    let inflight : length new.in_flight ≡ length mid.in_flight + 1 =
+    ap (λ (l : List Operation). length l) s.in_flight ∙ length-append mid.in_flight (o ∷ []) in
+    let one : sum_by (λ (p : Operation). sectors_of_work p.work) (o ∷ []) ≡ span_count f.put =
+    let z : sectors_of_work o.work ≡ span_count f.put = refl in omega (arith, z) in
+    record {
+      sizes = s.sizes;
+      spare_ops = omega (arith, s.spare_ops, u.ops);
+      spare_sectors = omega (arith, s.spare_sectors, one, u.sectors);
+      steps = omega (arith, s.steps, inflight, u.ops);
+      later = omega (arith, s.steps);
+    }
 follows_works mid new view Flushes (Going next) is f =
     let s = f.0.submits in
     let os : length f.0.os ≡ length view.flush =
@@ -109,8 +133,10 @@ follows_works mid new view Flushes (Going next) is f =
     ∙ length-map view.flush Flushing in
     let inflight : length new.in_flight ≡ length mid.in_flight + length f.0.os =
     ap (λ (l : List Operation). length l) s.in_flight ∙ length-append mid.in_flight f.0.os in
-    let b : to_come (view_of next) ≡ 0 = ap to_come f.1 in
-    let d : to_come view ≡ length view.flush = ap (λ (w : Bool). cond w 0 (length view.flush)) is.1 in
+    let none : length view.rest ≡ 0 = ap (λ (l : List (Span × List (List ℕ))). length l) is.3 in
+    let b : to_come (view_of next) ≡ length view.rest = ap to_come f.1 ∙ plus_none (length view.rest) in
+    let c : sectors_to_come (view_of next) ≡ sectors_to_come view = ap sectors_to_come f.1 in
+    let d : to_come view ≡ length view.rest + length view.flush = ap (λ (w : Bool). length view.rest + cond w 0 (length view.flush)) is.1 in
     record {
       sizes = s.sizes;
       spare_ops = omega (arith, s.spare_ops);
@@ -118,26 +144,23 @@ follows_works mid new view Flushes (Going next) is f =
       steps = omega (arith, s.steps, inflight);
       later = omega (arith, s.steps);
     }
+  where
+    plus_none : (n : ℕ) → n + 0 ≡ n
+    plus_none n = omega arith
 follows_works mid new view IsWell Well is f =
-    subst (λ (s : State). WorksOn mid (to_come view) 0 0 s) (sym f)
+    subst (λ (s : State). WorksOn mid (to_come view) (sectors_to_come view) 0 0 s) (sym f)
     (record { sizes = refl; spare_ops = omega arith; spare_sectors = omega arith; steps = omega arith; later = omega arith })
 follows_works mid new view (IsLost pv) (Lost pv') is f =
-    subst (λ (s : State). WorksOn mid (to_come view) 0 0 s) (sym f.0)
+    subst (λ (s : State). WorksOn mid (to_come view) (sectors_to_come view) 0 0 s) (sym f.0)
     (record { sizes = refl; spare_ops = omega arith; spare_sectors = omega arith; steps = omega arith; later = omega arith })
-follows_works mid new view Waits Well is f = absurd f
-follows_works mid new view Waits (Lost pv) is f = absurd f
-follows_works mid new view Flushes Well is f = absurd f
-follows_works mid new view Flushes (Lost pv) is f = absurd f
-follows_works mid new view IsWell (Going next) is f = absurd f
-follows_works mid new view IsWell (Lost pv) is f = absurd f
-follows_works mid new view (IsLost pv) (Going next) is f = absurd f
-follows_works mid new view (IsLost pv) Well is f = absurd f
+follows_works mid new view turn step is f = absurd f
 
 pub turns_works : (old before mid new : State) (ops sectors : ℕ) (step next : BatchStep) (done : Done) → Completes before done mid
-    → Turns mid step done next new → WorksOn old ops sectors (steps_to_come step) before → WorksOn old ops sectors (steps_to_come next) new
+    → Turns mid step done next new → WorksOn old ops sectors (steps_to_come step) (sectors_ahead step) before
+    → WorksOn old ops sectors (steps_to_come next) (sectors_ahead next) new
 turns_works old before mid new ops sectors (Going b) next done completes goes works =
     let after : View = after_done (view_of b) done in
-    let f = follows_works mid new after (turn_of after) next (is_turn after.tags after.flush after.flushing after.lost) goes in
+    let f = follows_works mid new after (turn_of after) next (is_turn after) goes in
     record {
       sizes = f.sizes ∙ completes.sizes ∙ works.sizes;
       spare_ops = omega (arith, f.spare_ops, completes.spare_ops, works.spare_ops);

@@ -1,12 +1,14 @@
 pub mod Among
 mod Submissions
-mod Rising
+mod Works
+mod PartPuts
 pub mod WrittenBy
 pub mod DisksOfSet
 mod Progressing
 mod Rounding
 pub mod Calling
 mod Beside
+pub mod Fitting
 mod Flushing
 pub mod Faulting
 pub mod Growing
@@ -24,4 +26,5 @@ pub mod Elsewhere
 pub mod FlushedStates
 pub mod Starting
 pub mod WritesApart
+pub mod InBlocks
 mod EachFlushed

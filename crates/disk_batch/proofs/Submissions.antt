@@ -1,5 +1,5 @@
 -- Operations that are submitted one after another.
-use Rattle.std.proofs.Common.{reverse, ◌==◌, IsTrue, inl, inr, ⊎_elim, ◌≡◌, ℕ, ◌+◌, List, [], ◌∷◌, ◌++◌, map, sum_by, Some, refl, sym, ap}
+use Rattle.std.proofs.Common.{reverse, ◌==◌, ◌≤◌, ◌<◌, not, filter, length, IsTrue, inl, inr, ⊎_elim, ◌≡◌, ℕ, ◌+◌, List, [], ◌∷◌, ◌++◌, map, sum_by, Some, refl, sym, ap}
 use Rattle.std.proofs.Common.{subst, ◌∙◌, arith, append_assoc}
 use Rattle.std.specs.List.{list_any}
 use Rattle.std.proofs.lemmas.Bool.Decides.{eqb_tells}
@@ -66,3 +66,23 @@ pub sum_last : (f : Span × List (List ℕ) → ℕ) (rest : List (Span × List 
     → sum_by f (rest ++ put ∷ []) ≡ sum_by f rest + f put
 sum_last f rest put =
     let one : sum_by f (put ∷ []) ≡ f put = omega arith in sum_by-append f rest (put ∷ []) ∙ ap (λ (n : ℕ). sum_by f rest + n) one
+
+-- and the first and the others
+pub sum_first : (f : Span × List (List ℕ) → ℕ) (put : Span × List (List ℕ)) (puts : List (Span × List (List ℕ)))
+    → sum_by f (put ∷ puts) ≡ f put + sum_by f puts
+sum_first f put puts =
+    let one : sum_by f (put ∷ []) ≡ f put = omega arith in
+    sum_by-append f (put ∷ []) puts ∙ ap (λ (n : ℕ). n + sum_by f puts) one
+
+-- where a tag is among some, fewer are left without it
+none_more : (tags : List ℕ) (tag : ℕ) → length (filter (λ (t : ℕ). not (t == tag)) tags) ≤ length tags
+none_more [] tag = omega arith
+none_more (t ∷ tags) tag =
+    ⊎_elim (λ same. rw same.0 (omega (arith, none_more tags tag))) (λ other. rw other.0 (omega (arith, none_more tags tag))) (eqb_tells t tag)
+
+pub fewer_left : (tags : List ℕ) (tag : ℕ) → IsAmong tags tag → length (filter (λ (t : ℕ). not (t == tag)) tags) < length tags
+fewer_left [] tag among = absurd among
+fewer_left (t ∷ tags) tag among =
+    ⊎_elim (λ same. rw same.0 (omega (arith, none_more tags tag)))
+    (λ other. rw other.0 (⊎_elim (λ (e : t ≡ tag). absurd (other.1 e)) (λ later. omega (arith, fewer_left tags tag later)) among))
+    (eqb_tells t tag)

@@ -18,7 +18,7 @@ abbrev pub is_written : List Put → ℕ → ℕ → Bool
 is_written puts = writes_at (map write_work puts)
 
 -- what two runs of writes write, one of them does
-at_either : (first more : List Put) (pv sector : ℕ) → is_written (first ++ more) pv sector ≡ true
+pub at_either : (first more : List Put) (pv sector : ℕ) → is_written (first ++ more) pv sector ≡ true
     → (is_written first pv sector ≡ true) ⊎ (is_written more pv sector ≡ true)
 at_either [] more pv sector is = inr is
 at_either (put ∷ first) more pv sector is =
@@ -29,7 +29,7 @@ at_either (put ∷ first) more pv sector is =
     (or_cases (covers put.0 pv sector) (is_written (first ++ more) pv sector) is)
 
 -- two runs that share no sector
-apart_both : (first more : List Put) → ShareNoSector first → ShareNoSector more
+pub apart_both : (first more : List Put) → ShareNoSector first → ShareNoSector more
     → ((pv sector : ℕ) → is_written first pv sector ≡ true → is_written more pv sector ≡ true → ⊥) → ShareNoSector (first ++ more)
 apart_both [] more a b none = b
 apart_both (put ∷ first) more a b none = (

@@ -1,11 +1,12 @@
 -- A batch where nothing else is in flight, between two completions.
-use Rattle.std.specs.Prelude.{◌≡◌, ◌≤◌, ◌<◌, ℕ, [], length, All, Option, Some, None}
+use Rattle.std.specs.Prelude.{◌≡◌, ◌<◌, ℕ, [], length, Option, Some, None}
 use Rattle.disk_model.specs.declared.ops.Done.{Done}
 use Rattle.disk_model.specs.State.{State, tags_of}
 use Rattle.disk_batch.specs.declared.batching.BatchStep.{BatchStep}
 use Rattle.disk_batch.specs.declared.batching.BatchStep.TheVariants.{Going, Well, Lost}
-use Rattle.disk_batch.specs.Views.{to_come}
+use Rattle.disk_batch.specs.Views.{sectors_to_come, to_come}
 use Rattle.disk_batch.specs.Batches.{Goes, view_of}
+use Rattle.disk_batch.specs.Fits.{FitsOn}
 
 -- what is in flight is the batch's
 abbrev pub IsOn : BatchStep → State → Type 0
@@ -13,11 +14,9 @@ IsOn (Going next) state = (tags_of state.in_flight ≡ (view_of next).tags) × (
 IsOn Well state = state.in_flight ≡ []
 IsOn (Lost pv) state = state.in_flight ≡ []
 
--- its flushes are of disks of the shelf, at least one, and those to come are spare
+-- what it is still to submit lies in the disks, is spare, and has buffers; it flushes at least one disk
 abbrev pub IsWithin : State → BatchStep → Type 0
-IsWithin state (Going next) =
-    All (λ (pv : ℕ). pv < length state.sizes) (view_of next).flush × (0 < length (view_of next).flush)
-    × (to_come (view_of next) ≤ state.spare_ops)
+IsWithin state (Going next) = FitsOn state (view_of next) × (0 < length (view_of next).flush)
 IsWithin state Well = Unit {0}
 IsWithin state (Lost pv) = Unit {0}
 
@@ -26,6 +25,12 @@ abbrev pub steps_to_come : BatchStep → ℕ
 steps_to_come (Going next) = to_come (view_of next)
 steps_to_come Well = 0
 steps_to_come (Lost pv) = 0
+
+-- and how many sectors these have
+abbrev pub sectors_ahead : BatchStep → ℕ
+sectors_ahead (Going next) = sectors_to_come (view_of next)
+sectors_ahead Well = 0
+sectors_ahead (Lost pv) = 0
 
 -- the disk of the operation that it lost
 abbrev pub lost_of : BatchStep → Option ℕ

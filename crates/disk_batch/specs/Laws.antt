@@ -1,5 +1,6 @@
 -- What a batch has made sure of a sector, step by step, where nobody else writes it.
-use Rattle.std.specs.Prelude.{◌≡◌, ℕ, Bool, true, false, IsTrue, List, [], None, Some, map}
+use Rattle.std.specs.Prelude.{◌≡◌, ◌⊎◌, ℕ, Bool, true, false, IsTrue, List, [], ◌∷◌, ◌++◌, None, Some, map}
+use Rattle.sector_base.specs.declared.spans.Span.{Span}
 use Rattle.disk_model.specs.Steps.{Work, Flushing, Step, Completed, Record, step_on}
 use Rattle.disk_model.specs.Record.{Operation, IsRecord}
 use Rattle.disk_model.specs.Brought.{brings}
@@ -11,6 +12,7 @@ use Rattle.disk_batch.specs.Views.{View, done_on}
 use Rattle.disk_batch.specs.Batches.{after_done}
 use Rattle.disk_batch.specs.Faults.{FaultsSince}
 use Rattle.disk_batch.specs.Progress.{Brings}
+use Rattle.disk_batch.specs.Writes.{write_work}
 use Rattle.disk_model.specs.Submitting.{submitted_on, works_of, writes_at, BringAt}
 use Rattle.disk_model.specs.State.{tags_of}
 use Rattle.disk_model.specs.InFlight.{IsAmong, IsStill, IsForeign}
@@ -19,12 +21,14 @@ use Rattle.disk_model.specs.InFlight.{IsAmong, IsStill, IsForeign}
 abbrev pub Is : List ℕ → List ℕ → Type 0
 Is value v = v ≡ value
 
--- a batch that writes the value to a sector that nobody writes brings it there
+-- a batch that writes the value to a sector that nobody writes, now or later, brings it there
 abbrev pub StartsBringing : Type 0
 StartsBringing =
-    (os : List Operation) (flush : List ℕ) (told : Record) (pv sector : ℕ) (value : List ℕ) → IsTrue (writes_at (works_of os) pv sector)
-    → BringAt (works_of os) pv sector (Is value) → IsStill told pv sector
-    → Brings (record { tags = tags_of os; flush = flush; flushing = false; lost = None }) (submitted_on os told) pv sector (Is value)
+    (os : List Operation) (flush : List ℕ) (rest : List (Span × List (List ℕ))) (told : Record) (pv sector : ℕ) (value : List ℕ)
+    → IsTrue (writes_at (works_of os) pv sector) ⊎ IsTrue (writes_at (map write_work rest) pv sector)
+    → BringAt (works_of os) pv sector (Is value) → BringAt (map write_work rest) pv sector (Is value) → IsStill told pv sector
+    → Brings (record { tags = tags_of os; flush = flush; flushing = false; lost = None; rest = rest }) (submitted_on os told) pv sector
+    (Is value)
 
 -- a step of somebody else that brings nothing to the sector leaves it so
 abbrev pub StaysElsewhere : Type 0
@@ -40,11 +44,18 @@ GoesOn =
     → Brings view told pv sector (Is value) → Brings (done_on tag disk well view) (step_on (Completed tag work well fresh) told) pv sector
     (Is value)
 
+-- the submission of the next of its writes to come leaves it so
+abbrev pub GoesOnWriting : Type 0
+GoesOnWriting =
+    (view : View) (put : Span × List (List ℕ)) (puts : List (Span × List (List ℕ))) (o : Operation) (told : Record) (pv sector : ℕ) (value : List ℕ) → view.rest ≡ put ∷ puts
+    → view.flushing ≡ false → o.work ≡ write_work put → Brings view told pv sector (Is value)
+    → Brings (record view { tags = view.tags ++ o.tag ∷ []; rest = puts }) (submitted_on (o ∷ []) told) pv sector (Is value)
+
 -- the submission of the flushes, one of them of the disk, leaves it so
 abbrev pub BeginsFlushes : Type 0
 BeginsFlushes =
     (view : View) (os : List Operation) (told : Record) (pv sector : ℕ) (value : List ℕ) → view.tags ≡ [] → view.flushing ≡ false
-    → view.lost ≡ None → works_of os ≡ map Flushing view.flush → IsAmong view.flush pv
+    → view.lost ≡ None → view.rest ≡ [] → works_of os ≡ map Flushing view.flush → IsAmong view.flush pv
     → Brings view told pv sector (Is value) → Brings (record view { tags = tags_of os; flushing = true }) (submitted_on os told) pv sector
     (Is value)
 

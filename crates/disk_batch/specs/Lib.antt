@@ -1,5 +1,9 @@
 pub mod Writes
+pub mod Parts
+pub mod Rest
+pub mod Blocks
 pub mod Views
+pub mod Fits
 pub mod Submits
 pub mod Batches
 pub mod WriteAll

@@ -20,6 +20,20 @@ span_count put = put.0.count
 abbrev pub LieIn : List ℕ → List (Span × List (List ℕ)) → Type 0
 LieIn sizes puts = All (λ (put : Span × List (List ℕ)). Fills sizes put.0 put.1) puts
 
+-- how many sectors a block has: a part of a text that is written from the buffer of an earlier one
+abbrev pub block_size : ℕ
+block_size = 128
+
+-- the next of these writes is that of a block
+abbrev pub BlockNext : List (Span × List (List ℕ)) → Type 0
+BlockNext [] = ⊥
+BlockNext (put ∷ puts) = put.0.count ≡ block_size
+
+-- each block comes behind blocks alone
+abbrev pub BlocksFirst : List (Span × List (List ℕ)) → Type 0
+BlocksFirst [] = Unit {0}
+BlocksFirst (put ∷ puts) = (BlockNext puts → put.0.count ≡ block_size) × BlocksFirst puts
+
 -- one of the writes covers the sector, and writes this value to it
 abbrev pub IsWrittenBy : List (Span × List (List ℕ)) → ℕ → ℕ → List ℕ → Type 0
 IsWrittenBy [] pv sector value = ⊥

@@ -13,9 +13,9 @@ ghost use Rattle.disk_batch.specs.Alone.{IsOn, IsWithin, Turns};
 use crate::{Batch, BatchStep};
 use disk_model::{Done, Shelf};
 
-/// Carries the batch out, where nothing else is in flight: submits all its writes and, once every one has completed
-/// well, a flush of each of its disks. The error is the disk of the last operation that failed. It comes once all that
-/// was submitted has completed.
+/// Carries the batch out, where nothing else is in flight: submits all its writes, a bounded number of blocks at a time,
+/// and, once every one has completed well, a flush of each of its disks. The error is the disk of the last operation that
+/// failed. It comes once all that was submitted has completed.
 pub fn write_all<S: Shelf>(batch: Batch, shelf: &mut S) -> Result<(), u32>
     requires idle { (S.state shelf.old).in_flight ≡ [] }
     requires writes { 0 < length (writes_of batch) }
@@ -40,8 +40,7 @@ pub fn write_all<S: Shelf>(batch: Batch, shelf: &mut S) -> Result<(), u32>
 
 // Takes a completion.
 fn turn<S: Shelf>(step: BatchStep, done: Done, shelf: &mut S) -> BatchStep
-    requires on { (before : State) × IsOn step before × Completes before done (S.state shelf.old) }
-    requires within { IsWithin (S.state shelf.old) step }
+    requires on { (before : State) × IsOn step before × IsWithin before step × Completes before done (S.state shelf.old) }
     ensures within { IsWithin (S.state shelf.new) result }
     ensures turns { Turns (S.state shelf.old) step done result (S.state shelf.new) }
 {

@@ -1,25 +1,31 @@
 //! A batch before it starts.
-ghost use Rattle.std.specs.Prelude.{◌≡◌, ◌≤◌, ◌<◌, ◌+◌, ◌^◌, ◌-◌, ℕ, List, [], length, max, min, sum_by, vec_len, All, IfOk, IfErr};
-ghost use Rattle.std.specs.VecDeque.{deque_capacity};
+ghost use Rattle.std.specs.Prelude.{◌≡◌, ◌≤◌, ◌<◌, ◌+◌, ◌^◌, ◌-◌, ℕ, List, [], length, map, max, min, sum_by, vec_len, vec_capacity, All, IfOk, IfErr};
+ghost use Rattle.disk_batch.specs.Blocks.{in_blocks};
+ghost use Rattle.disk_batch.specs.Parts.{IsPartOf, IsSmall, part_put};
+ghost use Rattle.disk_batch.specs.Rest.{CanFollow, rest_of};
 ghost use Rattle.disk_batch.specs.Writes.{LieIn, span_count, disks_in};
 
+use crate::blocks::first_and_rest;
+use crate::rest::Rest;
 use crate::submitting::{submit_flushes, submit_writes};
 use crate::{Batching, Writes};
 use disk_model::Shelf;
-use sector_base::PvSet;
+use sector_base::{PvSet, Sectors, Span};
 use std::alloc::{AllocError, Global};
-use std::collections::VecDeque;
 
 /// Writes, and the disks that are flushed once all have completed well.
 #[derive(Drop)]
 pub struct Batch {
-    writes: Writes,
+    // Those that are submitted at the start.
+    first: Writes,
+    rest: Rest,
     disks: Vec<u32>,
-    tags: VecDeque<u64>,
+    tags: Vec<u64>,
     ghost some_disk: { 0 < length disks.items },
+    ghost follow: { CanFollow first (rest_of rest) },
     ghost no_tags: { tags.items ≡ [] },
-    ghost room_for_writes: { length writes ≤ deque_capacity tags },
-    ghost room_for_flushes: { vec_len disks ≤ deque_capacity tags },
+    ghost room_for_writes: { length first ≤ vec_capacity tags },
+    ghost room_for_flushes: { vec_len disks ≤ vec_capacity tags },
 }
 
 /// The writes of a batch for which memory was wanting.
@@ -43,29 +49,58 @@ impl Batch {
             return Err(BatchRefused { writes });
         };
         let room = writes.len().max(disks.len());
-        let Ok(tags) = VecDeque::with_capacity(alloc, room) else {
+        let Ok(tags) = Vec::with_capacity(alloc, room) else {
             return Err(BatchRefused { writes });
         };
         Ok(Batch {
-            writes,
+            first: writes,
+            rest: Rest::none(alloc),
             disks,
             tags,
         })
     }
 
-    /// How many operations and sectors a shelf must have spare for it. A number of sectors past 2^64 - 1 is given as
-    /// that.
+    /// A batch that writes parts of one text, each from a place in it on, with flushes of these disks, at least one. The
+    /// parts are written in blocks of 128 sectors, which share so many buffers, and what is left of each behind them. Only
+    /// memory can be wanting.
+    pub fn of_parts(
+        alloc: Global,
+        text: Sectors,
+        parts: &[(Span, usize)],
+        flush: PvSet,
+    ) -> Result<Batch, AllocError>
+        requires flush { 0 < length (disks_in flush) }
+        requires small { All IsSmall parts.now }
+        requires parts { All (IsPartOf (length text)) parts.now }
+        ensures writes { IfOk result (λ batch. writes_of batch ≡ in_blocks (map (part_put text) parts.now)) }
+        ensures disks { IfOk result (λ batch. disks_of batch ≡ disks_in flush) }
+    {
+        let disks = disks_of_set(alloc, flush)?;
+        let (first, rest) = first_and_rest(alloc, text, parts)?;
+        let tags = Vec::with_capacity(alloc, first.len().max(disks.len()))?;
+        Ok(Batch {
+            first,
+            rest,
+            disks,
+            tags,
+        })
+    }
+
+    /// How many operations and sectors a shelf must have spare for it. A number past 2^64 - 1 is given as that.
     pub fn needs(&self) -> (u64, u64)
-        ensures ops { result.0 ≡ length (writes_of self.now) + length (disks_of self.now) }
+        ensures ops { result.0 ≡ min (length (writes_of self.now) + length (disks_of self.now)) (2 ^ 64 - 1) }
         ensures sectors { result.1 ≡ min (sum_by span_count (writes_of self.now)) (2 ^ 64 - 1) }
     {
+        let first = self.first.len() as u64 + self.disks.len() as u64;
+        let rest = self.rest.needs();
         (
-            self.writes.len() as u64 + self.disks.len() as u64,
-            count_sectors(&self.writes),
+            first.saturating_add(rest.0),
+            count_sectors(self.first.as_slice()).saturating_add(rest.1),
         )
     }
 
-    /// Submits all the writes in their order, or the flushes where there is no write.
+    /// Submits the first of the writes in their order, all of them but for blocks past the first 64 and what is behind those,
+    /// or the flushes where there is no write.
     pub fn start<S: Shelf>(self, shelf: &mut S) -> Batching
         requires lie { LieIn (S.state shelf.old).sizes (writes_of self) }
         requires disks { All (λ pv. pv < length (S.state shelf.old).sizes) (disks_of self) }
@@ -74,18 +109,19 @@ impl Batch {
         ensures { Starts (S.state shelf.old) (writes_of self) (disks_of self) (view_of result) (S.state shelf.new) }
     {
         let Batch {
-            writes,
+            first,
+            rest,
             disks,
             mut tags,
             ..
         } = self;
-        let flushing = writes.len() == 0;
+        let flushing = first.len() == 0;
         if flushing {
             submit_flushes(&disks, &mut tags, shelf);
         } else {
-            submit_writes(writes.into_vec(), &mut tags, shelf);
+            submit_writes(first.into_vec(), &mut tags, shelf);
         }
-        Batching::from_parts(disks, tags, flushing)
+        Batching::from_parts(disks, tags, flushing, rest)
     }
 }
 
@@ -103,11 +139,11 @@ fn disks_of_set(alloc: Global, set: PvSet) -> Result<Vec<u32>, AllocError>
 }
 
 // How many sectors the writes have, or 2^64 - 1 where there are more.
-fn count_sectors(writes: &Writes) -> u64
+pub(crate) fn count_sectors(writes: &[(Span, Sectors)]) -> u64
     ensures { result ≡ min (sum_by span_count writes.now) (2 ^ 64 - 1) }
 {
     let mut total = 0u64;
-    for (span, _) in writes.as_slice() {
+    for (span, _) in writes {
         total = total.saturating_add(u64::from(span.count));
     }
     total

@@ -1,25 +1,24 @@
 //! A batch on its way.
-ghost use Rattle.std.specs.Prelude.{◌≡◌, ◌≤◌, ◌<◌, ◌==◌, ◌↔◌, ℕ, List, length, filter, not, vec_len, All, IsTrue, None};
-ghost use Rattle.std.specs.VecDeque.{deque_capacity};
+ghost use Rattle.std.specs.Prelude.{◌≡◌, ◌≤◌, ◌<◌, ◌==◌, ◌↔◌, ℕ, List, length, filter, not, vec_len, vec_capacity, IsTrue, None};
 ghost use Rattle.disk_model.specs.Operations.{disk_of as disk_number};
-ghost use Rattle.disk_batch.specs.Submits.{AreRising};
-ghost use Rattle.disk_batch.specs.Views.{View};
-ghost use Rattle.disk_batch.specs.Views.{to_come};
+ghost use Rattle.disk_batch.specs.Fits.{HasBuffer, LiesOn};
+ghost use Rattle.disk_batch.specs.Rest.{rest_of};
+ghost use Rattle.disk_batch.specs.Views.{View, sectors_to_come, to_come};
 ghost use Rattle.disk_model.specs.InFlight.{IsAmong};
 
-use crate::submitting::submit_flushes;
+use crate::rest::Rest;
+use crate::submitting::{submit_flushes, submit_next};
 use disk_model::{Done, Op, Shelf};
-use std::collections::VecDeque;
 
 /// A batch whose operations are in flight.
 #[derive(Drop)]
 pub struct Batching {
     disks: Vec<u32>,
-    tags: VecDeque<u64>,
+    tags: Vec<u64>,
     flushing: bool,
     lost: Option<u32>,
-    ghost room: { vec_len disks ≤ deque_capacity tags },
-    ghost rising: { AreRising tags.items },
+    rest: Rest,
+    ghost room: { vec_len disks ≤ vec_capacity tags },
 }
 
 /// What a batch came to.
@@ -37,16 +36,16 @@ impl Batching {
     ghost use Rattle.disk_batch.specs.Batches.{Goes, view_of};
 
     // A batch that has submitted the operations with these tags.
-    pub(crate) fn from_parts(disks: Vec<u32>, tags: VecDeque<u64>, flushing: bool) -> Self
-        requires room { vec_len disks ≤ deque_capacity tags }
-        requires rising { AreRising tags.items }
-        ensures { view_of result ≡ record { tags = tags.items; flush = disks.items; flushing = flushing; lost = None } }
+    pub(crate) fn from_parts(disks: Vec<u32>, tags: Vec<u64>, flushing: bool, rest: Rest) -> Self
+        requires room { vec_len disks ≤ vec_capacity tags }
+        ensures { view_of result ≡ record { tags = tags.items; flush = disks.items; flushing = flushing; lost = None; rest = rest_of rest } }
     {
         Batching {
             disks,
             tags,
             flushing,
             lost: None,
+            rest,
         }
     }
 
@@ -57,11 +56,14 @@ impl Batching {
         self.tags.contains(&tag)
     }
 
-    /// Takes a completion of its own. Once every write has completed well it submits the flushes.
+    /// Takes a completion of its own, and submits the next of the writes that are still to be submitted. Once every write has
+    /// completed well it submits the flushes.
     pub fn on_done<S: Shelf>(self, done: Done, shelf: &mut S) -> BatchStep
         requires owns { IsAmong (view_of self).tags done.tag }
-        requires disks { All (λ pv. pv < length (S.state shelf.old).sizes) (view_of self).flush }
+        requires lies { LiesOn (S.state shelf.old).sizes (view_of self) }
         requires ops { to_come (view_of self) ≤ (S.state shelf.old).spare_ops }
+        requires sectors { sectors_to_come (view_of self) ≤ (S.state shelf.old).spare_sectors }
+        requires buffer { HasBuffer (view_of self) done }
         ensures { Goes (S.state shelf.old) (view_of self) done result (S.state shelf.new) }
     {
         let Batching {
@@ -69,20 +71,19 @@ impl Batching {
             mut tags,
             flushing,
             lost,
+            mut rest,
             ..
         } = self;
-        let lost = if done.well {
-            lost
-        } else {
-            Some(disk_of(&done.op))
-        };
-        without(&mut tags, done.tag);
-        if !tags.is_empty() {
+        let Done { tag, op, well } = done;
+        let lost = if well { lost } else { Some(disk_of(&op)) };
+        without(&mut tags, tag);
+        if !flushing && submit_next(&mut rest, op, &mut tags, shelf) || !tags.is_empty() {
             return BatchStep::Going(Batching {
                 disks,
                 tags,
                 flushing,
                 lost,
+                rest,
             });
         }
         if let Some(pv) = lost {
@@ -97,22 +98,19 @@ impl Batching {
             tags,
             flushing: true,
             lost: None,
+            rest,
         })
     }
 }
 
-// Takes the tag out: it is the first one where operations complete in the order of their submission.
-fn without(tags: &mut VecDeque<u64>, tag: u64)
-    requires rising { AreRising tags.old.items }
+// Takes the tag out.
+fn without(tags: &mut Vec<u64>, tag: u64)
+    requires among { IsAmong tags.old.items tag }
     ensures items { tags.new.items ≡ filter (λ t. not (t == tag)) tags.old.items }
-    ensures rising { AreRising tags.new.items }
-    ensures capacity { deque_capacity tags.new ≡ deque_capacity tags.old }
+    ensures fewer { vec_len tags.new < vec_len tags.old }
+    ensures capacity { vec_capacity tags.new ≡ vec_capacity tags.old }
 {
-    if tags.front() == Some(&tag) {
-        tags.pop_front();
-    } else {
-        tags.retain(|t| *t != tag);
-    }
+    tags.retain(|t| *t != tag);
 }
 
 // The disk of the operation.

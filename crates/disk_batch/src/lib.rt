@@ -17,9 +17,11 @@
 mod alone;
 mod batch;
 mod batching;
+mod blocks;
 mod flush_disks;
 mod in_turn;
 mod laws;
+mod rest;
 mod submitting;
 mod writes;
 

@@ -22,8 +22,8 @@ loop-done-init g c =
       on = alone_on old new disks c.start.result c.requires.idle puts c.requires.writes c.start.ensures;
       works = alone_works old new disks c.start.result puts c.requires.writes c.start.ensures;
       within =
-          alone_within old new disks c.start.result c.requires.idle puts c.requires.writes c.requires.disks c.args.batch.some_disk
-          c.requires.ops c.start.ensures;
+          alone_within old new disks c.start.result c.requires.idle puts c.requires.writes c.requires.lie c.requires.disks
+          c.args.batch.some_disk c.requires.ops c.requires.sectors c.start.ensures;
       faults = faults_start old new puts disks (view_of c.start.result) c.start.ensures;
       carries =
           starts_carries puts disks old new c.start.result (g.met.S.Shelf.lawful c.args.shelf.now) c.requires.idle c.requires.writes

@@ -18,7 +18,7 @@ loop-pv-preserved g c =
     record {
       submits =
           subst (λ (tags : List ℕ). SubmitsWorks (g.S.Shelf.state c.args.shelf.now) (map Flushing (take (i + 1) disks)) tags
-          (g.S.Shelf.state c.submit-tag.new.self)) (sym c.push_back_reserved.ensures.items)
+          (g.S.Shelf.state c.submit-tag.new.self)) (sym c.push_reserved.ensures.items)
           (subst (λ (ws : List Work). SubmitsWorks (g.S.Shelf.state c.args.shelf.now) ws (c.loop-pv.tags.items ++ c.submit-tag.result ∷ [])
           (g.S.Shelf.state c.submit-tag.new.self)) (sym works) more);
       spare = omega (arith, c.submit-tag.ensures.spare_ops, c.loop-pv.invariant.spare);
@@ -26,9 +26,9 @@ loop-pv-preserved g c =
       len =
           omega (
             arith,
-            ap (λ (l : List ℕ). length l) c.push_back_reserved.ensures.items,
+            ap (λ (l : List ℕ). length l) c.push_reserved.ensures.items,
             length-append c.loop-pv.tags.items (c.submit-tag.result ∷ []),
             c.loop-pv.invariant.len,
           );
-      capacity = c.push_back_reserved.ensures.capacity ∙ c.loop-pv.invariant.capacity;
+      capacity = c.push_reserved.ensures.capacity ∙ c.loop-pv.invariant.capacity;
     }

@@ -1,5 +1,4 @@
-use Rattle.std.proofs.Common.{◌≡◌, ◌≤◌, ◌+◌, length, map, take}
-use Rattle.std.specs.VecDeque.{deque_capacity}
+use Rattle.std.proofs.Common.{◌≡◌, ◌≤◌, ◌+◌, length, vec_capacity, map, take}
 use Rattle.disk_model.specs.Steps.{Flushing}
 use Rattle.disk_batch.specs.Submits.{SubmitsWorks}
 use Rattle.disk_batch.proofs.submitting.submit_flushes.Given as goal
@@ -10,5 +9,5 @@ invariant-loop-pv g l = record {
   spare : length l.disks ≤ (g.S.Shelf.state l.shelf).spare_ops + l.pv-index;
   sizes : (g.S.Shelf.state l.shelf).sizes ≡ (g.S.Shelf.state l.fn.shelf).sizes;
   len : length l.tags.items ≡ l.pv-index;
-  capacity : deque_capacity l.tags ≡ deque_capacity l.fn.tags;
+  capacity : vec_capacity l.tags ≡ vec_capacity l.fn.tags;
 }

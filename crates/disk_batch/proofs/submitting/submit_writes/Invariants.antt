@@ -1,5 +1,4 @@
-use Rattle.std.proofs.Common.{◌≡◌, ◌≤◌, ◌+◌, List, ◌++◌, length, map, reverse, sum_by}
-use Rattle.std.specs.VecDeque.{deque_capacity}
+use Rattle.std.proofs.Common.{◌≡◌, ◌≤◌, ◌+◌, List, ◌++◌, length, vec_capacity, map, reverse, sum_by}
 use Rattle.disk_model.specs.Steps.{Work}
 use Rattle.disk_batch.specs.Submits.{SubmitsWorks}
 use Rattle.disk_batch.specs.Writes.{LieIn, write_work, span_count}
@@ -12,8 +11,8 @@ invariant-loop-rest g l = record {
   lie : LieIn (g.S.Shelf.state l.shelf).sizes l.rest.items;
   ops : length l.rest.items ≤ (g.S.Shelf.state l.shelf).spare_ops;
   sectors : sum_by span_count l.rest.items ≤ (g.S.Shelf.state l.shelf).spare_sectors;
-  room : length l.tags.items + length l.rest.items ≤ deque_capacity l.tags;
-  capacity : deque_capacity l.tags ≡ deque_capacity l.fn.tags;
+  room : length l.tags.items + length l.rest.items ≤ vec_capacity l.tags;
+  capacity : vec_capacity l.tags ≡ vec_capacity l.fn.tags;
 }
 
 abbrev pub decreases-loop-rest : goal.decreases-loop-rest
