@@ -1,11 +1,14 @@
-//! Batches: writes of many spans, all in flight at once, and flushes behind them.
+//! Batches: writes of many spans, many of them in flight at once, and flushes behind them.
 //!
-//! A batch submits all its writes, which complete in any order among other operations. Once every one has completed
-//! well it submits a flush of each of its disks, and it is through once these have completed well. Where one of its
-//! operations fails it submits nothing more, and says so once all that it submitted has completed.
+//! A batch submits its writes, which complete in any order among other operations: all at once where each has its own
+//! sectors. Parts of one text it writes in blocks, a bounded number at once: whenever an operation has completed the next
+//! block is filled into the buffer that it brings back, and submitted. Once every write has completed well it submits a
+//! flush of each of its disks, and it is through once these have completed well. Where one of its writes fails it submits
+//! no flush, and says so once all that it submitted has completed.
 //!
-//! In `specs/`, `Writes` has what is written, `Views` a batch on its way as the layers above see it, `Submits` and
-//! `Batches` what its calls do to the shelf, and `WriteAll` what a whole batch does where nothing else is in flight.
+//! In `specs/`, `Writes` has what is written, `Parts` and `Blocks` how parts of a text are cut, `Rest` the writes that are
+//! still to be submitted, `Views` a batch on its way as the layers above see it, `Submits` and `Batches` what its calls do
+//! to the shelf, `Fits` what they ask of it, and `WriteAll` what a whole batch does where nothing else is in flight.
 //! `Progress`, `Rounds`, `Flushed` and `Faults` say what a batch has made sure of among other operations, step by step:
 //! which values a crash may leave, which disks are flushed, and which counts of faults have risen. Their laws stand in
 //! `Laws`, and for any property of values in `proofs/`: `Rounding`, `Calling`, `Beside`, `Flushing`, `Faulting` and

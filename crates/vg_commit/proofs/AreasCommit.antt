@@ -9,6 +9,7 @@ use Rattle.sector_base.specs.Spans.{covers}
 use Rattle.disk_model.specs.Steps.{value_at}
 use Rattle.disk_model.specs.InFlight.{IsAmong}
 use Rattle.disk_batch.specs.Writes.{IsWrittenBy}
+use Rattle.disk_batch.proofs.InBlocks.{blocks_cover, blocks_written}
 use Rattle.mda_header.specs.declared.header.Locn.{Locn}
 use Rattle.mda_header.specs.Header.{IsHeader, IsInside}
 use Rattle.mda_header.specs.HeaderBytes.{header_bytes}
@@ -17,7 +18,7 @@ use Rattle.mda_ring.specs.Areas.{CanTake, IsArea, LieApart}
 use Rattle.mda_ring.specs.Ring.{need, room}
 use Rattle.mda_ring.proofs.SpanLaws.{covers_from, covers_tells}
 use Rattle.vg_commit.specs.Written.{area_span, area_writes, header_after, header_before, header_of, header_span, headers_of, new_entry}
-use Rattle.vg_commit.specs.Written.{publish_of, stored, text_puts, texts_of}
+use Rattle.vg_commit.specs.Written.{publish_of, stored, text_puts, texts_of, whole_texts}
 use Rattle.vg_commit.specs.TooLarge.{first_too_large}
 use Rattle.vg_commit.specs.Showing.{Names}
 use Rattle.vg_commit.specs.SectorReading.{AllRead, HasPart, Reads, new_reading, old_reading}
@@ -123,20 +124,26 @@ written_some (put ∷ puts) pv sector h = step (λ later. written_some puts pv s
 
 module _ (text : List ℕ) where
   -- of which area a write of a text is
-  pub text_where : (areas : List (Area × Option Locn)) (d : Area × Option Locn) (pv sector : ℕ) (value : List ℕ)
-      → IsWrittenBy (texts_of (map (area_writes text) areas)) pv sector value
+  whole_where : (areas : List (Area × Option Locn)) (d : Area × Option Locn) (pv sector : ℕ) (value : List ℕ)
+      → IsWrittenBy (whole_texts (map (area_writes text) areas)) pv sector value
       → (k : ℕ) × (k < length areas) × IsWrittenBy (text_puts text (get_or areas k d)) pv sector value
-  text_where [] d pv sector value h = absurd h
-  text_where (a ∷ areas) d pv sector value h =
-      step (λ later. text_where areas d pv sector value later)
-      (written_append (text_puts text a) (texts_of (map (area_writes text) areas)) pv sector value h)
+  whole_where [] d pv sector value h = absurd h
+  whole_where (a ∷ areas) d pv sector value h =
+      step (λ later. whole_where areas d pv sector value later)
+      (written_append (text_puts text a) (whole_texts (map (area_writes text) areas)) pv sector value h)
     where
-      step : (IsWrittenBy (texts_of (map (area_writes text) areas)) pv sector value
+      step : (IsWrittenBy (whole_texts (map (area_writes text) areas)) pv sector value
           → (k : ℕ) × (k < length areas) × IsWrittenBy (text_puts text (get_or areas k d)) pv sector value)
-          → IsWrittenBy (text_puts text a) pv sector value ⊎ IsWrittenBy (texts_of (map (area_writes text) areas)) pv sector value
+          → IsWrittenBy (text_puts text a) pv sector value ⊎ IsWrittenBy (whole_texts (map (area_writes text) areas)) pv sector value
           → (k : ℕ) × (k < length (a ∷ areas)) × IsWrittenBy (text_puts text (get_or (a ∷ areas) k d)) pv sector value
       step rest (inl here) = (0, omega arith, here)
       step rest (inr later) = let w = rest later in (suc w.0, omega (arith, w.1), w.2)
+
+  pub text_where : (areas : List (Area × Option Locn)) (d : Area × Option Locn) (pv sector : ℕ) (value : List ℕ)
+      → IsWrittenBy (texts_of (map (area_writes text) areas)) pv sector value
+      → (k : ℕ) × (k < length areas) × IsWrittenBy (text_puts text (get_or areas k d)) pv sector value
+  text_where areas d pv sector value h =
+      whole_where areas d pv sector value (blocks_written (whole_texts (map (area_writes text) areas)) pv sector value h)
 
   -- of which area a write of a header is
   pub header_where : (areas : List (Area × Option Locn)) (d : Area × Option Locn) (pv sector : ℕ) (value : List ℕ)
@@ -173,17 +180,23 @@ module _ (text : List ℕ) where
       or_right (covers (header_span a.0) pv sector) (written_at (headers_of (map (area_writes text) areas)) pv sector)
       (header_at areas d k pv sector (omega arith) h)
 
+  whole_at : (areas : List (Area × Option Locn)) (d : Area × Option Locn) (k pv sector : ℕ) → k < length areas
+      → written_at (text_puts text (get_or areas k d)) pv sector ≡ true
+      → written_at (whole_texts (map (area_writes text) areas)) pv sector ≡ true
+  whole_at [] d k pv sector within h = absurd (omega arith)
+  whole_at (a ∷ areas) d zero pv sector within h =
+      at_append (text_puts text a) (whole_texts (map (area_writes text) areas)) pv sector
+      ∙ or_left (written_at (text_puts text a) pv sector) (written_at (whole_texts (map (area_writes text) areas)) pv sector) h
+  whole_at (a ∷ areas) d (suc k) pv sector within h =
+      at_append (text_puts text a) (whole_texts (map (area_writes text) areas)) pv sector
+      ∙ or_right (written_at (text_puts text a) pv sector) (written_at (whole_texts (map (area_writes text) areas)) pv sector)
+      (whole_at areas d k pv sector (omega arith) h)
+
   text_at_area : (areas : List (Area × Option Locn)) (d : Area × Option Locn) (k pv sector : ℕ) → k < length areas
       → written_at (text_puts text (get_or areas k d)) pv sector ≡ true
       → written_at (texts_of (map (area_writes text) areas)) pv sector ≡ true
-  text_at_area [] d k pv sector within h = absurd (omega arith)
-  text_at_area (a ∷ areas) d zero pv sector within h =
-      at_append (text_puts text a) (texts_of (map (area_writes text) areas)) pv sector
-      ∙ or_left (written_at (text_puts text a) pv sector) (written_at (texts_of (map (area_writes text) areas)) pv sector) h
-  text_at_area (a ∷ areas) d (suc k) pv sector within h =
-      at_append (text_puts text a) (texts_of (map (area_writes text) areas)) pv sector
-      ∙ or_right (written_at (text_puts text a) pv sector) (written_at (texts_of (map (area_writes text) areas)) pv sector)
-      (text_at_area areas d k pv sector (omega arith) h)
+  text_at_area areas d k pv sector within h =
+      blocks_cover (whole_texts (map (area_writes text) areas)) pv sector (whole_at areas d k pv sector within h)
 
 -- a header's sector, and its one value
 header_sector : (a : Area) (pv sector : ℕ) → covers (header_span a) pv sector ≡ true → (a.pv ≡ pv) × (a.start / 512 ≡ sector)

@@ -20,6 +20,7 @@ use Rattle.mda_ring.specs.RingSpans.{sectors_to_end, span_of_area}
 use Rattle.mda_ring.specs.Texts.{text_sectors}
 use Rattle.mda_ring.proofs.SpanLaws.{covers_tells}
 use Rattle.vg_commit.specs.Written.{area_span, area_writes, header_span, headers_of, publish_of, rest_put, text_puts, texts_of}
+use Rattle.vg_commit.specs.Written.{whole_texts}
 use Rattle.vg_commit.specs.TooLarge.{first_too_large}
 use Rattle.vg_commit.specs.Commits.{written_at}
 use Rattle.vg_commit.specs.Preparing.{AreCommitted, AreWithin, area_disks}
@@ -27,6 +28,7 @@ use Rattle.vg_commit.proofs.AreaPuts.{IsPlaced, is_placed, put_covers, text_put}
 use Rattle.vg_commit.proofs.AreasCommit.{header_covers, one_area, rooms, written_some}
 use Rattle.vg_commit.proofs.Disks.{area_disks_some, area_disks_too, flush_some, headers_on, texts_on}
 use Rattle.vg_commit.proofs.Lying.{headers_lie, headers_some, publish_lie, publish_some, texts_lie, texts_some}
+use Rattle.disk_batch.proofs.InBlocks.{blocks_apart, blocks_have}
 use Rattle.disk_batch.proofs.WritesApart.{can_run, each_apart, each_has}
 
 -- the two areas have no sector both
@@ -121,9 +123,10 @@ header_in a value can pv sector is =
     ]
 
 -- the writes of a batch, area by area
-texts_flat : (text : List ℕ) (areas : List (Area × Option Locn)) → texts_of (map (area_writes text) areas) ≡ flat_map (text_puts text) areas
-texts_flat text [] = refl
-texts_flat text (a ∷ areas) = ap (λ (l : List Put). text_puts text a ++ l) (texts_flat text areas)
+whole_flat : (text : List ℕ) (areas : List (Area × Option Locn))
+    → whole_texts (map (area_writes text) areas) ≡ flat_map (text_puts text) areas
+whole_flat text [] = refl
+whole_flat text (a ∷ areas) = ap (λ (l : List Put). text_puts text a ++ l) (whole_flat text areas)
 
 abbrev header_put : List ℕ → Area × Option Locn → List Put
 header_put text a = (header_span a.0, (area_writes text a).before ∷ []) ∷ []
@@ -162,15 +165,17 @@ module _ (text : List ℕ) (areas : List (Area × Option Locn)) (flush : FinSet 
 
     pub texts_can_run : writes_of batch ≡ texts_of (map (area_writes text) areas) → disks_of batch ≡ disks_in flush → CanRun sizes batch
     texts_can_run writes disks =
-        can_run sizes (texts_of (map (area_writes text) areas)) (disks_in flush) batch writes disks (texts_some text areas committed.some)
-        (flush_some areas flush committed) (texts_lie sizes text areas placed inside.areas_lie) inside.disks_are
-        (subst ShareNoSector (sym (texts_flat text areas))
+        let whole : List Put = whole_texts (map (area_writes text) areas) in
+        can_run sizes (texts_of (map (area_writes text) areas)) (disks_in flush) batch writes disks
+        (texts_some text areas committed.some placed) (flush_some areas flush committed)
+        (texts_lie sizes text areas placed inside.areas_lie) inside.disks_are
+        (blocks_apart whole (subst ShareNoSector (sym (whole_flat text areas))
         (each_apart (text_puts text) (IsPlaced text) NoneShared (λ a good. text_apart text a good)
         (λ a b good_a good_b none pv sector x y. none pv sector (text_in text a good_a pv sector x) (text_in text b good_b pv sector y))
-        areas placed alone))
-        (subst (All OnText) (sym (texts_flat text areas))
+        areas placed alone)))
+        (blocks_have OnText (λ put on from count le. on) whole (subst (All OnText) (sym (whole_flat text areas))
         (each_has (text_puts text) OnText areas (λ k d within. text_on (disks_in flush) text (get_or areas k d)
-        (texts_on areas flush committed.on_disks k d within))))
+        (texts_on areas flush committed.on_disks k d within)))))
 
     pub headers_can_run : writes_of batch ≡ headers_of (map (area_writes text) areas) → disks_of batch ≡ disks_in (area_disks areas)
         → CanRun sizes batch

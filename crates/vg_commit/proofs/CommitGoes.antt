@@ -14,7 +14,7 @@ use Rattle.disk_batch.specs.Batches.{Goes, after_done}
 use Rattle.disk_batch.specs.Faults.{FaultsSince}
 use Rattle.disk_batch.specs.Rounds.{BatchHolds}
 use Rattle.disk_batch.specs.Views.{View}
-use Rattle.disk_batch.proofs.Along.{along_both, along_completes, along_goes, along_told}
+use Rattle.disk_batch.proofs.Along.{LeavesAndAllows, along_both, along_completes, along_goes, along_told}
 use Rattle.disk_batch.proofs.Calling.{Came, Holds, goes_came, own_completes}
 use Rattle.disk_batch.proofs.Elsewhere.{flushed_steps}
 use Rattle.disk_batch.proofs.Faulting.{faults_go}
@@ -57,7 +57,9 @@ module _ (c : Commit) (target : ℕ → ℕ → Bool) (Now Goal : ℕ → ℕ �
     moments : (came : BatchStep) → Goes old view done came mid → AllAlong Leaves before mid
     moments came goes =
         along_both Leaves before old mid (along_completes Leaves before old done completes (leaves_before before view h) at_old)
-        (along_goes (is_own c) Now old mid view done came goes at_old)
+        (along_goes (is_own c) Now old mid view done came goes
+        (told_weaker (BatchHolds (is_own c) target Now Goal (after_done view done)) (LeavesAndAllows (is_own c) Now view) old.told
+        (λ t b. (b.leaves, b.rest_allowed)) (own_completes (is_own c) target Now Goal before old done view lawful completes h)))
 
     pub took : (came : BatchStep) → Goes old view done came mid
         → ((pv sector : ℕ) → IsTrue (is_own c pv sector) → IsTrue (target pv sector) → IsAmong view.flush pv) → IfSome before.told Sized

@@ -1,5 +1,5 @@
 -- A commit on its way, from its beginning until it is whole.
-use Rattle.std.proofs.Common.{◌≡◌, ℕ, Bool, List, All, Option, Some, None, IfSome, refl, sym, subst, ◌∙◌, arith}
+use Rattle.std.proofs.Common.{◌≡◌, ℕ, Bool, List, get_or, All, Option, Some, None, IfSome, refl, sym, subst, ◌∙◌, arith}
 use Rattle.disk_model.specs.declared.ops.Done.{Done}
 use Rattle.disk_model.specs.Calls.{Completes}
 use Rattle.disk_model.specs.Durability.{AllLeave}
@@ -38,6 +38,8 @@ use Rattle.vg_commit.specs.Phases.{ComFollows, ComView, PreFollows, PreView, com
 use Rattle.vg_commit.specs.Preparing.{area_disks}
 use Rattle.vg_commit.specs.SectorReading.{AllShow, AreSized, old_reading}
 use Rattle.vg_commit.specs.Written.{in_areas}
+use Rattle.vg_commit.proofs.AreaPuts.{is_placed}
+use Rattle.vg_commit.proofs.AreasCommit.{rooms}
 use Rattle.vg_commit.proofs.CommitGoes.{Took, flushed_along, took}
 use Rattle.vg_commit.proofs.CommitTargets.{header_targets, headers_allowed, headers_there, make, publish_allowed, publish_targets}
 use Rattle.vg_commit.proofs.CommitTargets.{shows_either, shows_old, text_targets, texts_there, weaker, with_texts_either, with_texts_old}
@@ -71,7 +73,9 @@ begins prepared text areas bytes flush old new view lawful prep starts h =
     let sound : IsSound c = record { committed = prep.committed; room = prep.room; read = prep.read } in
     let Sized : Record → Type 0 = λ told. AreSized (old_reading bytes) areas in
     let Leaves : Record → Type 0 = AllLeave (is_own c) (IsOld c) in
-    let some = texts_some text areas prep.committed.some in
+    let some =
+    texts_some text areas prep.committed.some
+    (λ k d within. is_placed text (get_or areas k d) (prep.committed.take k d within) (rooms text areas prep.room k d within)) in
     let texts : Starts old (texts_in c) (disks_in flush) view.batch new =
     started_as old new view.batch _ _ _ _ prep.texts prep.text_disks starts.0 in
     let facts =

@@ -12,3 +12,4 @@ mod CommitGoes
 mod CommitLaws
 mod CommitBeside
 mod CommitRoom
+mod CommitBuffers

@@ -1,16 +1,20 @@
 -- The plan of a commit, area by area, and what is prepared from it.
-use Rattle.std.proofs.Common.{◌≡◌, ◌≤◌, ◌<◌, ℕ, ◌+◌, ◌-◌, ◌*◌, ◌%◌, Bool, true, false, cond, nat_lt, List, [], ◌∷◌, ◌++◌, length, take}
-use Rattle.std.proofs.Common.{drop, map, get_or, Option, None, Some, IfSome, refl, sym, ap, subst, subst₂, ◌∙◌, arith}
+use Rattle.std.proofs.Common.{◌≡◌, ◌≤◌, ◌<◌, ℕ, ◌+◌, ◌-◌, ◌*◌, ◌/◌, ◌^◌, min, Bool, true, false, cond, nat_lt, List, [], ◌∷◌, ◌++◌, length}
+use Rattle.std.proofs.Common.{take, drop, flat_map, map, get_or, Option, None, Some, IfSome, refl, sym, ap, subst, subst₂, ◌∙◌, arith}
 use Rattle.std.specs.Prelude.{All, IfErr, IfOk, MatchResult, Result, Ok, Err}
 use Rattle.std.specs.Ordering.{nat_cmp}
 use Rattle.std.specs.FinSet.{FinSet}
-use Rattle.std.proofs.lemmas.Bool.{cond-false, le-ltb}
-use Rattle.std.proofs.lemmas.List.{append-nil, append_assoc, get_or-map, get_or_default, length-map, map_push, take-append-drop, take_all}
+use Rattle.std.proofs.lemmas.Bool.{cond-false, le-ltb, ltb-true}
+use Rattle.std.proofs.lemmas.List.{append-nil, get_or-map, get_or_default, length-drop, length-map, map-append, map_push, take-append-drop, take_all}
 use Rattle.std.proofs.lemmas.List.{take_more}
-use Rattle.std.proofs.lemmas.List.Elements.{All-map, All-nil, All-push}
+use Rattle.std.proofs.lemmas.List.Concat.{flat_map-append}
+use Rattle.std.proofs.lemmas.List.Elements.{All-append, All-cons, All-head, All-map, All-nil, All-push, All-tail}
+use Rattle.std.proofs.lemmas.List.FromFn.{length-map-range_with_len}
 use Rattle.sector_base.specs.Checksum.{checksum, lvm_crc_start}
 use Rattle.sector_base.specs.declared.spans.Span.{Span}
 use Rattle.disk_model.specs.Operations.{IsWithin}
+use Rattle.disk_batch.specs.Blocks.{in_blocks}
+use Rattle.disk_batch.specs.Parts.{IsPartOf, IsSmall, part_put}
 use Rattle.disk_batch.specs.Writes.{LieIn, disks_in}
 use Rattle.mda_header.specs.declared.header.Locn.{Locn}
 use Rattle.mda_header.specs.Header.{IsHeader, IsInside}
@@ -20,31 +24,21 @@ use Rattle.mda_ring.specs.declared.place.Place.{Place}
 use Rattle.mda_ring.specs.Areas.{CanTake, IsArea, LieApart}
 use Rattle.mda_ring.specs.NextPlace.{IsNext}
 use Rattle.mda_ring.specs.Ring.{need, next_offset, room, touched_count}
-use Rattle.mda_ring.specs.RingSpans.{ring_spans, spans_count}
-use Rattle.mda_ring.specs.Texts.{text_sectors}
+use Rattle.mda_ring.specs.RingSpans.{ring_spans, sectors_to_end, span_of_area}
+use Rattle.mda_ring.specs.Texts.{text_sector, text_sectors}
 use Rattle.vg_commit.specs.declared.plan.Plan.{Plan}
 use Rattle.vg_commit.specs.declared.prepared.Prepared.{Prepared}
 use Rattle.vg_commit.specs.declared.refusal.CommitRefusal.{CommitRefusal}
 use Rattle.vg_commit.specs.declared.refusal.CommitRefusal.TheVariants.{NoMemory, TooLarge}
 use Rattle.vg_commit.specs.Written.{area_span, area_writes, header_after, header_before, header_of, header_span, headers_of, new_entry}
-use Rattle.vg_commit.specs.Written.{publish_of, puts_on, stored, text_puts, texts_of, with_entries}
+use Rattle.vg_commit.specs.Written.{publish_of, rest_put, stored, text_puts, whole_texts, with_entries}
 use Rattle.vg_commit.specs.TooLarge.{IsCause, first_too_large}
-use Rattle.vg_commit.specs.Plans.{Adds, HeadersRead, IsPlan}
+use Rattle.vg_commit.specs.Plans.{Adds, HeadersRead, IsPlan, parts_on, rest_part, text_parts}
 use Rattle.vg_commit.specs.Preparing.{AreCommitted, AreWithin, CanStart, HasBatches, IsOnDiskOf, IsPrepared, area_disks}
-use Rattle.vg_commit.proofs.AreaPuts.{IsPlaced, entry_inside, is_placed, touched_is}
+use Rattle.vg_commit.proofs.AreaPuts.{IsPlaced, entry_inside, is_placed}
 use Rattle.vg_commit.proofs.AreasCommit.{rooms}
 use Rattle.vg_commit.proofs.Disks.{area_disks_too}
 use Rattle.vg_commit.proofs.Lying.{headers_lie, headers_some, publish_lie, publish_some, texts_lie, texts_some}
-
--- the first span has no more sectors than the text
-pub cut_fits : (size offset count sectors len : ℕ) (spans : Span × Option Span) → size % 512 ≡ 0 → offset % 512 ≡ 0
-    → 512 * sectors ≤ size - 512 → sectors ≡ need count → spans_count spans ≡ touched_count size offset count → len ≡ sectors
-    → spans.0.count ≤ len
-cut_fits size offset count sectors len spans whole aligned fits are counted is =
-    let t : touched_count size offset count ≡ need count =
-    touched_is size offset count whole aligned (subst (λ (n : ℕ). 512 * n ≤ size - 512) are fits) in
-    let c : spans_count spans ≡ len = counted ∙ t ∙ sym are ∙ sym is in
-    omega (arith, c)
 
 if_inside : (size : ℕ) (committed : Option Locn) → IsNoneOrInside size committed → IfSome committed (IsInside size)
 if_inside size None h = tt
@@ -53,7 +47,7 @@ if_inside size (Some locn) h = h
 -- one area's writes
 pub adds_area : (text : List ℕ) (area : Area) (committed : Option Locn) (place : Place) (count sum : ℕ) (old new : Plan) (bytes : List ℕ)
     → bytes ≡ text → count ≡ length bytes + 1 → IsNext area.size committed count place → sum ≡ checksum lvm_crc_start (stored text)
-    → new.texts.items ≡ old.texts.items ++ puts_on (ring_spans area place.offset (length text + 1)) (text_sectors text place.sectors)
+    → new.text ≡ old.text → new.texts.items ≡ old.texts.items ++ parts_on (ring_spans area place.offset count)
     → new.headers.items ≡ old.headers.items ++ (
       header_span area,
       header_bytes (header_of area committed (Some (record { offset = place.offset; size = count; sum = sum }))) ∷ [],
@@ -70,7 +64,7 @@ pub adds_area : (text : List ℕ) (area : Area) (committed : Option Locn) (place
     → IsHeader (header_bytes (header_of area (Some (record { offset = place.offset; size = count; sum = sum })) None))
     (header_of area (Some (record { offset = place.offset; size = count; sum = sum })) None))
     → IsArea area → IsNoneOrInside area.size committed → Adds text (area, committed) old new
-adds_area text area committed place count sum old new bytes bytes_eq count_is next sum_is texts headers publish entries read_before
+adds_area text area committed place count sum old new bytes bytes_eq count_is next sum_is kept texts headers publish entries read_before
     read_after good inside =
     let long : count ≡ length text + 1 = count_is ∙ ap (λ (l : List ℕ). length l + 1) bytes_eq in
     let entry : Locn = record { offset = place.offset; size = count; sum = sum } in
@@ -84,11 +78,10 @@ adds_area text area committed place count sum old new bytes bytes_eq count_is ne
     let in_area : IsInside area.size (new_entry text (area, committed)) =
     (entry_inside text (area, committed) (is_placed text (area, committed) (good, if_inside area.size committed inside) has_room)).0 in
     record {
+      sectors = kept;
       texts =
-          texts ∙ ap (λ (o : ℕ). old.texts.items ++ puts_on (ring_spans area o (length text + 1)) (text_sectors text place.sectors))
-          next.offset_is
-          ∙ ap (λ (s : ℕ). old.texts.items ++ puts_on (ring_spans area (next_offset area.size committed) (length text + 1))
-          (text_sectors text s)) (next.sectors_is ∙ ap need long);
+          texts ∙ ap (λ (o : ℕ). old.texts.items ++ parts_on (ring_spans area o count)) next.offset_is
+          ∙ ap (λ (n : ℕ). old.texts.items ++ parts_on (ring_spans area (next_offset area.size committed) n)) long;
       headers =
           headers ∙ ap (λ (e : Locn). old.headers.items ++ (header_span area, header_bytes (header_of area committed (Some e)) ∷ []) ∷ [])
           same;
@@ -110,12 +103,11 @@ adds_area text area committed place count sum old new bytes bytes_eq count_is ne
 
 -- one area more in each list
 module _ (text : List ℕ) (a : Area × Option Locn) where
-  texts_push : (areas : List (Area × Option Locn))
-      → texts_of (map (area_writes text) (areas ++ a ∷ [])) ≡ texts_of (map (area_writes text) areas) ++ text_puts text a
-  texts_push [] = append-nil (text_puts text a)
-  texts_push (b ∷ areas) =
-      ap (λ (l : List (Span × List (List ℕ))). text_puts text b ++ l) (texts_push areas)
-      ∙ sym (append_assoc (text_puts text b) (texts_of (map (area_writes text) areas)) (text_puts text a))
+  parts_push : (areas : List (Area × Option Locn))
+      → flat_map (text_parts text) (areas ++ a ∷ []) ≡ flat_map (text_parts text) areas ++ text_parts text a
+  parts_push areas =
+      flat_map-append (text_parts text) areas (a ∷ [])
+      ∙ ap (λ (l : List (Span × ℕ)). flat_map (text_parts text) areas ++ l) (append-nil (text_parts text a))
 
   headers_push : (areas : List (Area × Option Locn))
       → headers_of (map (area_writes text) (areas ++ a ∷ []))
@@ -159,7 +151,8 @@ module _ (text : List ℕ) (a : Area × Option Locn) where
   plan_push : (areas : List (Area × Option Locn)) (old new : Plan) → IsPlan text areas old → Adds text a old new
       → IsPlan text (areas ++ a ∷ []) new
   plan_push areas old new plan adds = record {
-    texts = adds.texts ∙ ap (λ (l : List (Span × List (List ℕ))). l ++ text_puts text a) plan.texts ∙ sym (texts_push areas);
+    sectors = adds.sectors ∙ plan.sectors;
+    texts = adds.texts ∙ ap (λ (l : List (Span × ℕ)). l ++ text_parts text a) plan.texts ∙ sym (parts_push areas);
     headers =
         adds.headers ∙ ap (λ (l : List (Span × List (List ℕ))). l ++ (header_span a.0, header_bytes (header_before text a) ∷ []) ∷ [])
         plan.headers ∙ sym (headers_push areas);
@@ -174,10 +167,10 @@ module _ (text : List ℕ) (a : Area × Option Locn) where
   }
 
 -- no area yet
-pub plan_none : (text : List ℕ) (areas : List (Area × Option Locn)) (plan : Plan) → plan.texts.items ≡ [] → plan.headers.items ≡ []
-    → plan.publish.items ≡ [] → plan.areas.items ≡ [] → IsPlan text (take 0 areas) plan
-plan_none text areas plan a b c d =
-    record { texts = a; headers = b; publish = c; entries = d; room = refl; read = All-nil (HeadersRead text) }
+pub plan_none : (text : List ℕ) (areas : List (Area × Option Locn)) (plan : Plan) → plan.text ≡ text_sectors text (need (length text + 1))
+    → plan.texts.items ≡ [] → plan.headers.items ≡ [] → plan.publish.items ≡ [] → plan.areas.items ≡ [] → IsPlan text (take 0 areas) plan
+plan_none text areas plan e a b c d =
+    record { sectors = e; texts = a; headers = b; publish = c; entries = d; room = refl; read = All-nil (HeadersRead text) }
 
 -- the next area of a loop
 pub plan_on : (text : List ℕ) (areas : List (Area × Option Locn)) (i : ℕ) (a : Area × Option Locn) (old new : Plan) → i < length areas
@@ -238,6 +231,98 @@ within_again sizes text areas flush inside = record {
   disks_are = inside.disks_are;
 }
 
+-- ---- the parts of the text are its writes
+
+module _ (text : List ℕ) where
+  abbrev total : ℕ
+  total = need (length text + 1)
+
+  abbrev sectors : List (List ℕ)
+  sectors = text_sectors text total
+
+  long : length sectors ≡ total
+  long = length-map-range_with_len (text_sector text) 0 total
+
+  module _ (a : Area × Option Locn) (placed : IsPlaced text a) where
+    abbrev offset : ℕ
+    offset = next_offset a.0.size a.1
+
+    abbrev all : ℕ
+    all = touched_count a.0.size offset (length text + 1)
+
+    abbrev to_end : ℕ
+    to_end = sectors_to_end a.0.size offset
+
+    abbrev second : Span
+    second = span_of_area a.0 1 (all - to_end)
+
+    rest_writes : (b : Bool) → nat_lt to_end all ≡ b
+        → map (part_put sectors) (rest_part (cond b (Some second) None) (min all to_end))
+        ≡ rest_put (cond b (Some second) None) (drop (min all to_end) sectors)
+    rest_writes true round =
+        let past : to_end < all = ltb-true to_end all round in
+        let same : all ≡ total = placed.touched in
+        ap (λ (l : List (List ℕ)). (second, l) ∷ [])
+        (take_all (all - to_end) (drop (min all to_end) sectors) (omega (arith, past, same, long, length-drop (min all to_end) sectors)))
+    rest_writes false straight = refl
+
+    area_writes_parts : map (part_put sectors) (text_parts text a) ≡ text_puts text a
+    area_writes_parts =
+        ap (λ (l : List (Span × List (List ℕ))). (span_of_area a.0 (offset / 512) (min all to_end), take (min all to_end) sectors) ∷ l)
+        (rest_writes (nat_lt to_end all) refl)
+
+    -- and lie in it
+    rest_has : (P : Span × ℕ → Type 0) → (to_end < all → P (second, min all to_end)) → (b : Bool) → nat_lt to_end all ≡ b
+        → All P (rest_part (cond b (Some second) None) (min all to_end))
+    rest_has P there true round = All-cons P (second, min all to_end) [] (there (ltb-true to_end all round)) (All-nil P)
+    rest_has P there false straight = All-nil P
+
+    area_within : All (IsPartOf (length sectors)) (text_parts text a)
+    area_within =
+        let same : all ≡ total = placed.touched in
+        All-cons (IsPartOf (length sectors)) (span_of_area a.0 (offset / 512) (min all to_end), 0) _ (omega (arith, same, long))
+        (rest_has (IsPartOf (length sectors)) (λ past. omega (arith, past, same, long)) (nat_lt to_end all) refl)
+
+    area_small : All IsSmall (text_parts text a)
+    area_small =
+        let same : all ≡ total = placed.touched in
+        let fits : 512 * total ≤ a.0.size - 512 = placed.ring.fits in
+        let before : offset < a.0.size = placed.ring.before_end in
+        let ends : a.0.start + a.0.size ≤ 2 ^ 49 = placed.good.ends in
+        All-cons IsSmall (span_of_area a.0 (offset / 512) (min all to_end), 0) _
+        (omega (arith, same, fits, before, ends), omega (arith, same, fits, ends))
+        (rest_has IsSmall (λ past. (omega (arith, past, same, fits, ends), omega (arith, past, same, fits, ends))) (nat_lt to_end all) refl)
+
+  parts_writes : (areas : List (Area × Option Locn)) → All (IsPlaced text) areas
+      → map (part_put sectors) (flat_map (text_parts text) areas) ≡ whole_texts (map (area_writes text) areas)
+  parts_writes [] placed = refl
+  parts_writes (a ∷ areas) placed =
+      map-append (part_put sectors) (text_parts text a) (flat_map (text_parts text) areas)
+      ∙ ap (λ (l : List (Span × List (List ℕ))). l ++ map (part_put sectors) (flat_map (text_parts text) areas))
+      (area_writes_parts a (All-head (IsPlaced text) a areas placed))
+      ∙ ap (λ (l : List (Span × List (List ℕ))). text_puts text a ++ l) (parts_writes areas (All-tail (IsPlaced text) a areas placed))
+
+  parts_have : (P : Span × ℕ → Type 0) → ((a : Area × Option Locn) → IsPlaced text a → All P (text_parts text a))
+      → (areas : List (Area × Option Locn)) → All (IsPlaced text) areas → All P (flat_map (text_parts text) areas)
+  parts_have P each [] placed = All-nil P
+  parts_have P each (a ∷ areas) placed =
+      All-append P (text_parts text a) (flat_map (text_parts text) areas) (each a (All-head (IsPlaced text) a areas placed))
+      (parts_have P each areas (All-tail (IsPlaced text) a areas placed))
+
+  module _ (areas : List (Area × Option Locn)) (flush : FinSet nat_cmp) (committed : AreCommitted areas flush) (plan : Plan)
+      (is_plan : IsPlan text areas plan) where
+    pub all_placed : All (IsPlaced text) areas
+    all_placed k d within =
+        is_placed text (get_or areas k d) (committed.take k d within) (rooms text areas is_plan.room k d within)
+
+    pub plan_small : All IsSmall plan.texts.items
+    plan_small = subst (All IsSmall) (sym is_plan.texts) (parts_have IsSmall area_small areas all_placed)
+
+    pub plan_within : All (IsPartOf (length plan.text)) plan.texts.items
+    plan_within =
+        subst (λ (l : List (List ℕ)). All (IsPartOf (length l)) plan.texts.items) (sym is_plan.sectors)
+        (subst (All (IsPartOf (length sectors))) (sym is_plan.texts) (parts_have (IsPartOf (length sectors)) area_within areas all_placed))
+
 module _ (text : List ℕ) (areas : List (Area × Option Locn)) (flush disks : FinSet nat_cmp) (plan : Plan) (is_plan : IsPlan text areas plan)
     (are : disks ≡ area_disks areas) (committed : AreCommitted areas flush) where
   -- what is prepared
@@ -245,7 +330,11 @@ module _ (text : List ℕ) (areas : List (Area × Option Locn)) (flush disks : F
   is_prepared prepared has = record {
     committed = committed;
     room = is_plan.room;
-    texts = has.texts ∙ is_plan.texts;
+    texts = has.texts
+        ∙ ap in_blocks
+        (ap (λ (s : List (List ℕ)). map (part_put s) plan.texts.items) is_plan.sectors
+        ∙ ap (λ (l : List (Span × ℕ)). map (part_put (text_sectors text (need (length text + 1)))) l) is_plan.texts
+        ∙ parts_writes text areas (all_placed text areas flush committed plan is_plan));
     headers = has.headers ∙ is_plan.headers;
     publish = has.publish ∙ is_plan.publish;
     text_disks = has.text_disks;
@@ -266,7 +355,7 @@ module _ (text : List ℕ) (areas : List (Area × Option Locn)) (flush disks : F
 
   -- and that it can start
   placed : All (IsPlaced text) areas
-  placed k d within = is_placed text (get_or areas k d) (committed.take k d within) (rooms text areas is_plan.room k d within)
+  placed = all_placed text areas flush committed plan is_plan
 
   starts : (prepared : Prepared) → HasBatches plan flush disks prepared → (sizes : List ℕ) → AreWithin sizes areas flush
       → CanStart sizes prepared
@@ -276,7 +365,7 @@ module _ (text : List ℕ) (areas : List (Area × Option Locn)) (flush disks : F
       let all_disks : few (disks_in (area_disks areas)) =
       area_disks_too (λ (pv : ℕ). pv < length sizes) areas flush committed.on_disks inside.disks_are in
       let writes : List (Span × List (List ℕ)) → Type 0 = λ l. (0 < length l) × LieIn sizes l in
-      let w1 = subst writes (sym p.texts) (texts_some text areas committed.some, texts_lie sizes text areas placed inside.areas_lie) in
+      let w1 = subst writes (sym p.texts) (texts_some text areas committed.some placed, texts_lie sizes text areas placed inside.areas_lie) in
       let w2 =
       subst writes (sym p.headers) (headers_some text areas committed.some, headers_lie sizes text areas placed inside.areas_lie) in
       let w3 =

@@ -1,5 +1,5 @@
 -- The laws of a commit on its way, call by call and beside whatever else is in flight.
-use Rattle.std.specs.Prelude.{◌≡◌, ◌≤◌, ◌<◌, ◌+◌, ℕ, false, IsTrue, List, length, All, Option, IfSome}
+use Rattle.std.specs.Prelude.{◌≡◌, ◌≤◌, ◌<◌, ◌+◌, ℕ, false, IsTrue, List, All, Option, IfSome}
 use Rattle.std.specs.Ordering.{nat_cmp}
 use Rattle.std.specs.FinSet as set
 use Rattle.disk_model.specs.declared.ops.Done.{Done}
@@ -9,13 +9,15 @@ use Rattle.disk_model.specs.Calls.{Completes, Submits}
 use Rattle.disk_model.specs.InFlight.{IsAmong}
 use Rattle.disk_model.specs.Moments.{EachImage}
 use Rattle.disk_model.specs.Operations.{work_of}
+use Rattle.disk_model.specs.Record.{Operation}
 use Rattle.disk_model.specs.State.{IsLawful, State}
 use Rattle.disk_model.specs.Steps.{Record, Work}
 use Rattle.disk_model.specs.Submitting.{writes_at}
 use Rattle.disk_batch.specs.Along.{AllAlong, GoesElsewhere}
 use Rattle.disk_batch.specs.Rounds.{AreStill}
 use Rattle.disk_batch.specs.Submits.{SubmitsWorks}
-use Rattle.disk_batch.specs.Views.{to_come}
+use Rattle.disk_batch.specs.Fits.{HasBuffer, HasBuffers, LiesOn}
+use Rattle.disk_batch.specs.Views.{View, sectors_to_come, to_come}
 use Rattle.mda_header.specs.declared.header.Locn.{Locn}
 use Rattle.mda_ring.specs.declared.area.Area.{Area}
 use Rattle.vg_commit.specs.declared.committed.Committed.{Committed}
@@ -30,7 +32,7 @@ use Rattle.vg_commit.specs.CommitHolds.{ComCame, ComHolds, Commit, FailedHolds, 
 use Rattle.vg_commit.specs.CommitHolds.{ReadyHolds, WholeHolds, is_header, is_own, is_text, publish_in}
 use Rattle.vg_commit.specs.Commits.{written_at}
 use Rattle.vg_commit.specs.Phases.{ComGoes, ComView, FitsAhead, PreGoes, PreView, Publishes, ReadyView, StartsCommit, com_view}
-use Rattle.vg_commit.specs.Phases.{flushes_left, ops_ahead, ops_left, pre_view, sectors_ahead, sectors_left}
+use Rattle.vg_commit.specs.Phases.{ops_after, ops_ahead, ops_left, pre_view, sectors_after, sectors_ahead, sectors_left}
 use Rattle.vg_commit.specs.Preparing.{CanRun, CanStart, IsPrepared, ops_of, sectors_in}
 use Rattle.vg_commit.specs.SectorReading.{AllShow, EachShows, new_reading, old_reading}
 use Rattle.vg_commit.specs.Written.{in_areas}
@@ -57,10 +59,20 @@ abbrev pub StaysWithin : List ℕ → PreStep → Type 0
 StaysWithin sizes (pre.Going next) = FitsAhead sizes (pre_view next)
 StaysWithin sizes step = Unit {0}
 
--- and what it flushes since it was published
-abbrev pub FlushesWithin : List ℕ → ComStep → Type 0
-FlushesWithin sizes (published.Going next) = All (λ (pv : ℕ). pv < length sizes) (com_view next).batch.flush
-FlushesWithin sizes step = Unit {0}
+-- and what it goes on to since it was published
+abbrev pub ComWithin : List ℕ → ComStep → Type 0
+ComWithin sizes (published.Going next) = LiesOn sizes (com_view next).batch
+ComWithin sizes step = Unit {0}
+
+-- where a block is next, its operations in flight are blocks
+abbrev pub PreHasBuffers : List Operation → PreStep → Type 0
+PreHasBuffers in_flight (pre.Going next) = HasBuffers in_flight (pre_view next).batch
+PreHasBuffers in_flight step = Unit {0}
+
+-- and since it was published
+abbrev pub ComHasBuffers : List Operation → ComStep → Type 0
+ComHasBuffers in_flight (published.Going next) = HasBuffers in_flight (com_view next).batch
+ComHasBuffers in_flight step = Unit {0}
 
 -- ---- its own calls
 
@@ -169,16 +181,54 @@ GoesSpending =
 abbrev pub PublishesSpending : Type 0
 PublishesSpending =
     (old new : State) (ready : ReadyView) (next : Committing) → CanRun old.sizes ready.publish → Publishes old ready (com_view next) new
-    → SpendsAhead old (ops_of ready.publish) (sectors_in ready.publish) (to_come (com_view next).batch) 0 new
-    × All (λ (pv : ℕ). pv < length new.sizes) (com_view next).batch.flush
+    → SpendsAhead old (ops_of ready.publish) (sectors_in ready.publish) (to_come (com_view next).batch)
+    (sectors_to_come (com_view next).batch) new
+    × LiesOn new.sizes (com_view next).batch
 
 -- and at a completion of its own since
 abbrev pub CommitsSpending : Type 0
 CommitsSpending =
     (before old new : State) (now : Committing) (done : Done) (step : ComStep)
-    → All (λ (pv : ℕ). pv < length before.sizes) (com_view now).batch.flush → Completes before done old
+    → LiesOn before.sizes (com_view now).batch → Completes before done old
     → ComGoes old (com_view now) done step new
-    → SpendsAhead before (to_come (com_view now).batch) 0 (flushes_left step) 0 new × FlushesWithin new.sizes step
+    → SpendsAhead before (to_come (com_view now).batch) (sectors_to_come (com_view now).batch) (ops_after step) (sectors_after step) new
+    × ComWithin new.sizes step
+
+-- ---- the buffers of blocks
+
+-- from its beginning on a block has a buffer: that of the operation of the commit that completes before it
+abbrev pub BeginsBuffered : Type 0
+BeginsBuffered = (prepared : Prepared) (old new : State) (view : PreView) → IsLawful old → StartsCommit old prepared view new
+    → HasBuffers new.in_flight view.batch
+
+-- a completion of its own brings it back
+abbrev pub BringsBuffer : Type 0
+BringsBuffer = (view : View) (before old : State) (done : Done) → HasBuffers before.in_flight view → Completes before done old
+    → IsAmong view.tags done.tag → HasBuffer view done
+
+-- and then it goes on so
+abbrev pub GoesBuffered : Type 0
+GoesBuffered =
+    (before old new : State) (view : PreView) (done : Done) (step : PreStep) → IsLawful old → HasBuffers before.in_flight view.batch
+    → Completes before done old → PreGoes old view done step new → PreHasBuffers new.in_flight step
+
+-- where it is published
+abbrev pub PublishesBuffered : Type 0
+PublishesBuffered = (old new : State) (ready : ReadyView) (view : ComView) → IsLawful old → Publishes old ready view new
+    → HasBuffers new.in_flight view.batch
+
+-- and since
+abbrev pub CommitsBuffered : Type 0
+CommitsBuffered =
+    (before old new : State) (view : ComView) (done : Done) (step : ComStep) → IsLawful old → HasBuffers before.in_flight view.batch
+    → Completes before done old → ComGoes old view done step new → ComHasBuffers new.in_flight step
+
+-- completions and submissions of others leave it so
+abbrev pub OthersLeaveBuffers : Type 0
+OthersLeaveBuffers =
+    (view : View) (old new : State) → HasBuffers old.in_flight view
+    → ((done : Done) → Completes old done new → HasBuffers new.in_flight view)
+    × ((op : Op) (tag : ℕ) → (IsAmong view.tags tag → ⊥) → Submits old op tag new → HasBuffers new.in_flight view)
 
 -- ---- what each image shows
 

@@ -1,12 +1,13 @@
 -- A commit on its way, phase by phase, as the layers above see it, and what its calls do.
-use Rattle.std.specs.Prelude.{◌≡◌, ◌<◌, ◌+◌, ℕ, List, length, All, Option, Some, None, IfSome}
+use Rattle.std.specs.Prelude.{◌≡◌, ◌+◌, ℕ, List, Option, Some, None, IfSome}
 use Rattle.disk_model.specs.declared.ops.Done.{Done}
 use Rattle.disk_model.specs.State.{State}
 use Rattle.disk_batch.specs.declared.batch.Batch.{Batch}
 use Rattle.disk_batch.specs.declared.batching.BatchStep.{BatchStep}
 use Rattle.disk_batch.specs.declared.batching.BatchStep.TheVariants as batch
 use Rattle.disk_batch.specs.Batches.{Goes, Starts, disks_of, view_of, writes_of}
-use Rattle.disk_batch.specs.Views.{View, to_come}
+use Rattle.disk_batch.specs.Fits.{LiesOn}
+use Rattle.disk_batch.specs.Views.{View, sectors_to_come, to_come}
 use Rattle.mda_header.specs.declared.header.Locn.{Locn}
 use Rattle.mda_ring.specs.declared.area.Area.{Area}
 use Rattle.vg_commit.specs.declared.committing.ComStep.{ComStep}
@@ -65,11 +66,11 @@ ops_ahead view = to_come view.batch + ops_if view.headers
 
 -- and how many sectors
 abbrev pub sectors_ahead : PreView → ℕ
-sectors_ahead view = sectors_if view.headers
+sectors_ahead view = sectors_to_come view.batch + sectors_if view.headers
 
 -- what it may still submit before it is ready lies in disks of these sizes
 pub record FitsAhead (sizes : List ℕ) (view : PreView) : Type 0 where
-  pub flush : All (λ (pv : ℕ). pv < length sizes) view.batch.flush
+  pub batch : LiesOn sizes view.batch
   pub headers : IfSome view.headers (CanRun sizes)
 
 -- how many operations it may still submit before it is ready, by what it came to
@@ -82,10 +83,15 @@ abbrev pub sectors_left : PreStep → ℕ
 sectors_left (pre.Going next) = sectors_ahead (pre_view next)
 sectors_left step = 0
 
--- how many flushes it may still submit since it was published
-abbrev pub flushes_left : ComStep → ℕ
-flushes_left (published.Going next) = to_come (com_view next).batch
-flushes_left step = 0
+-- how many operations it may still submit since it was published
+abbrev pub ops_after : ComStep → ℕ
+ops_after (published.Going next) = to_come (com_view next).batch
+ops_after step = 0
+
+-- and how many sectors
+abbrev pub sectors_after : ComStep → ℕ
+sectors_after (published.Going next) = sectors_to_come (com_view next).batch
+sectors_after step = 0
 
 -- the texts were submitted
 abbrev pub StartsCommit : State → Prepared → PreView → State → Type 0

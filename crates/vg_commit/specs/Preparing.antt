@@ -6,6 +6,8 @@ use Rattle.mda_header.specs.declared.header.Locn.{Locn}
 use Rattle.mda_ring.specs.declared.area.Area.{Area}
 use Rattle.mda_ring.specs.Areas.{CanTake, LieApart}
 use Rattle.disk_batch.specs.Batches.{writes_of, disks_of}
+use Rattle.disk_batch.specs.Blocks.{in_blocks}
+use Rattle.disk_batch.specs.Parts.{part_put}
 use Rattle.disk_batch.specs.Writes.{LieIn, disks_in, span_count}
 use Rattle.disk_batch.specs.declared.batch.Batch.{Batch}
 use Rattle.disk_model.specs.Operations.{IsWithin}
@@ -87,7 +89,7 @@ sectors_needed prepared = sectors_in prepared.texts + sectors_in prepared.header
 
 -- the batches are those of the plan
 pub record HasBatches (plan : Plan) (flush disks : set.FinSet nat_cmp) (prepared : Prepared) : Type 0 where
-  pub texts : writes_of prepared.texts ≡ plan.texts.items
+  pub texts : writes_of prepared.texts ≡ in_blocks (map (part_put plan.text) plan.texts.items)
   pub headers : writes_of prepared.headers ≡ plan.headers.items
   pub publish : writes_of prepared.publish ≡ plan.publish.items
   pub text_disks : disks_of prepared.texts ≡ disks_in flush

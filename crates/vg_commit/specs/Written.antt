@@ -4,6 +4,7 @@ use Rattle.std.specs.Prelude.{ℕ, ◌+◌, ◌/◌, Bool, false, ◌||◌, List
 use Rattle.sector_base.specs.Checksum.{checksum, lvm_crc_start}
 use Rattle.sector_base.specs.declared.spans.Span.{Span}
 use Rattle.sector_base.specs.Spans.{covers}
+use Rattle.disk_batch.specs.Blocks.{in_blocks}
 use Rattle.mda_header.specs.declared.header.Locn.{Locn}
 use Rattle.mda_header.specs.declared.header.MdaHeader.{MdaHeader}
 use Rattle.mda_header.specs.HeaderBytes.{header_bytes}
@@ -80,10 +81,14 @@ area_writes text area = record {
   text = text_puts text area;
 }
 
--- the writes of the first batch, in the areas' order
+-- the writes of the texts, in the areas' order
+abbrev pub whole_texts : List AreaWrites → List (Span × List (List ℕ))
+whole_texts [] = []
+whole_texts (area ∷ areas) = area.text ++ whole_texts areas
+
+-- those of the first batch, block by block
 abbrev pub texts_of : List AreaWrites → List (Span × List (List ℕ))
-texts_of [] = []
-texts_of (area ∷ areas) = area.text ++ texts_of areas
+texts_of areas = in_blocks (whole_texts areas)
 
 -- those of the second
 abbrev pub headers_of : List AreaWrites → List (Span × List (List ℕ))

@@ -1,6 +1,7 @@
 //! A commit that is published.
-ghost use Rattle.std.specs.Prelude.{◌≡◌, ◌≤◌, ◌<◌, ◌↔◌, length, All, IsTrue};
-ghost use Rattle.disk_batch.specs.Views.{to_come};
+ghost use Rattle.std.specs.Prelude.{◌≡◌, ◌≤◌, ◌↔◌, IsTrue};
+ghost use Rattle.disk_batch.specs.Fits.{HasBuffer, LiesOn};
+ghost use Rattle.disk_batch.specs.Views.{sectors_to_come, to_come};
 ghost use Rattle.disk_model.specs.InFlight.{IsAmong};
 
 use crate::Committed;
@@ -73,8 +74,10 @@ impl Committing {
     /// Takes a completion of its own.
     pub fn on_done<S: Shelf>(self, done: Done, shelf: &mut S) -> ComStep
         requires owns { IsAmong (com_view self).batch.tags done.tag }
-        requires disks { All (λ pv. pv < length (S.state shelf.old).sizes) (com_view self).batch.flush }
+        requires lies { LiesOn (S.state shelf.old).sizes (com_view self).batch }
         requires ops { to_come (com_view self).batch ≤ (S.state shelf.old).spare_ops }
+        requires sectors { sectors_to_come (com_view self).batch ≤ (S.state shelf.old).spare_sectors }
+        requires buffer { HasBuffer (com_view self).batch done }
         ensures { ComGoes (S.state shelf.old) (com_view self) done result (S.state shelf.new) }
     {
         let Committing { batching, areas } = self;

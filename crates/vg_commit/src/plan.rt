@@ -4,6 +4,8 @@ ghost use Rattle.sector_base.specs.Checksum.{checksum, lvm_crc_start};
 ghost use Rattle.mda_header.specs.HeaderBytes.{IsNoneOrInside};
 ghost use Rattle.mda_ring.specs.Areas.{CanTake, IsArea};
 ghost use Rattle.mda_ring.specs.NextPlace.{IsInRing, IsNext};
+ghost use Rattle.mda_ring.specs.Ring.{need};
+ghost use Rattle.mda_ring.specs.Texts.{text_sectors};
 ghost use Rattle.vg_commit.specs.Written.{stored};
 ghost use Rattle.vg_commit.specs.TooLarge.{IsCause};
 ghost use Rattle.vg_commit.specs.Plans.{Adds, IsPlan};
@@ -13,14 +15,16 @@ ghost use Rattle.vg_commit.specs.declared.refusal.CommitRefusal.TheVariants.{NoM
 use crate::CommitRefusal;
 use crate::puts::{put_header, put_text};
 use mda_header::Locn;
-use mda_ring::{Area, Place, RingRefusal, plan_next};
+use mda_ring::{Area, Place, RingRefusal, plan_next, scatter};
 use sector_base::{LVM_CRC_START, Sectors, Span, Text, crc};
 use std::alloc::Global;
 
-// The writes of the three batches, and the areas with their new entries, so far.
+// What the three batches write, and the areas with their new entries, so far: the sectors of the text, where they go, each
+// span with the number of the sector from which it goes on, and the headers.
 #[derive(Drop)]
 pub(crate) struct Plan {
-    pub(crate) texts: Vec<(Span, Sectors)>,
+    pub(crate) text: Sectors,
+    pub(crate) texts: Vec<(Span, usize)>,
     pub(crate) headers: Vec<(Span, Sectors)>,
     pub(crate) publish: Vec<(Span, Sectors)>,
     pub(crate) areas: Vec<(Area, Option<Locn>)>,
@@ -38,6 +42,7 @@ pub(crate) fn plan_of(
 {
     let sum = stored_sum(alloc, text)?;
     let mut plan = Plan {
+        text: stored_sectors(alloc, text)?,
         texts: Vec::new(alloc),
         headers: Vec::new(alloc),
         publish: Vec::new(alloc),
@@ -71,7 +76,7 @@ fn add_area(
         size,
         sum,
     };
-    put_text(alloc, area, place, text, &mut plan.texts)?;
+    put_text(area, place, size, &mut plan.texts)?;
     put_header(alloc, area, committed, Some(entry), &mut plan.headers)?;
     put_header(alloc, area, Some(entry), None, &mut plan.publish)?;
     plan.areas.push((*area, Some(entry)))?;
@@ -91,6 +96,19 @@ fn place_of(area: &Area, committed: Option<Locn>, size: u64) -> Result<Place, Co
         Err(RingRefusal::TooLarge { need, room }) => Err(CommitRefusal::TooLarge { need, room }),
         Err(_) => Err(CommitRefusal::NoMemory),
     }
+}
+
+// The sectors of the text as it is stored.
+fn stored_sectors(alloc: Global, text: &Text) -> Result<Sectors, CommitRefusal>
+    requires size { length text.now < 2 ^ 40 }
+    ensures sectors { IfOk result (λ sectors. sectors ≡ text_sectors text.now (need (length text.now + 1))) }
+    ensures cause { MatchResult result (λ _. Unit {0}) (λ refusal. refusal ≡ NoMemory) }
+{
+    let place = Place {
+        offset: 512,
+        sectors: (text.as_bytes().len() as u64 + 1).div_ceil(512),
+    };
+    Ok(scatter(alloc, text, place)?)
 }
 
 // The checksum of the text as it is stored. A text of 2^40 bytes or more is want of memory.

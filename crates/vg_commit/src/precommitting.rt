@@ -1,5 +1,6 @@
 //! A commit on its way, before it is published.
 ghost use Rattle.std.specs.Prelude.{◌≡◌, ◌≤◌, ◌↔◌, length, sum_by, IsTrue};
+ghost use Rattle.disk_batch.specs.Fits.{HasBuffer};
 ghost use Rattle.disk_batch.specs.Writes.{span_count};
 ghost use Rattle.disk_model.specs.InFlight.{IsAmong};
 
@@ -72,6 +73,7 @@ impl Precommitting {
         requires ahead { FitsAhead (S.state shelf.old).sizes (pre_view self) }
         requires ops { ops_ahead (pre_view self) ≤ (S.state shelf.old).spare_ops }
         requires sectors { sectors_ahead (pre_view self) ≤ (S.state shelf.old).spare_sectors }
+        requires buffer { HasBuffer (pre_view self).batch done }
         ensures { PreGoes (S.state shelf.old) (pre_view self) done result (S.state shelf.new) }
     {
         let Precommitting {

@@ -4,6 +4,7 @@ ghost use Rattle.std.specs.FinSet as set;
 ghost use Rattle.conf_text.specs.Printed.{printed};
 ghost use Rattle.meta_print.specs.Layout.{tree_of};
 ghost use Rattle.disk_batch.specs.Batches.{writes_of, disks_of};
+ghost use Rattle.disk_batch.specs.Parts.{IsPartOf, IsSmall};
 ghost use Rattle.disk_batch.specs.Writes.{disks_in};
 ghost use Rattle.vg_commit.specs.TooLarge.{IsCause};
 ghost use Rattle.vg_commit.specs.Plans.{IsPlan};
@@ -83,18 +84,21 @@ fn batches_of(
     flush: PvSet,
     disks: PvSet,
 ) -> Result<Prepared, CommitRefusal>
+    requires small { All IsSmall plan.texts.items }
+    requires parts { All (IsPartOf (length plan.text)) plan.texts.items }
     requires flush { 0 < length (disks_in flush) }
     requires disks { 0 < length (disks_in disks) }
     ensures batches { IfOk result (λ prepared. HasBatches plan flush disks prepared) }
     ensures cause { IfErr result (λ refusal. refusal ≡ NoMemory) }
 {
     let Plan {
+        text,
         texts,
         headers,
         publish,
         areas,
     } = plan;
-    let texts = batch_of(alloc, texts, flush)?;
+    let texts = Batch::of_parts(alloc, text, &texts, flush)?;
     let headers = batch_of(alloc, headers, disks)?;
     let publish = batch_of(alloc, publish, disks)?;
     Ok(Prepared {

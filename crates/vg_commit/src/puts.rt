@@ -1,51 +1,47 @@
 //! The writes of one area.
-ghost use Rattle.std.specs.Prelude.{◌≡◌, ◌≤◌, ◌<◌, ◌+◌, ◌*◌, ◌-◌, ◌^◌, ◌%◌, [], ◌∷◌, ◌++◌, length, IfOk, OnOk};
+ghost use Rattle.std.specs.Prelude.{◌≡◌, ◌≤◌, ◌^◌, [], ◌∷◌, ◌++◌, IfOk, OnOk};
 ghost use Rattle.mda_header.specs.Header.{IsHeader};
 ghost use Rattle.mda_header.specs.HeaderBytes.{CanBeRead, header_bytes};
 ghost use Rattle.mda_ring.specs.Areas.{IsArea};
 ghost use Rattle.mda_ring.specs.NextPlace.{IsInRing};
 ghost use Rattle.mda_ring.specs.Ring.{need};
 ghost use Rattle.mda_ring.specs.RingSpans.{ring_spans};
-ghost use Rattle.mda_ring.specs.Texts.{text_sectors};
-ghost use Rattle.vg_commit.specs.Written.{header_of, header_span, puts_on, rest_put};
+ghost use Rattle.vg_commit.specs.Plans.{parts_on, rest_part};
+ghost use Rattle.vg_commit.specs.Written.{header_of, header_span};
 
 use mda_header::{Locn, MdaHeader, write_mda};
-use mda_ring::{Area, Place, scatter, spans};
-use sector_base::{Bytes512, Sectors, Span, Text};
+use mda_ring::{Area, Place, spans};
+use sector_base::{Bytes512, Sectors, Span};
 use std::alloc::{AllocError, Global};
 
-// Puts the writes of the text at this place of the area behind the others.
+// Puts the spans of a text of this stored size at this place of the area behind the others.
 pub(crate) fn put_text(
-    alloc: Global,
     area: &Area,
     place: Place,
-    text: &Text,
-    list: &mut Vec<(Span, Sectors)>,
+    size: u64,
+    list: &mut Vec<(Span, usize)>,
 ) -> Result<(), AllocError>
     requires area { IsArea area.now }
     requires ring { IsInRing area.now.size place }
-    requires size { length text.now < 2 ^ 40 }
-    requires sectors { place.sectors ≡ need (length text.now + 1) }
-    ensures { OnOk result (list.new.items ≡ list.old.items ++ puts_on (ring_spans area.now place.offset (length text.now + 1)) (text_sectors text.now place.sectors)) }
+    requires size { (1 ≤ size) × (size ≤ 2 ^ 40) }
+    requires sectors { place.sectors ≡ need size }
+    ensures { OnOk result (list.new.items ≡ list.old.items ++ parts_on (ring_spans area.now place.offset size)) }
 {
-    let size = text.as_bytes().len() as u64 + 1;
     let (first, rest) = spans(area, place.offset, size);
-    let mut front = scatter(alloc, text, place)?.into_vec();
-    let back = front.split_off(first.count as usize)?;
-    list.push((first, Sectors::from_vec(front)))?;
-    put_rest(rest, Sectors::from_vec(back), list)
+    list.push((first, 0))?;
+    put_rest(rest, first.count as usize, list)
 }
 
-// Puts the write of the second span behind the others, if there is one.
+// Puts the second span behind the others, if there is one. It goes on from this sector of the text.
 fn put_rest(
     span: Option<Span>,
-    sectors: Sectors,
-    list: &mut Vec<(Span, Sectors)>,
+    from: usize,
+    list: &mut Vec<(Span, usize)>,
 ) -> Result<(), AllocError>
-    ensures { OnOk result (list.new.items ≡ list.old.items ++ rest_put span sectors) }
+    ensures { OnOk result (list.new.items ≡ list.old.items ++ rest_part span from) }
 {
     if let Some(span) = span {
-        list.push((span, sectors))?;
+        list.push((span, from))?;
     }
     Ok(())
 }

@@ -2,6 +2,8 @@ use Rattle.disk_batch.proofs.Elsewhere.{completes_elsewhere, submits_elsewhere, 
 use Rattle.vg_commit.specs.CommitHolds.{is_own}
 use Rattle.vg_commit.proofs.CommitBeside.{com_elsewhere, com_shows, fenced_shows, lost_shows, pre_elsewhere, pre_shows, ready_elsewhere}
 use Rattle.vg_commit.proofs.CommitBeside.{ready_shows, whole_elsewhere, whole_shows}
+use Rattle.vg_commit.proofs.CommitBuffers.{begins_buffered, brings_buffer, commits_buffered, goes_buffered, others_leave_buffers}
+use Rattle.vg_commit.proofs.CommitBuffers.{publishes_buffered}
 use Rattle.vg_commit.proofs.CommitLaws.{begins, commits_holding, goes_holding, publishes}
 use Rattle.vg_commit.proofs.CommitRoom.{begins_spending, commits_spending, goes_spending, publishes_spending}
 use Rattle.vg_commit.proofs.CommitTargets.{writes_its_areas}
@@ -26,6 +28,12 @@ returns c = record {
   goes_spending = goes_spending;
   publishes_spending = publishes_spending;
   commits_spending = commits_spending;
+  begins_buffered = begins_buffered;
+  brings_buffer = brings_buffer;
+  goes_buffered = goes_buffered;
+  publishes_buffered = publishes_buffered;
+  commits_buffered = commits_buffered;
+  others_leave_buffers = others_leave_buffers;
   pre_shows = pre_shows;
   ready_shows = ready_shows;
   com_shows = com_shows;
