@@ -1,5 +1,6 @@
 -- A batch alone on a shelf, completion by completion.
-use Rattle.std.proofs.Common.{◌≡◌, cond, length-append, ◌≤◌, ◌<◌, ℕ, suc, ◌+◌, Bool, not, ◌==◌, List, [], ◌∷◌, ◌++◌, length, filter, sum_by, All}
+use Rattle.std.proofs.Common.{◌≡◌, cond, length-append, ◌≤◌, ◌<◌, ℕ, ◌+◌, Bool, not, ◌==◌, List, [], ◌∷◌, ◌++◌, length, filter, sum_by}
+use Rattle.std.proofs.Common.{All}
 use Rattle.std.proofs.Common.{refl, sym, ap, subst, ◌∙◌, arith}
 use Rattle.std.proofs.lemmas.List.{length-map, map-append}
 use Rattle.disk_model.specs.declared.ops.Done.{Done}
@@ -44,8 +45,7 @@ follows_on old new view Waits (Going next) is some e f =
 follows_on old new view Writes (Going next) is some e f =
     let o : Operation = put_operation f.tag f.put in
     let v : (view_of next).tags ≡ view.tags ++ f.tag ∷ [] = ap (λ (w : View). w.tags) f.view_is in
-    let l = ap (λ (l : List ℕ). length l) v in
-    (
+    let l = ap (λ (l : List ℕ). length l) v in (
       ap (λ (l : List Operation). tags_of l) f.submits.in_flight ∙ map-append (λ (p : Operation). p.tag) old.in_flight (o ∷ [])
           ∙ ap (λ (l : List ℕ). l ++ f.tag ∷ []) e ∙ sym v,
       omega (arith, l, length-append view.tags (f.tag ∷ [])),

@@ -1,5 +1,6 @@
 -- What a batch is still to submit has room, disks and buffers, call by call.
-use Rattle.std.proofs.Common.{◌≡◌, ◌≢◌, ◌⊎◌, ◌≤◌, ◌<◌, ℕ, suc, ◌+◌, cond, Bool, true, not, ◌==◌, List, [], ◌∷◌, ◌++◌, length, filter, map, sum_by}
+use Rattle.std.proofs.Common.{◌≡◌, ◌≢◌, ◌⊎◌, ◌≤◌, ◌<◌, ℕ, suc, ◌+◌, cond, not, ◌==◌, List, [], ◌∷◌, ◌++◌, length, filter, map}
+use Rattle.std.proofs.Common.{sum_by}
 use Rattle.std.proofs.Common.{All, inl, inr, ⊎_elim, refl, sym, ap, subst, ◌∙◌, arith, length-append}
 use Rattle.std.proofs.Math.Seq.{take-length}
 use Rattle.std.proofs.lemmas.Bool.Decides.{eqb_tells}
@@ -9,7 +10,7 @@ use Rattle.sector_base.specs.declared.spans.Span.{Span}
 use Rattle.disk_model.specs.declared.ops.Done.{Done}
 use Rattle.disk_model.specs.declared.ops.Op.{Op}
 use Rattle.disk_model.specs.declared.ops.Op.TheVariants.{Read, Write, Flush}
-use Rattle.disk_model.specs.Steps.{Work, Flushing, sectors_of_work}
+use Rattle.disk_model.specs.Steps.{Work, sectors_of_work}
 use Rattle.disk_model.specs.Record.{Operation, IsIn}
 use Rattle.disk_model.specs.Operations.{Fills, Lies, sectors_of, work_of}
 use Rattle.disk_model.specs.Calls.{Completes}
@@ -17,13 +18,11 @@ use Rattle.disk_model.specs.InFlight.{IsAmong}
 use Rattle.disk_model.specs.State.{State, IsLawful, tags_of}
 use Rattle.disk_model.proofs.InFlight.{contains_in, in_filter}
 use Rattle.disk_batch.specs.declared.batching.Batching.{Batching}
-use Rattle.disk_batch.specs.declared.batching.BatchStep.{BatchStep}
-use Rattle.disk_batch.specs.declared.batching.BatchStep.TheVariants.{Going, Well, Lost}
-use Rattle.disk_batch.specs.Alone.{steps_to_come}
+use Rattle.disk_batch.specs.declared.batching.BatchStep.TheVariants.{Going}
 use Rattle.disk_batch.specs.Batches.{Follows, Goes, Starts, StartsWrites, after_done, view_of}
-use Rattle.disk_batch.specs.Fits.{FitsOn, HasBuffer, HasBuffers, LiesOn, buffer_of}
+use Rattle.disk_batch.specs.Fits.{HasBuffer, HasBuffers, LiesOn, buffer_of}
 use Rattle.disk_batch.specs.Submits.{put_operation}
-use Rattle.disk_batch.specs.Views.{View, Turn, Waits, Writes, Flushes, IsWell, IsLost, sectors_to_come, to_come, turn_of}
+use Rattle.disk_batch.specs.Views.{View, Turn, Waits, Writes, Flushes, sectors_to_come, to_come, turn_of}
 use Rattle.disk_batch.specs.Writes.{BlockNext, BlocksFirst, LieIn, block_size, span_count, write_work}
 use Rattle.disk_batch.proofs.Calling.{IsTurn, is_turn}
 use Rattle.disk_batch.proofs.Submissions.{sum_first}
@@ -132,7 +131,8 @@ buffers_started old new puts disks view others starts = record {
   blocks =
       λ next o within own.
       ⊎_elim (λ (older : IsIn old.in_flight o). absurd (others o older own))
-      (λ here. started_ops starts.works.os starts.first (map write_work starts.first) starts.works.works_are refl (starts.blocks next) o here)
+      (λ here. started_ops starts.works.os starts.first (map write_work starts.first) starts.works.works_are refl (starts.blocks next) o
+      here)
       (in_parts old.in_flight starts.works.os o (subst (λ (l : List Operation). IsIn l o) starts.works.submits.in_flight within));
 }
 
@@ -240,7 +240,8 @@ buffers_beside in_flight view o other h = record {
   blocks =
       λ next p within own.
       ⊎_elim (λ (older : IsIn in_flight p). h.blocks next p older own)
-      (λ here. ⊎_elim (λ (e : o ≡ p). absurd (other (subst (λ (q : Operation). IsAmong view.tags q.tag) (sym e) own))) (λ no. absurd no) here)
+      (λ here. ⊎_elim (λ (e : o ≡ p). absurd (other (subst (λ (q : Operation). IsAmong view.tags q.tag) (sym e) own))) (λ no. absurd no)
+      here)
       (in_parts in_flight (o ∷ []) p within);
 }
 

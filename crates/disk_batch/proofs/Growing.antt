@@ -1,5 +1,5 @@
 -- What a batch uses up of a shelf, and what holds as a record grows.
-use Rattle.std.proofs.Common.{◌≡◌, ◌≤◌, ◌<◌, ℕ, suc, ◌+◌, ◌-◌, drop, Bool, cond, List, [], ◌∷◌, ◌++◌, length, map, sum_by, refl, sym, ap}
+use Rattle.std.proofs.Common.{◌≡◌, ◌≤◌, ◌<◌, ℕ, ◌+◌, ◌-◌, drop, Bool, cond, List, [], ◌∷◌, ◌++◌, length, map, sum_by, refl, sym, ap}
 use Rattle.std.proofs.Common.{subst, ◌∙◌, arith, length-append, ◌*◌}
 use Rattle.std.proofs.lemmas.List.{length-map}
 use Rattle.std.proofs.lemmas.List.Sums.{sum_by-append}
@@ -73,7 +73,8 @@ writes_sectors (o ∷ os) (p ∷ puts) e =
 -- the start
 pub starts_works : (old new : State) (puts : List (Span × List (List ℕ))) (disks : List ℕ) (batching : Batching)
     → StartsWrites old puts disks (view_of batching) new
-    → WorksOn old (length puts + length disks) (sum_by span_count puts) (steps_to_come (Going batching)) (sectors_ahead (Going batching)) new
+    → WorksOn old (length puts + length disks) (sum_by span_count puts) (steps_to_come (Going batching)) (sectors_ahead (Going batching))
+    new
 starts_works old new puts disks batching starts =
     let s = starts.works.submits in
     let os = starts.works.os in
@@ -98,7 +99,8 @@ starts_works old new puts disks batching starts =
 
 pub alone_works : (old new : State) (disks : List ℕ) (batching : Batching) (puts : List (Span × List (List ℕ))) → 0 < length puts
     → Starts old puts disks (view_of batching) new
-    → WorksOn old (length puts + length disks) (sum_by span_count puts) (steps_to_come (Going batching)) (sectors_ahead (Going batching)) new
+    → WorksOn old (length puts + length disks) (sum_by span_count puts) (steps_to_come (Going batching)) (sectors_ahead (Going batching))
+    new
 alone_works old new disks batching [] some starts = absurd (omega arith)
 alone_works old new disks batching (put ∷ puts) some starts = starts_works old new (put ∷ puts) disks batching starts
 

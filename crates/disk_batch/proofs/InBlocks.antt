@@ -1,14 +1,15 @@
 -- What is written in blocks is what was to be written.
-use Rattle.std.proofs.Common.{◌≡◌, ◌≤◌, ◌<◌, ◌⊎◌, ◌+◌, ◌-◌, ◌*◌, ◌/◌, ◌%◌, ◌==◌, ◌&&◌, ◌||◌, cond, nat_le, nat_lt, ℕ, zero, suc, Bool, true, false, IsTrue}
-use Rattle.std.proofs.Common.{List, [], ◌∷◌, ◌++◌, drop, length, map, take, flat_map, get_or, All, inl, inr, ⊎_elim, refl, sym, ap, subst, ◌∙◌, arith}
+use Rattle.std.proofs.Common.{◌≡◌, ◌≤◌, ◌<◌, ◌⊎◌, ◌+◌, ◌-◌, ◌*◌, ◌/◌, ◌%◌, ◌==◌, ◌&&◌, cond, nat_le, nat_lt, ℕ, zero, suc, Bool, true}
+use Rattle.std.proofs.Common.{false}
+use Rattle.std.proofs.Common.{List, [], ◌∷◌, ◌++◌, drop, length, map, flat_map, get_or, All, inl, inr, ⊎_elim, refl, sym, ap, subst}
+use Rattle.std.proofs.Common.{◌∙◌, arith}
 use Rattle.std.specs.List.{range_with_len}
 use Rattle.std.proofs.lemmas.Bool.{and_from, and_parts, cases_lt, eq-eqb, eqb-true, false_from_ne_true, le-leb, leb-true, lt-ltb, ltb-true}
 use Rattle.std.proofs.lemmas.Bool.{or_cases, or_left, or_right, true≢false}
-use Rattle.std.proofs.lemmas.List.{get_or-drop, get_or-take, length-append, length-drop, length-take-le, map-append}
+use Rattle.std.proofs.lemmas.List.{get_or-drop, get_or-take, length-drop, length-take-le}
 use Rattle.std.proofs.lemmas.List.Elements.{All-append, All-cons, All-nil, All-weaker}
 use Rattle.sector_base.specs.declared.spans.Span.{Span}
 use Rattle.sector_base.specs.Spans.{covers}
-use Rattle.disk_model.specs.InFlight.{IsAmong}
 use Rattle.disk_model.specs.Operations.{Fills}
 use Rattle.disk_model.specs.Steps.{value_at}
 use Rattle.disk_batch.specs.Blocks.{blocks_of, end_of, in_blocks, piece_of}
@@ -37,7 +38,8 @@ abbrev By : Put → ℕ → ℕ → List ℕ → Type 0
 By put pv sector value = (covers put.0 pv sector ≡ true) × (value ≡ value_at put.0 put.1 sector)
 
 -- what a piece writes its write does
-piece_by : (put : Put) (from count pv sector : ℕ) (value : List ℕ) → from + count ≤ put.0.count → By (piece_of put from count) pv sector value
+piece_by : (put : Put) (from count pv sector : ℕ) (value : List ℕ) → from + count ≤ put.0.count
+    → By (piece_of put from count) pv sector value
     → By put pv sector value
 piece_by put from count pv sector value le h =
     let c = covered (piece_of put from count).0 pv sector h.0 in

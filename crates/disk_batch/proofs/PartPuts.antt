@@ -1,8 +1,10 @@
 -- Parts of a text, and the blocks in which they are written.
-use Rattle.std.proofs.Common.{◌≡◌, ◌≤◌, ◌<◌, ◌+◌, ◌-◌, ◌*◌, ◌/◌, ◌%◌, ℕ, zero, suc, List, [], ◌∷◌, ◌++◌, drop, length, map, take, flat_map, reverse, sum_by, All}
+use Rattle.std.proofs.Common.{◌≡◌, ◌≤◌, ◌<◌, ◌+◌, ◌-◌, ◌*◌, ◌/◌, ◌%◌, ℕ, zero, suc, List, [], ◌∷◌, ◌++◌, drop, length, map, take, flat_map}
+use Rattle.std.proofs.Common.{reverse, sum_by, All}
 use Rattle.std.proofs.Common.{slice_index_or, refl, sym, ap, subst, ◌∙◌, arith, append_assoc, cond, Bool, true, false, ◌==◌}
 use Rattle.std.specs.List.{range_with_len}
-use Rattle.std.proofs.lemmas.List.{drop-drop, drop-take, ext_get_or, get_or-drop, get_or-take, length-drop, length-take-le, map-append, take-take}
+use Rattle.std.proofs.lemmas.List.{drop-drop, drop-take, ext_get_or, get_or-drop, get_or-take, length-drop, length-take-le, map-append}
+use Rattle.std.proofs.lemmas.List.{take-take}
 use Rattle.std.proofs.lemmas.List.Elements.{All-append, All-cons, All-head, All-map, All-nil, All-tail, All-weaker}
 use Rattle.std.proofs.lemmas.List.Sorted.{All-permutation, IsPermutation-reverse, sum_by-IsPermutation}
 use Rattle.sector_base.specs.declared.spans.Span.{Span}
@@ -147,9 +149,11 @@ ends_follow (put ∷ ends) all =
 pub blocks_follow : (text : List (List ℕ)) (count : ℕ) (blocks : List (Span × ℕ)) (ends : List (Span × List (List ℕ)))
     → All (IsBlockOf count) blocks → All IsEnd ends → BlocksFirst (map (part_put text) blocks ++ ends)
 blocks_follow text count [] ends all small = (ends_follow ends small).0
-blocks_follow text count (part ∷ blocks) ends all small =
-    (λ next. (All-head (IsBlockOf count) part blocks all).size, blocks_follow text count blocks ends (All-tail (IsBlockOf count) part blocks all)
-    small)
+blocks_follow text count (part ∷ blocks) ends all small = (
+  λ next. (All-head (IsBlockOf count) part blocks all).size,
+  blocks_follow text count blocks ends (All-tail (IsBlockOf count) part blocks all)
+      small,
+)
 
 -- the blocks' writes are blocks
 pub all_sized : (text : List (List ℕ)) (count : ℕ) (blocks : List (Span × ℕ)) → All (IsBlockOf count) blocks

@@ -1,5 +1,6 @@
 -- How each step brings a batch on.
-use Rattle.std.proofs.Common.{◌≡◌, ◌⊎◌, ℕ, Bool, true, false, not, ◌==◌, ◌||◌, IsTrue, List, [], ◌∷◌, ◌++◌, filter, map, All, Option, Some, None, inl, inr}
+use Rattle.std.proofs.Common.{◌≡◌, ◌⊎◌, ℕ, Bool, true, false, not, ◌==◌, ◌||◌, IsTrue, List, [], ◌∷◌, ◌++◌, filter, map, All, Option, Some}
+use Rattle.std.proofs.Common.{None, inl, inr}
 use Rattle.std.proofs.Common.{⊎_elim, refl, sym, ap, subst, ◌∙◌}
 use Rattle.std.proofs.lemmas.Bool.Decides.{eqb_tells}
 use Rattle.std.proofs.lemmas.List.Elements.{All-cons, All-nil}
@@ -19,7 +20,8 @@ use Rattle.disk_batch.specs.Writes.{write_work}
 use Rattle.disk_model.specs.Submitting.{submitted_on, works_of, writes_at, BringsAt, BringAt}
 use Rattle.disk_model.specs.State.{tags_of}
 use Rattle.disk_model.specs.InFlight.{IsAmong, OnlyTheirs, IsStill, IsForeign}
-use Rattle.disk_model.proofs.InFlight.{is_among-filter, is_among-left, is_among-right, in_append, completes_its_own, in_flight_on, in_flight_left, in_flight_submitted, in_flight_new}
+use Rattle.disk_model.proofs.InFlight.{is_among-filter, is_among-left, is_among-right, in_append, completes_its_own, in_flight_on}
+use Rattle.disk_model.proofs.InFlight.{in_flight_left, in_flight_submitted, in_flight_new}
 use Rattle.disk_model.proofs.InFlight.{theirs_on, theirs_done, theirs_submitted}
 use Rattle.disk_model.proofs.Submissions.{submitted_leaves}
 
@@ -181,9 +183,9 @@ pub writes_started : (os : List Operation) (flush : List ℕ) (rest : List (Span
     → Brings (record { tags = tags_of os; flush = flush; flushing = false; lost = None; rest = rest }) (submitted_on os told) pv sector Q
 writes_started os flush rest told pv sector Q w b later still = record {
   stage = λ e. inr (
-      completed_submitted os told pv sector Q b (still_completed told pv sector Q still),
-      ⊎_elim (λ now. inr (awaits_new os told pv sector now)) (λ then. inl then) w,
-    );
+    completed_submitted os told pv sector Q b (still_completed told pv sector Q still),
+    ⊎_elim (λ now. inr (awaits_new os told pv sector now)) (λ then. inl then) w,
+  );
   rest = later;
   alone = theirs_submitted os [] told pv sector still;
 }

@@ -1,5 +1,6 @@
 -- A batch starts: what it has made sure of, the disks that it flushes, and the counts of faults.
-use Rattle.std.proofs.Common.{◌≡◌, ◌<◌, ℕ, Bool, true, false, List, [], ◌∷◌, ◌++◌, length, map, Option, None, IfSome, refl, sym, ap, subst, ◌∙◌, arith}
+use Rattle.std.proofs.Common.{◌≡◌, ◌<◌, ℕ, Bool, true, false, List, [], ◌∷◌, ◌++◌, length, map, Option, None, IfSome, sym, ap, subst}
+use Rattle.std.proofs.Common.{◌∙◌, arith}
 use Rattle.std.proofs.lemmas.List.{length-append}
 use Rattle.disk_model.specs.Durability.{AllLeave}
 use Rattle.disk_model.specs.State.{State}
@@ -48,7 +49,8 @@ module _ (old new : State) (disks : List ℕ) (view : View) where
       })
 
   -- or with its flushes
-  pub flushed_first : (first rest : List Put) → length first ≡ 0 → CanFollow first rest → SubmitsWorks old (map Flushing disks) view.tags new
+  pub flushed_first : (first rest : List Put) → length first ≡ 0 → CanFollow first rest
+      → SubmitsWorks old (map Flushing disks) view.tags new
       → view ≡ record { tags = view.tags; flush = disks; flushing = true; lost = None; rest = rest }
       → Starts old (first ++ rest) disks view new
   flushed_first [] [] none follow works is = (works, is)

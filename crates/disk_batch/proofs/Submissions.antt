@@ -1,5 +1,6 @@
 -- Operations that are submitted one after another.
-use Rattle.std.proofs.Common.{reverse, ◌==◌, ◌≤◌, ◌<◌, not, filter, length, IsTrue, inl, inr, ⊎_elim, ◌≡◌, ℕ, ◌+◌, List, [], ◌∷◌, ◌++◌, map, sum_by, Some, refl, sym, ap}
+use Rattle.std.proofs.Common.{reverse, ◌==◌, ◌≤◌, ◌<◌, not, filter, length, IsTrue, inl, inr, ⊎_elim, ◌≡◌, ℕ, ◌+◌, List, [], ◌∷◌, ◌++◌, map}
+use Rattle.std.proofs.Common.{sum_by, Some, refl, sym, ap}
 use Rattle.std.proofs.Common.{subst, ◌∙◌, arith, append_assoc}
 use Rattle.std.specs.List.{list_any}
 use Rattle.std.proofs.lemmas.Bool.Decides.{eqb_tells}
@@ -78,7 +79,8 @@ sum_first f put puts =
 none_more : (tags : List ℕ) (tag : ℕ) → length (filter (λ (t : ℕ). not (t == tag)) tags) ≤ length tags
 none_more [] tag = omega arith
 none_more (t ∷ tags) tag =
-    ⊎_elim (λ same. rw same.0 (omega (arith, none_more tags tag))) (λ other. rw other.0 (omega (arith, none_more tags tag))) (eqb_tells t tag)
+    ⊎_elim (λ same. rw same.0 (omega (arith, none_more tags tag))) (λ other. rw other.0 (omega (arith, none_more tags tag)))
+    (eqb_tells t tag)
 
 pub fewer_left : (tags : List ℕ) (tag : ℕ) → IsAmong tags tag → length (filter (λ (t : ℕ). not (t == tag)) tags) < length tags
 fewer_left [] tag among = absurd among

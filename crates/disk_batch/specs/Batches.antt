@@ -25,7 +25,13 @@ disks_of batch = batch.disks.items
 
 -- a batch on its way, as the layers above see it
 abbrev pub view_of : Batching → View
-view_of batching = record { tags = batching.tags.items; flush = batching.disks.items; flushing = batching.flushing; lost = batching.lost; rest = rest_of batching.rest }
+view_of batching = record {
+  tags = batching.tags.items;
+  flush = batching.disks.items;
+  flushing = batching.flushing;
+  lost = batching.lost;
+  rest = rest_of batching.rest;
+}
 
 -- Of these writes the first ones were submitted, in their order, and the others are to come, blocks before others: where a block
 -- is to come, all those submitted are blocks.

@@ -47,7 +47,8 @@ GoesOn =
 -- the submission of the next of its writes to come leaves it so
 abbrev pub GoesOnWriting : Type 0
 GoesOnWriting =
-    (view : View) (put : Span × List (List ℕ)) (puts : List (Span × List (List ℕ))) (o : Operation) (told : Record) (pv sector : ℕ) (value : List ℕ) → view.rest ≡ put ∷ puts
+    (view : View) (put : Span × List (List ℕ)) (puts : List (Span × List (List ℕ))) (o : Operation) (told : Record) (pv sector : ℕ)
+    (value : List ℕ) → view.rest ≡ put ∷ puts
     → view.flushing ≡ false → o.work ≡ write_work put → Brings view told pv sector (Is value)
     → Brings (record view { tags = view.tags ++ o.tag ∷ []; rest = puts }) (submitted_on (o ∷ []) told) pv sector (Is value)
 

@@ -36,4 +36,5 @@ block_parts part = map (λ (k : ℕ). piece_part part (block_size * k) block_siz
 -- and what is left behind them
 abbrev pub end_parts : Span × ℕ → List (Span × ℕ)
 end_parts part =
-    if part.0.count % block_size == 0 then [] else piece_part part (block_size * (part.0.count / block_size)) (part.0.count % block_size) ∷ []
+    if part.0.count % block_size == 0 then []
+    else piece_part part (block_size * (part.0.count / block_size)) (part.0.count % block_size) ∷ []

@@ -1,5 +1,6 @@
 -- A batch on its way, as the layers above see it, and what it does when one of its operations completes.
-use Rattle.std.specs.Prelude.{ℕ, ◌+◌, Bool, true, false, not, ◌==◌, if◌then◌else◌, List, [], ◌∷◌, length, filter, sum_by, Option, Some, None}
+use Rattle.std.specs.Prelude.{ℕ, ◌+◌, Bool, true, false, not, ◌==◌, if◌then◌else◌, List, [], ◌∷◌, length, filter, sum_by, Option, Some}
+use Rattle.std.specs.Prelude.{None}
 use Rattle.sector_base.specs.declared.spans.Span.{Span}
 use Rattle.disk_batch.specs.Writes.{span_count}
 

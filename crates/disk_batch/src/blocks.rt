@@ -54,11 +54,7 @@ fn blocks_in(alloc: Global, parts: &[(Span, usize)]) -> Result<Vec<(Span, usize)
 }
 
 // Puts the blocks of this part behind the others.
-fn push_blocks(
-    span: Span,
-    from: usize,
-    blocks: &mut Vec<(Span, usize)>,
-) -> Result<(), AllocError>
+fn push_blocks(span: Span, from: usize, blocks: &mut Vec<(Span, usize)>) -> Result<(), AllocError>
     requires { IsSmall (span, from) }
     ensures { OnOk result (blocks.new.items ≡ blocks.old.items ++ block_parts (span, from)) }
 {

@@ -17,7 +17,8 @@ use Rattle.vg_commit.specs.declared.committing.ComStep.TheVariants as published
 use Rattle.vg_commit.specs.declared.precommitting.Precommitting.{Precommitting}
 use Rattle.vg_commit.specs.declared.precommitting.PreStep.{PreStep}
 use Rattle.vg_commit.specs.declared.precommitting.PreStep.TheVariants as pre
-use Rattle.vg_commit.specs.Laws.{BeginsBuffered, BringsBuffer, ComHasBuffers, CommitsBuffered, GoesBuffered, OthersLeaveBuffers, PreHasBuffers}
+use Rattle.vg_commit.specs.Laws.{BeginsBuffered, BringsBuffer, ComHasBuffers, CommitsBuffered, GoesBuffered, OthersLeaveBuffers}
+use Rattle.vg_commit.specs.Laws.{PreHasBuffers}
 use Rattle.vg_commit.specs.Laws.{PublishesBuffered}
 use Rattle.vg_commit.specs.Phases.{ComFollows, ComView, GoesOn, PreFollows, PreView, com_view, pre_view}
 

@@ -136,8 +136,7 @@ module _ (now : Precommitting) (before old mid new : State) (done : Done) (fits 
       ap (λ (v : PreView). sectors_to_come v.batch) f.1 in
       let headers : (pre_view next).headers ≡ (pre_view now).headers = ap (λ (v : PreView). v.headers) f.1 in
       let ops : ops_if (pre_view next).headers ≡ ops_if (pre_view now).headers = ap ops_if headers in
-      let sectors : sectors_if (pre_view next).headers ≡ sectors_if (pre_view now).headers = ap sectors_if headers in
-      (
+      let sectors : sectors_if (pre_view next).headers ≡ sectors_if (pre_view now).headers = ap sectors_if headers in (
         record {
           sizes = same;
           spare_ops = omega (arith, e, w.spare_ops, come, ops);
@@ -200,7 +199,11 @@ commits_spending before old new now done step within completes goes = at goes.ca
         let same : new.sizes ≡ before.sizes = ap (λ (s : State). s.sizes) f.0 ∙ w.sizes in
         let come : to_come (com_view next).batch ≡ to_come (view_of next') = ap (λ v. to_come v.batch) f.1 in
         let come' : sectors_to_come (com_view next).batch ≡ sectors_to_come (view_of next') = ap (λ v. sectors_to_come v.batch) f.1 in (
-          record { sizes = same; spare_ops = omega (arith, e, w.spare_ops, come); spare_sectors = omega (arith, e', w.spare_sectors, come') },
+          record {
+            sizes = same;
+            spare_ops = omega (arith, e, w.spare_ops, come);
+            spare_sectors = omega (arith, e', w.spare_sectors, come');
+          },
           lies_as goes.mid new (view_of next') (com_view next).batch (ap (λ (s : State). s.sizes) f.0) (ap (λ v. v.batch) f.1)
               (lies_still before old goes.mid (com_view now).batch done next' completes g within),
         )

@@ -5,7 +5,8 @@ use Rattle.std.specs.Prelude.{All, IfErr, IfOk, MatchResult, Result, Ok, Err}
 use Rattle.std.specs.Ordering.{nat_cmp}
 use Rattle.std.specs.FinSet.{FinSet}
 use Rattle.std.proofs.lemmas.Bool.{cond-false, le-ltb, ltb-true}
-use Rattle.std.proofs.lemmas.List.{append-nil, get_or-map, get_or_default, length-drop, length-map, map-append, map_push, take-append-drop, take_all}
+use Rattle.std.proofs.lemmas.List.{append-nil, get_or-map, get_or_default, length-drop, length-map, map-append, map_push, take-append-drop}
+use Rattle.std.proofs.lemmas.List.{take_all}
 use Rattle.std.proofs.lemmas.List.{take_more}
 use Rattle.std.proofs.lemmas.List.Concat.{flat_map-append}
 use Rattle.std.proofs.lemmas.List.Elements.{All-append, All-cons, All-head, All-map, All-nil, All-push, All-tail}
@@ -365,7 +366,8 @@ module _ (text : List ℕ) (areas : List (Area × Option Locn)) (flush disks : F
       let all_disks : few (disks_in (area_disks areas)) =
       area_disks_too (λ (pv : ℕ). pv < length sizes) areas flush committed.on_disks inside.disks_are in
       let writes : List (Span × List (List ℕ)) → Type 0 = λ l. (0 < length l) × LieIn sizes l in
-      let w1 = subst writes (sym p.texts) (texts_some text areas committed.some placed, texts_lie sizes text areas placed inside.areas_lie) in
+      let w1 =
+      subst writes (sym p.texts) (texts_some text areas committed.some placed, texts_lie sizes text areas placed inside.areas_lie) in
       let w2 =
       subst writes (sym p.headers) (headers_some text areas committed.some, headers_lie sizes text areas placed inside.areas_lie) in
       let w3 =

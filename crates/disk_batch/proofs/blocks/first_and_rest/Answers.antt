@@ -1,9 +1,10 @@
-use Rattle.std.proofs.Common.{◌≡◌, ◌<◌, ◌++◌, [], ℕ, List, drop, flat_map, length, map, reverse, take, All, refl, sym, ap, subst, ◌∙◌, arith}
+use Rattle.std.proofs.Common.{◌≡◌, ◌++◌, [], ℕ, List, length, map, reverse, take, All, sym, ap, subst, ◌∙◌}
+use Rattle.std.proofs.Common.{arith}
 use Rattle.std.proofs.lemmas.Bool.{eqb-false, eqb-true}
 use Rattle.std.proofs.lemmas.List.{append-nil, length-map, reverse-reverse, take-append-drop}
 use Rattle.std.proofs.lemmas.List.Elements.{All-drop, All-take, All-weaker}
 use Rattle.sector_base.specs.declared.spans.Span.{Span}
-use Rattle.disk_batch.specs.Parts.{IsBlockOf, IsEnd, IsPartOf, block_parts, end_parts, part_put}
+use Rattle.disk_batch.specs.Parts.{IsBlockOf, IsEnd, IsPartOf, part_put}
 use Rattle.disk_batch.specs.Rest.{rest_of}
 use Rattle.disk_batch.specs.Writes.{block_size}
 use Rattle.disk_batch.proofs.PartPuts.{all_blocks, all_ends, all_reversed, all_sized, first_and_others, none_later}

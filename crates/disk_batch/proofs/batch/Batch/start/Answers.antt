@@ -47,7 +47,8 @@ returns g c =
       | else-flushing w ↦
           let works : SubmitsWorks old (map write_work self.first) c.if-flushing.tags.items new =
           rw w.tags-is (rw w.shelf-is (subst (λ (l : List (Span × List (List ℕ))). SubmitsWorks old (map write_work l)
-          w.submit_writes.new.tags.items (g.S.Shelf.state w.submit_writes.new.shelf)) w.into_vec.ensures w.submit_writes.ensures.submits)) in
+          w.submit_writes.new.tags.items (g.S.Shelf.state w.submit_writes.new.shelf)) w.into_vec.ensures
+          w.submit_writes.ensures.submits)) in
           let some : 0 < length self.first = omega (arith, c.len-flushing.ensures, w.if-flushing.false) in
           begun old new self.disks.items view self.first (rest_of rest) some self.follow
           (blocks_follow rest.text (length rest.text) (drop rest.at rest.blocks.items) (reverse rest.ends.items)

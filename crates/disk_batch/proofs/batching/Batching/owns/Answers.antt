@@ -1,4 +1,4 @@
-use Rattle.std.proofs.Common.{◌≡◌, ◌==◌, ℕ, IsTrue, List, subst, sym}
+use Rattle.std.proofs.Common.{◌==◌, ℕ, IsTrue, List, subst, sym}
 use Rattle.std.specs.List.{list_any}
 use Rattle.disk_batch.proofs.Submissions.{any_among, among_any}
 use Rattle.disk_batch.proofs.batching.Batching.owns.Goals as goal

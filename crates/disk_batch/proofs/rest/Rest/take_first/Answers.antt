@@ -1,9 +1,9 @@
-use Rattle.std.proofs.Common.{◌≡◌, ◌<◌, ◌+◌, ◌∷◌, ◌++◌, ℕ, List, drop, length, map, reverse, get_or, take, sym, ap, subst, ◌∙◌, arith}
+use Rattle.std.proofs.Common.{◌<◌, ◌+◌, ◌∷◌, ◌++◌, ℕ, List, drop, length, map, reverse, take, sym, ap, subst, ◌∙◌, arith}
 use Rattle.std.proofs.lemmas.List.{drop_more}
 use Rattle.std.proofs.lemmas.List.Elements.{All-get_or}
 use Rattle.sector_base.specs.declared.spans.Span.{Span}
 use Rattle.disk_batch.specs.Parts.{IsBlockOf, part_put}
-use Rattle.disk_batch.specs.Writes.{BlockNext, block_size}
+use Rattle.disk_batch.specs.Writes.{BlockNext}
 use Rattle.disk_batch.proofs.rest.Rest.take_first.Goals as goal
 
 pub filled-requires-clause-buffer : goal.filled-requires-clause-buffer
