@@ -21,7 +21,7 @@ use Rattle.vg_commit.specs.Written.{area_writes, headers_of, publish_of, texts_o
 use Rattle.vg_commit.proofs.CommitCanRun.{headers_can_run, publish_can_run, texts_can_run}
 use Rattle.group_plan.specs.Judging.{set_of}
 use Rattle.change_batches.specs.Batches.{batch_if, commit_batches}
-use Rattle.change_batches.specs.Building.{Is, IsAdded, IsCommitAdded, areas_on, disks_written}
+use Rattle.change_batches.specs.Building.{Is, IsAdded, IsTextAdded, areas_on, disks_written}
 use Rattle.change_batches.proofs.DisksWritten.{AreApart, runs}
 
 -- a batch is added where there is a write
@@ -47,82 +47,70 @@ added_run sizes (put ∷ puts) old new is are all =
     subst (All (CanRun sizes)) (sym is.1) (All-push (CanRun sizes) old is.0 all (runs sizes put puts is.0 are is.2))
 
 -- the three of a commit are added
-pub commit_added : (areas : List (Area × Option Locn)) (flush : FinSet nat_cmp) (group : Group) (now : ℕ) (text : List ℕ)
-    (prepared : Prepared) (texts headers publish : Batch) (old first second new : List Batch)
-    → IsPrepared prepared areas flush text → text ≡ printed (tree_of group now)
-    → (texts ≡ prepared.texts) × (headers ≡ prepared.headers) × (publish ≡ prepared.publish)
-    → first ≡ old ++ texts ∷ [] → second ≡ first ++ headers ∷ [] → new ≡ second ++ publish ∷ []
-    → IsCommitAdded areas flush group now old new
-commit_added areas flush group now text prepared texts headers publish old first second new is same parts a b c = record {
-  texts = prepared.texts;
-  headers = prepared.headers;
-  publish = prepared.publish;
-  behind =
+module _ (text : List ℕ) (areas : List (Area × Option Locn)) (flush : FinSet nat_cmp) (prepared : Prepared)
+    (is : IsPrepared prepared areas flush text) where
+  abbrev three : List Batch
+  three = prepared.texts ∷ prepared.headers ∷ prepared.publish ∷ []
+
+  same : {X : Type 0} {x y z x' y' z' : X} → x ≡ x' → y ≡ y' → z ≡ z' → (x ∷ y ∷ z ∷ []) ≡ (x' ∷ y' ∷ z' ∷ [])
+  same e f g = cc
+
+  three_run : (sizes : List ℕ) → AreWithin sizes areas flush → All (CanRun sizes) three
+  three_run sizes within =
+      All-cons (CanRun sizes) prepared.texts (prepared.headers ∷ prepared.publish ∷ [])
+      (texts_can_run text areas flush is.committed is.room sizes within prepared.texts is.texts is.text_disks)
+      (All-cons (CanRun sizes) prepared.headers (prepared.publish ∷ [])
+      (headers_can_run text areas flush is.committed is.room sizes within prepared.headers is.headers is.header_disks)
+      (All-cons (CanRun sizes) prepared.publish []
+      (publish_can_run text areas flush is.committed is.room sizes within prepared.publish is.publish is.publish_disks)
+      (All-nil (CanRun sizes))))
+
+  behind_all : (texts headers publish : Batch) (old first second new : List Batch)
+      → (texts ≡ prepared.texts) × (headers ≡ prepared.headers) × (publish ≡ prepared.publish)
+      → first ≡ old ++ texts ∷ [] → second ≡ first ++ headers ∷ [] → new ≡ second ++ publish ∷ [] → new ≡ old ++ three
+  behind_all texts headers publish old first second new parts a b c =
       c
       ∙ ap (λ (l : List Batch). l ++ publish ∷ []) (b ∙ ap (λ (l : List Batch). l ++ headers ∷ []) a)
       ∙ append_assoc (old ++ texts ∷ []) (headers ∷ []) (publish ∷ [])
       ∙ append_assoc old (texts ∷ []) (headers ∷ publish ∷ [])
-      ∙ ap (λ (l : List Batch). old ++ l) (three parts.0 parts.1 parts.2);
-  writes =
-      three is.texts is.headers is.publish ∙ ap
-      (λ (t : List ℕ). texts_of (map (area_writes t) areas) ∷ headers_of (map (area_writes t) areas)
-      ∷ publish_of (map (area_writes t) areas) ∷ []) same;
-  text_disks = is.text_disks;
-  header_disks = is.header_disks;
-  publish_disks = is.publish_disks;
-  read = subst (λ (t : List ℕ). All (HeadersRead t) areas) same is.read;
-}
-  where
-    three : {X : Type 0} {x y z x' y' z' : X} → x ≡ x' → y ≡ y' → z ≡ z' → (x ∷ y ∷ z ∷ []) ≡ (x' ∷ y' ∷ z' ∷ [])
-    three e f g = cc
+      ∙ ap (λ (l : List Batch). old ++ l) (same parts.0 parts.1 parts.2)
 
--- the same of areas and disks that were first put into a list and a set
-pub prepared_for : (prepared : Prepared) (listed disk_of : List ℕ) (all areas on : List (Area × Option Locn)) (flush : FinSet nat_cmp)
-    (text : List ℕ) → listed ≡ disk_of → flush ≡ set_of listed → all ≡ areas → on ≡ areas_on flush all
-    → IsPrepared prepared on flush text → IsPrepared prepared (areas_on (set_of disk_of) areas) (set_of disk_of) text
-prepared_for prepared listed disk_of all areas on flush text same_listed is_set same_all is_on is =
+  pub text_added : (texts headers publish : Batch) (old first second new : List Batch)
+      → (texts ≡ prepared.texts) × (headers ≡ prepared.headers) × (publish ≡ prepared.publish)
+      → first ≡ old ++ texts ∷ [] → second ≡ first ++ headers ∷ [] → new ≡ second ++ publish ∷ []
+      → IsTextAdded text areas flush old new
+  text_added texts headers publish old first second new parts a b c =
+      let behind : new ≡ old ++ three = behind_all texts headers publish old first second new parts a b c in
+      record {
+        writes =
+            ap (map writes_of) behind ∙ map-append writes_of old three
+            ∙ ap (λ (l : List (List Put)). map writes_of old ++ l) (same is.texts is.headers is.publish);
+        run = λ sizes within all. subst (All (CanRun sizes)) (sym behind) (All-append (CanRun sizes) old three all (three_run sizes within));
+        read = is.read;
+      }
+
+-- the same of a text, areas and disks that were first put into a run of bytes, a list and a set
+pub added_for : (text shown : List ℕ) (listed disk_of : List ℕ) (all areas on : List (Area × Option Locn)) (flush : FinSet nat_cmp)
+    (old new : List Batch) → text ≡ shown → listed ≡ disk_of → flush ≡ set_of listed → all ≡ areas → on ≡ areas_on flush all
+    → IsTextAdded text on flush old new → IsTextAdded shown (areas_on (set_of disk_of) areas) (set_of disk_of) old new
+added_for text shown listed disk_of all areas on flush old new same_text same_listed is_set same_all is_on is =
     let set : flush ≡ set_of disk_of = is_set ∙ ap set_of same_listed in
-    subst (λ (s : FinSet nat_cmp). IsPrepared prepared (areas_on s areas) s text) set
-    (subst (λ (l : List (Area × Option Locn)). IsPrepared prepared l flush text) (is_on ∙ ap (areas_on flush) same_all) is)
+    subst (λ (t : List ℕ). IsTextAdded t (areas_on (set_of disk_of) areas) (set_of disk_of) old new) same_text
+    (subst (λ (s : FinSet nat_cmp). IsTextAdded text (areas_on s areas) s old new) set
+    (subst (λ (l : List (Area × Option Locn)). IsTextAdded text l flush old new) (is_on ∙ ap (areas_on flush) same_all) is))
 
 -- where a group is committed
 abbrev pub CommitAdded : Option Group → List (Area × Option Locn) → FinSet nat_cmp → ℕ → List Batch → List Batch → Type 0
 CommitAdded None areas flush now old new = new ≡ old
-CommitAdded (Some group) areas flush now old new = IsCommitAdded areas flush group now old new
+CommitAdded (Some group) areas flush now old new = IsTextAdded (printed (tree_of group now)) areas flush old new
 
 module _ (areas : List (Area × Option Locn)) (flush : FinSet nat_cmp) (now : ℕ) (old new : List Batch) where
   pub commit_writes : (group : Option Group) → CommitAdded group areas flush now old new
       → map writes_of new ≡ map writes_of old ++ commit_batches group now areas
   commit_writes None is = ap (map writes_of) is ∙ sym (append-nil (map writes_of old))
-  commit_writes (Some group) is =
-      ap (map writes_of) is.behind ∙ map-append writes_of old (is.texts ∷ is.headers ∷ is.publish ∷ [])
-      ∙ ap (λ (w : List (List Put)). map writes_of old ++ w) is.writes
-
-  three_run : (sizes : List ℕ) (group : Group) → IsCommitAdded areas flush group now old new → AreCommitted areas flush
-      → first_too_large (printed (tree_of group now)) areas ≡ None → AreWithin sizes areas flush → All (CanRun sizes) old
-      → All (CanRun sizes) new
-  three_run sizes group is committed room inside all =
-      let text : List ℕ = printed (tree_of group now) in
-      subst (All (CanRun sizes)) (sym is.behind)
-      (All-append (CanRun sizes) old (is.texts ∷ is.headers ∷ is.publish ∷ []) all
-      (All-cons (CanRun sizes) is.texts (is.headers ∷ is.publish ∷ [])
-      (texts_can_run text areas flush committed room sizes inside is.texts (first_of is.writes) is.text_disks)
-      (All-cons (CanRun sizes) is.headers (is.publish ∷ [])
-      (headers_can_run text areas flush committed room sizes inside is.headers (second_of is.writes) is.header_disks)
-      (All-cons (CanRun sizes) is.publish [] (publish_can_run text areas flush committed room sizes inside is.publish (third_of is.writes)
-      is.publish_disks) (All-nil (CanRun sizes))))))
-    where
-      first_of : {a b c x y z : List Put} → (a ∷ b ∷ c ∷ []) ≡ (x ∷ y ∷ z ∷ []) → a ≡ x
-      first_of e = cc
-
-      second_of : {a b c x y z : List Put} → (a ∷ b ∷ c ∷ []) ≡ (x ∷ y ∷ z ∷ []) → b ≡ y
-      second_of e = cc
-
-      third_of : {a b c x y z : List Put} → (a ∷ b ∷ c ∷ []) ≡ (x ∷ y ∷ z ∷ []) → c ≡ z
-      third_of e = cc
+  commit_writes (Some group) is = is.writes
 
   pub commit_run : (sizes : List ℕ) (group : Option Group) → CommitAdded group areas flush now old new
-      → ((g : Group) → group ≡ Some g → AreCommitted areas flush × (first_too_large (printed (tree_of g now)) areas ≡ None)
-      × AreWithin sizes areas flush) → All (CanRun sizes) old → All (CanRun sizes) new
-  commit_run sizes None is can all = subst (All (CanRun sizes)) (sym is) all
-  commit_run sizes (Some group) is can all = let c = can group refl in three_run sizes group is c.0 c.1 c.2 all
+      → ((g : Group) → group ≡ Some g → AreWithin sizes areas flush) → All (CanRun sizes) old → All (CanRun sizes) new
+  commit_run sizes None is within all = subst (All (CanRun sizes)) (sym is) all
+  commit_run sizes (Some group) is within all = is.run sizes (within group refl) all

@@ -19,7 +19,7 @@ use Rattle.group_plan.specs.Judging.{set_of}
 use Rattle.group_plan.specs.declared.state.Change.{Change}
 use Rattle.group_plan.specs.declared.state.NewLabel.{NewLabel}
 use Rattle.change_batches.specs.Batches.{area_puts, areas_of, batch_if, change_batches, commit_batches, label_put, new_area_puts}
-use Rattle.change_batches.specs.Building.{IsAdded, IsCommitAdded, IsOnFew}
+use Rattle.change_batches.specs.Building.{IsAdded, IsOnFew, IsTextAdded}
 use Rattle.change_batches.specs.Sound.{CanMake, FitsFields, IsReadAgain, LiesOn}
 use Rattle.change_batches.proofs.Adding.{CommitAdded, added_run, added_writes, commit_run, commit_writes}
 use Rattle.change_batches.proofs.AreaBatch.{area_batch}
@@ -40,7 +40,8 @@ no_areas (Some group) labels none new is other empty = empty
 
 -- the commit's come last where one is
 pub group_added : (change : Option Group) (group shown : Group) (areas : List (Area × Option Locn)) (disks : List ℕ) (now : ℕ)
-    (old new : List Batch) → change ≡ Some group → shown ≡ group → IsCommitAdded areas (set_of disks) shown now old new
+    (old new : List Batch) → change ≡ Some group → shown ≡ group
+    → IsTextAdded (printed (tree_of shown now)) areas (set_of disks) old new
     → CommitAdded change areas (set_of disks) now old new
 group_added change group shown areas disks now old new is same added =
     subst (λ (o : Option Group). CommitAdded o areas (set_of disks) now old new) (sym (is ∙ ap Some (sym same))) added
@@ -96,8 +97,7 @@ module _ (change : Change) (areas : List (Area × Option Locn)) (now : ℕ) (fir
       areas_apart sizes change.labels change.group (λ none. area_batch sizes change.labels can.labels (lies.new_areas none) lies.differ)
       (record { few = All-nil IsOnFew; lie = All-nil (λ (put : Put). Fills sizes put.0 put.1); apart = tt })
       in
-      commit_run (areas_of change areas) (set_of change.disk_of) now second third sizes change.group commit_is
-      (λ group is. let text = can.commit group is in (text.committed, text.room, lies.commit group is))
+      commit_run (areas_of change areas) (set_of change.disk_of) now second third sizes change.group commit_is lies.commit
       (added_run sizes (map label_put change.labels) first second labels_are
       (label_batch sizes change.labels can.labels lies.labels lies.differ)
       (added_run sizes (new_area_puts change.group change.labels) [] first areas_are new (All-nil (CanRun sizes))))

@@ -16,7 +16,7 @@ use Rattle.meta_model.specs.declared.group.Group.{Group}
 use Rattle.meta_print.specs.Layout.{tree_of}
 use Rattle.disk_batch.specs.InTurn.{Put}
 use Rattle.vg_found.specs.declared.disk.Disk.{Disk}
-use Rattle.vg_commit.specs.Written.{AreaWrites, area_writes, header_of, header_span, headers_of, publish_of, texts_of}
+use Rattle.vg_commit.specs.Written.{area_writes, header_put, headers_of, publish_of, texts_of}
 use Rattle.group_plan.specs.Cleared.{cleared_areas, unused_labels}
 use Rattle.group_plan.specs.Judging.{lies_on, set_of}
 use Rattle.group_plan.specs.declared.state.Change.{Change}
@@ -72,21 +72,22 @@ new_area_puts (Some group) labels = []
 abbrev pub areas_of : Change → List (Area × Option Locn) → List (Area × Option Locn)
 areas_of change areas = filter (lies_on (set_of change.disk_of)) areas
 
--- what the commit of the group's text at this time writes to them
-abbrev pub commit_writes : Group → ℕ → List (Area × Option Locn) → List AreaWrites
-commit_writes group now areas = map (area_writes (printed (tree_of group now))) areas
+-- the three batches of the commit of a text to these areas: the texts, the headers that name them as precommitted, and the
+-- headers that publish them
+abbrev pub text_batches : List ℕ → List (Area × Option Locn) → List (List Put)
+text_batches text areas =
+    texts_of (map (area_writes text) areas) ∷ headers_of (map (area_writes text) areas) ∷ publish_of (map (area_writes text) areas) ∷ []
 
--- its three batches: the texts, the headers that name them as precommitted, and the headers that publish them
+-- those of the group's text at this time
 abbrev pub commit_batches : Option Group → ℕ → List (Area × Option Locn) → List (List Put)
 commit_batches None now areas = []
-commit_batches (Some group) now areas =
-    texts_of (commit_writes group now areas) ∷ headers_of (commit_writes group now areas) ∷ publish_of (commit_writes group now areas) ∷ []
+commit_batches (Some group) now areas = text_batches (printed (tree_of group now)) areas
 
 -- ---- disks that a group lets go
 
 -- the write of the header of an area in which no text stands
 abbrev pub clear_put : Area × Option Locn → Put
-clear_put area = (header_span area.0, mda_bytes (header_of area.0 None None) ∷ [])
+clear_put area = header_put area.0 None None
 
 -- those of the disks that are cleared: their label sectors, and then the headers of their areas
 abbrev pub clear_batches : set.FinSet nat_cmp → List Disk → List (Area × Option Locn) → List (List Put)

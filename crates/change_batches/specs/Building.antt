@@ -17,11 +17,11 @@ use Rattle.vg_found.specs.Disks.{held_areas}
 use Rattle.vg_found.specs.Shape.{IsDisk}
 use Rattle.vg_found.specs.declared.disk.Disk.{Disk}
 use Rattle.vg_commit.specs.Plans.{HeadersRead}
-use Rattle.vg_commit.specs.Preparing.{area_disks}
+use Rattle.vg_commit.specs.Preparing.{AreWithin}
 use Rattle.vg_commit.specs.Written.{area_span}
 use Rattle.group_plan.specs.Cleared.{unused_labels}
 use Rattle.group_plan.specs.Judging.{lies_on, set_of}
-use Rattle.change_batches.specs.Batches.{clear_batches, commit_batches}
+use Rattle.change_batches.specs.Batches.{clear_batches, text_batches}
 use Rattle.change_batches.specs.Sound.{sizes_of, FitsFields}
 
 -- the disks of the writes
@@ -46,18 +46,12 @@ IsAdded (put ∷ puts) old new = (batch : Batch) × (new ≡ old ++ batch ∷ []
 abbrev pub areas_on : set.FinSet nat_cmp → List (Area × Option Locn) → List (Area × Option Locn)
 areas_on disks areas = filter (lies_on disks) areas
 
--- the three batches of a commit stand behind the others: the first flushes all disks of the group, the others those of the areas
-pub record IsCommitAdded (areas : List (Area × Option Locn)) (flush : set.FinSet nat_cmp) (group : Group) (now : ℕ)
-    (old new : List Batch) : Type 0 where
-  pub texts : Batch
-  pub headers : Batch
-  pub publish : Batch
-  pub behind : new ≡ old ++ texts ∷ headers ∷ publish ∷ []
-  pub writes : map writes_of (texts ∷ headers ∷ publish ∷ []) ≡ commit_batches (Some group) now areas
-  pub text_disks : disks_of texts ≡ disks_in flush
-  pub header_disks : disks_of headers ≡ disks_in (area_disks areas)
-  pub publish_disks : disks_of publish ≡ disks_in (area_disks areas)
-  pub read : All (HeadersRead (printed (tree_of group now))) areas
+-- the three batches of the commit of this text stand behind the others, and can run on disks in which the areas and these disks
+-- lie; the headers are read again as they are
+pub record IsTextAdded (text : List ℕ) (areas : List (Area × Option Locn)) (flush : set.FinSet nat_cmp) (old new : List Batch) : Type 0 where
+  pub writes : map writes_of new ≡ map writes_of old ++ text_batches text areas
+  pub run : (sizes : List ℕ) → AreWithin sizes areas flush → All (CanRun sizes) old → All (CanRun sizes) new
+  pub read : All (HeadersRead text) areas
 
 -- the next text can be placed in each of the areas, no two share a sector, and each is on one of 64 disks
 pub record AreHeld (areas : List (Area × Option Locn)) : Type 0 where

@@ -9,7 +9,7 @@ ghost use Rattle.vg_commit.specs.Preparing.{AreCommitted, IsPrepared};
 ghost use Rattle.vg_commit.specs.TooLarge.{first_too_large};
 ghost use Rattle.group_plan.specs.Judging.{set_of};
 ghost use Rattle.change_batches.specs.Batches.{area_puts, change_batches, label_put};
-ghost use Rattle.change_batches.specs.Building.{Is, IsAdded, IsCommitAdded, IsOnFew, areas_on, disks_written};
+ghost use Rattle.change_batches.specs.Building.{Is, IsAdded, IsOnFew, IsTextAdded, areas_on, disks_written};
 ghost use Rattle.change_batches.specs.Sound.{CanLabel, CanMake, FitsFields, IsReadAgain, LiesOn};
 
 use crate::label_sector::{area_write, label_write};
@@ -153,21 +153,36 @@ fn push_commit(
     requires listed { All (λ pv. pv < 64) disk_of.now }
     requires committed { AreCommitted (areas_on (set_of disk_of.now) areas.now) (set_of disk_of.now) }
     requires room { first_too_large (printed (tree_of group.now now)) (areas_on (set_of disk_of.now) areas.now) ≡ None }
-    ensures { OnOk result (IsCommitAdded (areas_on (set_of disk_of.now) areas.now) (set_of disk_of.now) group.now now batches.old.items batches.new.items) }
+    ensures { OnOk result (IsTextAdded (printed (tree_of group.now now)) (areas_on (set_of disk_of.now) areas.now) (set_of disk_of.now) batches.old.items batches.new.items) }
 {
     let flush = set_of(disk_of.as_slice());
     let areas = areas_on(alloc, areas.as_slice(), flush)?;
     let text = text_of(alloc, group, now)?;
-    let (texts, headers, publish) = prepared(alloc, &areas, flush, &text)?.into_batches();
+    push_text(alloc, &areas, flush, &text, batches)
+}
+
+/// Puts the three batches of the commit of the text, which has room in each of the areas, behind the others: the first flushes
+/// these disks, the others those of the areas. Only memory can be wanting.
+pub fn push_text(
+    alloc: Global,
+    areas: &Areas,
+    flush: PvSet,
+    text: &Text,
+    batches: &mut Vec<Batch>,
+) -> Result<(), AllocError>
+    requires committed { AreCommitted areas.now flush }
+    requires room { first_too_large text.now areas.now ≡ None }
+    ensures { OnOk result (IsTextAdded text.now areas.now flush batches.old.items batches.new.items) }
+{
+    let (texts, headers, publish) = prepared(alloc, areas, flush, text)?.into_batches();
     batches.push(texts)?;
     batches.push(headers)?;
     batches.push(publish)?;
     Ok(())
 }
 
-/// The commit of the text, which has room in each of the areas, with flushes of these disks behind the texts. Only memory can be
-/// wanting.
-pub fn prepared(
+// The commit of the text.
+fn prepared(
     alloc: Global,
     areas: &Areas,
     flush: PvSet,

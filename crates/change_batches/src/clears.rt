@@ -10,15 +10,15 @@ ghost use Rattle.change_batches.specs.Building.{AreClearsAdded, AreScanned};
 ghost use Rattle.change_batches.specs.Sound.{sizes_of, FitsFields};
 
 use crate::batches::{label_writes, push_batch};
-use crate::label_sector::area_write;
 use disk_batch::Batch;
 use disk_contents::PvFound;
 use group_plan::{Change, GroupState, NewLabel, copied_header};
 use mda_header::Locn;
 use mda_ring::Area;
-use pv_header::{Extent, PvHeader};
+use pv_header::PvHeader;
 use sector_base::{PvSet, Sectors, Span};
 use std::alloc::{AllocError, Global};
+use vg_commit::header_write;
 use vg_found::Disk;
 
 /// The batches that clear the disks which the group of this state lets go by the change. Only memory can be wanting.
@@ -131,11 +131,7 @@ fn clear_writes(
     let mut list = Vec::new(alloc);
     for (area, _) in areas {
         if cleared.contains(area.pv) {
-            let extent = Extent {
-                offset: area.start,
-                size: area.size,
-            };
-            list.push(area_write(alloc, area.pv, &extent)?)?;
+            list.push(header_write(alloc, area, None, None)?)?;
         }
     }
     Ok(list)

@@ -1,15 +1,15 @@
 //! The sectors of a label and of an empty metadata area.
 ghost use Rattle.std.specs.Prelude.{◌≡◌, ◌≤◌, ◌<◌, ◌+◌, [], ◌∷◌, length, IfOk, OnOk};
-ghost use Rattle.mda_header.specs.HeaderBytes.{header_bytes as mda_bytes};
-ghost use Rattle.change_batches.specs.Batches.{area_put, empty_area, label_bytes, label_put};
+ghost use Rattle.change_batches.specs.Batches.{area_put, label_bytes, label_put};
 ghost use Rattle.change_batches.specs.Sound.{FitsFields};
 
 use group_plan::NewLabel;
-use mda_header::{MdaHeader, write_mda};
+use mda_ring::Area;
 use pv_header::{Extent, write_pv};
 use pv_label::seal_label;
 use sector_base::{Bytes512, Sectors, Span};
 use std::alloc::{AllocError, Global};
+use vg_commit::header_write;
 
 /// The write of a label sector.
 pub fn label_write(alloc: Global, label: &NewLabel) -> Result<(Span, Sectors), AllocError>
@@ -27,20 +27,20 @@ pub fn label_write(alloc: Global, label: &NewLabel) -> Result<(Span, Sectors), A
     one_sector(alloc, label.disk, u64::from(label.sector), sector)
 }
 
-/// The write of the header of an empty area on this disk. Only memory can be wanting.
-pub fn area_write(alloc: Global, disk: u32, area: &Extent) -> Result<(Span, Sectors), AllocError>
+// The write of the header of an empty area on this disk.
+pub(crate) fn area_write(
+    alloc: Global,
+    disk: u32,
+    area: &Extent,
+) -> Result<(Span, Sectors), AllocError>
     ensures { IfOk result (λ put. put ≡ area_put disk area.now) }
 {
-    let header = MdaHeader {
+    let area = Area {
+        pv: disk,
         start: area.offset,
         size: area.size,
-        committed: None,
-        precommitted: None,
-        ignored: false,
     };
-    let mut sector = Bytes512::zeroed();
-    write_mda(&header, &mut sector);
-    one_sector(alloc, disk, area.offset / 512, sector)
+    header_write(alloc, &area, None, None)
 }
 
 // The write of one sector.

@@ -11,7 +11,6 @@ mod clears;
 mod label_sector;
 mod zeros;
 
-pub use batches::{batches_of, label_writes, prepared, push_batch};
+pub use batches::{batches_of, label_writes, push_batch, push_text};
 pub use clears::{clears_of, push_clears, unused};
-pub use label_sector::area_write;
 pub use zeros::zeros_of;

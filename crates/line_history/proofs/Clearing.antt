@@ -21,7 +21,7 @@ use Rattle.group_ops.proofs.NoClears.{clears, none_cleared}
 use Rattle.group_ops.specs.Laws.{state_in}
 use Rattle.change_batches.specs.Batches.{clear_batches}
 use Rattle.vg_repair.proofs.Nothing.{leaves_all}
-use Rattle.vg_repair.specs.Batches.{text_batches}
+use Rattle.vg_repair.specs.Batches.{stale_batches}
 use Rattle.vg_repair.specs.Repaired.{repaired_of}
 use Rattle.vg_repair.specs.Stale.{stale_areas, text_of}
 use Rattle.image_scans.proofs.ClearPlaces.{clears_keep_places}
@@ -136,7 +136,7 @@ module _ (scans : RepairedScans) (g : Given) (well : Bool) (start ended : Record
         let found = repaired_of g.found in
         ap (λ (s : set.FinSet nat_cmp). clear_batches s found.disks found.areas)
         (none_cleared (state_in found g.names g.backup) g.line.number g.line.id g.line.command g.clock g.given c.line.given.planned other)
-        ∙ none_behind (text_batches (text_of found) (stale_areas found)) (clear_batches set.empty found.disks found.areas)
+        ∙ none_behind (stale_batches (text_of found) (stale_areas found)) (clear_batches set.empty found.disks found.areas)
         (leaves_all found (c.line.repaired_shape refl) refl refl).0
 
     -- each sector has one possible value, that once its batches were written

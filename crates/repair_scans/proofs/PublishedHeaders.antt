@@ -22,7 +22,7 @@ use Rattle.group_plan.specs.Judging.{lies_on}
 use Rattle.change_batches.specs.Batches.{batch_if, clear_put, label_put}
 use Rattle.change_batches.proofs.LabelPuts.{label_where, one_covers, one_tells, one_value}
 use Rattle.change_batches.specs.Building.{AreHeld}
-use Rattle.vg_repair.specs.Batches.{repair_batches, stray_areas, stray_labels, text_batches}
+use Rattle.vg_repair.specs.Batches.{repair_batches, stale_batches, stray_areas, stray_labels}
 use Rattle.vg_repair.specs.Stale.{stale_areas, text_of}
 use Rattle.vg_repair.proofs.HeldAreas.{stale_held}
 use Rattle.vg_repair.proofs.StaleOthers.{stale_elsewhere}
@@ -82,7 +82,7 @@ module _ (text : List ℕ) where
       (written_or_kept puts base a.0.pv (a.0.start / 512))
 
   texts_published : (areas : List (Area × Option Locn)) (base : Image) → AreHeld areas → (k : ℕ) (d : Area × Option Locn) → k < length areas
-      → with_batches (text_batches text areas) base (get_or areas k d).0.pv ((get_or areas k d).0.start / 512)
+      → with_batches (stale_batches text areas) base (get_or areas k d).0.pv ((get_or areas k d).0.start / 512)
       ≡ header_bytes (header_after text (get_or areas k d))
   texts_published [] base held k d within = absurd (omega (arith, within))
   texts_published (a ∷ areas) base held k d within =
@@ -96,7 +96,7 @@ module _ (base : Image) (sizes : List ℕ) (found : Found) (p : CanRepair base s
   stale = stale_areas found
 
   abbrev texts : Image
-  texts = with_batches (text_batches (text_of found) stale) base
+  texts = with_batches (stale_batches (text_of found) stale) base
 
   abbrev label_batches : List (List Put)
   label_batches = batch_if (map label_put (stray_labels found))
@@ -136,7 +136,7 @@ module _ (base : Image) (sizes : List ℕ) (found : Found) (p : CanRepair base s
       absurd (omega (arith, far, low, w.3)))
       (batches_or label_batches texts pv sector)
       in
-      ap (λ (i : Image). i pv sector) (batches_append (text_batches (text_of found) stale) (label_batches ++ clears) base
+      ap (λ (i : Image). i pv sector) (batches_append (stale_batches (text_of found) stale) (label_batches ++ clears) base
       ∙ batches_append label_batches clears texts) ∙ cleared ∙ labelled
 
   -- the header of each stale area is as it publishes the text

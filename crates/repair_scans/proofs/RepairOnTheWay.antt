@@ -45,7 +45,7 @@ use Rattle.change_batches.proofs.BaseShows.{base_shows, base_sized, shows_alike}
 use Rattle.change_batches.proofs.FarAreas.{IsFar}
 use Rattle.change_batches.proofs.LabelPuts.{label_where, labels_there, with_if}
 use Rattle.change_batches.proofs.LabelsRead.{label_read}
-use Rattle.vg_repair.specs.Batches.{repair_batches, stray_areas, stray_labels, text_batches}
+use Rattle.vg_repair.specs.Batches.{repair_batches, stale_batches, stray_areas, stray_labels}
 use Rattle.vg_repair.specs.Laws.{IsKept}
 use Rattle.vg_repair.specs.Stale.{stale_areas, text_of}
 use Rattle.vg_repair.proofs.HeldAreas.{each_far, stale_all, stale_held}
@@ -193,7 +193,7 @@ module _ (base : Image) (sizes : List ℕ) (found : Found) (p : CanRepair base s
 
   texts_write : (areas : List (Area × Option Locn)) → All CanTake areas
       → All (λ (a : Area × Option Locn). need (length text + 1) ≤ room a.0.size a.1) areas → (pv sector : ℕ) (value : List ℕ)
-      → AnyWrites (text_batches text areas) pv sector value
+      → AnyWrites (stale_batches text areas) pv sector value
       → IsAreaWrite text areas pv sector value
   texts_write [] take fits pv sector value by = absurd by
   texts_write (a ∷ areas) take fits pv sector value by = commit_writes text (a ∷ areas) take fits pv sector value by
@@ -209,7 +209,7 @@ module _ (base : Image) (sizes : List ℕ) (found : Found) (p : CanRepair base s
       (λ label. inr (inl (any_if (map label_put labels) pv sector value label)))
       (λ last. inr (inr (clear_write cleared pv sector value (any_if (map clear_put cleared) pv sector value last))))
       (any_append (batch_if (map label_put labels)) (batch_if (map clear_put cleared)) pv sector value clears))
-      (any_append (text_batches text stale) (clear_batches found.strays found.disks found.areas) pv sector value by)
+      (any_append (stale_batches text stale) (clear_batches found.strays found.disks found.areas) pv sector value by)
 
   -- near sectors are those of labels
   text_far : (pv sector : ℕ) (value : List ℕ) → IsAreaWrite text stale pv sector value → 4 ≤ sector
@@ -231,14 +231,14 @@ module _ (base : Image) (sizes : List ℕ) (found : Found) (p : CanRepair base s
   label_stays k d within =
       let label : NewLabel = get_or labels k d in
       let low : label.sector < 4 = (labels_can found p.shape k d within).sector_below in
-      let texts : Image = with_batches (text_batches text stale) base in
+      let texts : Image = with_batches (stale_batches text stale) base in
       let first : Image = with_batches (batch_if (map label_put labels)) texts in
       let there : first label.disk label.sector ≡ label_bytes label =
       ap (λ (i : Image). i label.disk label.sector) (with_if (map label_put labels) texts)
       ∙ labels_there labels texts (labels_differ found p.shape) k d within
       in
       ap (λ (i : Image). i label.disk label.sector)
-      (batches_append (text_batches text stale) (clear_batches found.strays found.disks found.areas) base
+      (batches_append (stale_batches text stale) (clear_batches found.strays found.disks found.areas) base
       ∙ batches_append (batch_if (map label_put labels)) (batch_if (map clear_put cleared)) texts)
       ∙ ⊎_elim
       (λ same. same ∙ there)

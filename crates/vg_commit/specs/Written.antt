@@ -42,6 +42,10 @@ header_after text area = header_of area.0 (Some (new_entry text area)) None
 abbrev pub header_span : Area → Span
 header_span area = record { pv = area.pv; first = area.start / 512; count = 1 }
 
+-- the write of the area's header with these two entries
+abbrev pub header_put : Area → Option Locn → Option Locn → Span × List (List ℕ)
+header_put area committed precommitted = (header_span area, header_bytes (header_of area committed precommitted) ∷ [])
+
 -- the span of all sectors of the area
 abbrev pub area_span : Area → Span
 area_span area = record { pv = area.pv; first = area.start / 512; count = area.size / 512 }

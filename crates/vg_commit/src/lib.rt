@@ -28,4 +28,5 @@ pub use laws::commit_laws;
 pub use precommitting::{PreStep, Precommitting};
 pub use prepared::Prepared;
 pub use preparing::{prepare, prepare_text};
+pub use puts::header_write;
 pub use refusal::CommitRefusal;

@@ -7,7 +7,7 @@ ghost use Rattle.mda_ring.specs.NextPlace.{IsInRing};
 ghost use Rattle.mda_ring.specs.Ring.{need};
 ghost use Rattle.mda_ring.specs.RingSpans.{ring_spans};
 ghost use Rattle.vg_commit.specs.Plans.{parts_on, rest_part};
-ghost use Rattle.vg_commit.specs.Written.{header_of, header_span};
+ghost use Rattle.vg_commit.specs.Written.{header_of, header_put};
 
 use mda_header::{Locn, MdaHeader, write_mda};
 use mda_ring::{Area, Place, spans};
@@ -54,7 +54,21 @@ pub(crate) fn put_header(
     precommitted: Option<Locn>,
     list: &mut Vec<(Span, Sectors)>,
 ) -> Result<(), AllocError>
-    ensures put { OnOk result (list.new.items ≡ list.old.items ++ (header_span area.now, header_bytes (header_of area.now committed precommitted) ∷ []) ∷ []) }
+    ensures put { OnOk result (list.new.items ≡ list.old.items ++ header_put area.now committed precommitted ∷ []) }
+    ensures read { CanBeRead (header_of area.now committed precommitted) → IfOk result (λ _. IsHeader (header_bytes (header_of area.now committed precommitted)) (header_of area.now committed precommitted)) }
+{
+    list.push(header_write(alloc, area, committed, precommitted)?)?;
+    Ok(())
+}
+
+/// The write of the area's header with these entries. Only memory can be wanting.
+pub fn header_write(
+    alloc: Global,
+    area: &Area,
+    committed: Option<Locn>,
+    precommitted: Option<Locn>,
+) -> Result<(Span, Sectors), AllocError>
+    ensures put { IfOk result (λ put. put ≡ header_put area.now committed precommitted) }
     ensures read { CanBeRead (header_of area.now committed precommitted) → IfOk result (λ _. IsHeader (header_bytes (header_of area.now committed precommitted)) (header_of area.now committed precommitted)) }
 {
     let header = MdaHeader {
@@ -73,6 +87,5 @@ pub(crate) fn put_header(
         first: area.start / 512,
         count: 1,
     };
-    list.push((span, Sectors::from_vec(sectors)))?;
-    Ok(())
+    Ok((span, Sectors::from_vec(sectors)))
 }

@@ -27,7 +27,7 @@ use Rattle.change_batches.specs.Laws.{AreCleared, ClearsKeep, HasLabel, IsEmpty,
 use Rattle.change_batches.specs.Laws.{ShowsEntries}
 use Rattle.change_batches.proofs.FarAreas.{IsFar}
 use Rattle.change_batches.proofs.ClearedImages.{all_keep, are_cleared, is_kept as clears_kept}
-use Rattle.vg_repair.specs.Batches.{repair_batches, stray_areas, stray_labels, text_batches}
+use Rattle.vg_repair.specs.Batches.{repair_batches, stale_batches, stray_areas, stray_labels}
 use Rattle.vg_repair.specs.Building.{IsMade}
 use Rattle.vg_repair.specs.Laws.{IsKept, IsOther, IsRight, KeepsImages, StraysAreOthers}
 use Rattle.vg_repair.specs.Stale.{stale_areas, text_of}
@@ -47,7 +47,7 @@ module _ (found : Found) (shape : HasShape found) (others : StraysAreOthers foun
   cleared = stray_areas found
 
   abbrev texts : List (List Put)
-  texts = text_batches (text_of found) stale
+  texts = stale_batches (text_of found) stale
 
   abbrev clears : List (List Put)
   clears = clear_batches found.strays found.disks found.areas

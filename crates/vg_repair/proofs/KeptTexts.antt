@@ -17,7 +17,7 @@ use Rattle.vg_commit.proofs.CommitImages.{commit_keeps, commit_shows, commit_sho
 use Rattle.change_batches.specs.Laws.{ShowsEntries, text_in}
 use Rattle.change_batches.proofs.BaseShows.{base_shows, base_sized, shows_alike}
 use Rattle.change_batches.specs.Building.{AreHeld}
-use Rattle.vg_repair.specs.Batches.{text_batches}
+use Rattle.vg_repair.specs.Batches.{stale_batches}
 use Rattle.vg_repair.specs.Stale.{too_large_among}
 use Rattle.vg_repair.proofs.RepairedShape.{rooms}
 use Rattle.vg_repair.proofs.TextBatches.{all_fit, held_committed}
@@ -40,7 +40,7 @@ module _ (text : List ℕ) where
 
   -- sectors of other places stay
   pub texts_keep : (areas : List (Area × Option Locn)) → Fit areas → (pv sector : ℕ) → AreOutside pv sector areas
-      → All (KeepsSector pv sector) (text_batches text areas)
+      → All (KeepsSector pv sector) (stale_batches text areas)
   texts_keep [] fit pv sector out = All-nil (KeepsSector pv sector)
   texts_keep (area ∷ areas) fit pv sector out =
       let all : List (Area × Option Locn) = area ∷ areas in
@@ -49,7 +49,7 @@ module _ (text : List ℕ) where
   module _ (base : Image) where
     -- on the way each shows what it shows in the base, or the text
     pub texts_shows : (areas : List (Area × Option Locn)) → Fit areas → ShowsEntries areas base → (image : Image)
-        → HasFirstBatches (text_batches text areas) base image → EachShows (old_reading (text_in base)) (new_reading text) areas image
+        → HasFirstBatches (stale_batches text areas) base image → EachShows (old_reading (text_in base)) (new_reading text) areas image
     texts_shows [] fit names image h k d within = absurd (omega (arith, within))
     texts_shows (area ∷ areas) fit names image h k d within =
         let all : List (Area × Option Locn) = area ∷ areas in
@@ -58,7 +58,7 @@ module _ (text : List ℕ) where
 
     -- and once they are written the text
     texts_shown : (areas : List (Area × Option Locn)) → Fit areas → ShowsEntries areas base
-        → AllShow (new_reading text) areas (with_batches (text_batches text areas) base)
+        → AllShow (new_reading text) areas (with_batches (stale_batches text areas) base)
     texts_shown [] fit names k d within = absurd (omega (arith, within))
     texts_shown (area ∷ areas) fit names k d within =
         let all : List (Area × Option Locn) = area ∷ areas in
@@ -68,10 +68,10 @@ module _ (text : List ℕ) where
     -- also in images whose sectors are the same there
     pub texts_there : (areas : List (Area × Option Locn)) → Fit areas → ShowsEntries areas base → (image : Image)
         → ((k : ℕ) (d : Area × Option Locn) → k < length areas → (sector : ℕ) → (get_or areas k d).0.start / 512 ≤ sector
-        → image (get_or areas k d).0.pv sector ≡ with_batches (text_batches text areas) base (get_or areas k d).0.pv sector)
+        → image (get_or areas k d).0.pv sector ≡ with_batches (stale_batches text areas) base (get_or areas k d).0.pv sector)
         → AllShow (new_reading text) areas image
     texts_there areas fit names image same k d within =
         let a : Area × Option Locn = get_or areas k d in
-        shows_alike (new_reading text) a (with_batches (text_batches text areas) base) image (fit.held.take k d within).0
+        shows_alike (new_reading text) a (with_batches (stale_batches text areas) base) image (fit.held.take k d within).0
         (new_sized areas fit k d within)
         (λ sector inside. same k d within (a.0.start / 512 + sector) (omega arith)) (texts_shown areas fit names k d within)

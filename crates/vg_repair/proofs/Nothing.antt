@@ -20,7 +20,7 @@ use Rattle.group_plan.specs.Judging.{lies_on}
 use Rattle.group_plan.specs.declared.state.NewLabel.{NewLabel}
 use Rattle.group_plan.specs.Cleared.{unused, unused_label, unused_labels}
 use Rattle.change_batches.specs.Batches.{batch_if, clear_batches, clear_put, label_put}
-use Rattle.vg_repair.specs.Batches.{repair_batches, stray_areas, stray_labels, text_batches}
+use Rattle.vg_repair.specs.Batches.{repair_batches, stale_batches, stray_areas, stray_labels}
 use Rattle.vg_repair.specs.Laws.{LeavesAll}
 use Rattle.vg_repair.specs.Repaired.{repaired_area, repaired_areas, repaired_contents, repaired_disk, repaired_disks, repaired_held}
 use Rattle.vg_repair.specs.Repaired.{repaired_of, with_entry}
@@ -99,7 +99,7 @@ module _ (found : Found) (shape : HasShape found) (stale : found.stale ≡ []) (
 
   nothing : repair_batches found ≡ []
   nothing =
-      ap (λ (l : List (Area × Option Locn)). text_batches (text_of found) l ++ clear_batches found.strays found.disks found.areas)
+      ap (λ (l : List (Area × Option Locn)). stale_batches (text_of found) l ++ clear_batches found.strays found.disks found.areas)
       stale_none
       ∙ ap (λ (l : List NewLabel). batch_if (map label_put l) ++ batch_if (map clear_put (stray_areas found))) labels_none
       ∙ ap (λ (l : List (Area × Option Locn)). batch_if (map clear_put l)) areas_none

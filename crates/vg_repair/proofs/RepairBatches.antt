@@ -10,12 +10,12 @@ use Rattle.vg_found.specs.declared.found.Found.{Found}
 use Rattle.change_batches.specs.Batches.{clear_batches}
 use Rattle.change_batches.specs.Building.{AreClearsAdded}
 use Rattle.change_batches.specs.Sound.{sizes_of}
-use Rattle.vg_repair.specs.Building.{IsMade, IsTextAdded}
+use Rattle.vg_repair.specs.Building.{IsMade, AreRewritten}
 use Rattle.vg_repair.specs.Stale.{stale_areas, text_of}
 use Rattle.vg_repair.proofs.HeldAreas.{stale_lie}
 
 -- they are those, and can run
-pub all_made : (found : Found) → HasShape found → (first second : List Batch) → IsTextAdded (text_of found) (stale_areas found) [] first
+pub all_made : (found : Found) → HasShape found → (first second : List Batch) → AreRewritten (text_of found) (stale_areas found) [] first
     → AreClearsAdded found.strays found.disks found.areas first second → IsMade found second
 all_made found shape first second texts clears = record {
   writes = clears.writes ∙ ap (λ (l : List (List Put)). l ++ clear_batches found.strays found.disks found.areas) texts.writes;
@@ -26,9 +26,9 @@ all_made found shape first second texts clears = record {
 }
 
 -- the same texts and areas by other names
-pub text_added : (text text' : List ℕ) (areas areas' : List (Area × Option Locn)) (old new : List Batch) → text ≡ text' → areas ≡ areas'
-    → old ≡ [] → IsTextAdded text areas old new → IsTextAdded text' areas' [] new
-text_added text text' areas areas' old new same_text same_areas none added =
-    subst (λ (t : List ℕ). IsTextAdded t areas' [] new) same_text
-    (subst (λ (a : List (Area × Option Locn)). IsTextAdded text a [] new) same_areas
-    (subst (λ (l : List Batch). IsTextAdded text areas l new) none added))
+pub same_rewritten : (text text' : List ℕ) (areas areas' : List (Area × Option Locn)) (old new : List Batch) → text ≡ text' → areas ≡ areas'
+    → old ≡ [] → AreRewritten text areas old new → AreRewritten text' areas' [] new
+same_rewritten text text' areas areas' old new same_text same_areas none added =
+    subst (λ (t : List ℕ). AreRewritten t areas' [] new) same_text
+    (subst (λ (a : List (Area × Option Locn)). AreRewritten text a [] new) same_areas
+    (subst (λ (l : List Batch). AreRewritten text areas l new) none added))

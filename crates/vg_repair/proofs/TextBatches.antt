@@ -2,8 +2,8 @@
 use Rattle.std.proofs.Common.{◌≡◌, ◌<◌, ℕ, ◌+◌, Bool, true, false, cond, ltb, List, [], ◌∷◌, ◌++◌, length, map, Option, Some, None, refl}
 use Rattle.std.proofs.Common.{sym, ap, subst, ◌∙◌, arith}
 use Rattle.std.specs.Prelude.{All}
-use Rattle.std.proofs.lemmas.List.{append-nil, append_assoc, map-append}
-use Rattle.std.proofs.lemmas.List.Elements.{All-append, All-cons, All-nil}
+use Rattle.std.proofs.lemmas.List.{append-nil}
+use Rattle.std.proofs.lemmas.List.Elements.{All-nil}
 use Rattle.mda_header.specs.declared.header.Locn.{Locn}
 use Rattle.mda_ring.specs.Ring.{need, room}
 use Rattle.mda_ring.specs.declared.area.Area.{Area}
@@ -11,14 +11,12 @@ use Rattle.disk_batch.specs.Batches.{writes_of}
 use Rattle.disk_batch.specs.InTurn.{CanRun, Put}
 use Rattle.disk_batch.specs.declared.batch.Batch.{Batch}
 use Rattle.vg_commit.specs.Plans.{HeadersRead}
-use Rattle.vg_commit.specs.Preparing.{AreCommitted, AreWithin, IsPrepared, area_disks}
+use Rattle.vg_commit.specs.Preparing.{AreCommitted, AreWithin, area_disks}
 use Rattle.vg_commit.specs.TooLarge.{first_too_large}
-use Rattle.vg_commit.specs.Written.{area_writes, headers_of, publish_of, texts_of}
-use Rattle.vg_commit.specs.declared.prepared.Prepared.{Prepared}
-use Rattle.vg_commit.proofs.CommitCanRun.{headers_can_run, publish_can_run, texts_can_run}
-use Rattle.change_batches.specs.Building.{AreHeld, LiesIn}
-use Rattle.vg_repair.specs.Batches.{text_batches}
-use Rattle.vg_repair.specs.Building.{IsTextAdded}
+use Rattle.change_batches.specs.Batches.{text_batches}
+use Rattle.change_batches.specs.Building.{AreHeld, IsTextAdded, LiesIn}
+use Rattle.vg_repair.specs.Batches.{stale_batches}
+use Rattle.vg_repair.specs.Building.{AreRewritten}
 use Rattle.vg_repair.specs.Stale.{too_large_among}
 use Rattle.vg_repair.proofs.AreaDisks.{disks_hold, disks_within}
 
@@ -53,18 +51,16 @@ lie_within sizes areas lie = record { areas_lie = lie; disks_are = disks_within 
 
 -- ---- the batches
 
-three : (text : List ℕ) (areas : List (Area × Option Locn)) → 0 < length areas
-    → text_batches text areas ≡ texts_of (map (area_writes text) areas) ∷ headers_of (map (area_writes text) areas)
-    ∷ publish_of (map (area_writes text) areas) ∷ []
-three text [] some = absurd (omega (arith, some))
-three text (area ∷ areas) some = refl
+some_batches : (text : List ℕ) (areas : List (Area × Option Locn)) → 0 < length areas → stale_batches text areas ≡ text_batches text areas
+some_batches text [] some = absurd (omega (arith, some))
+some_batches text (area ∷ areas) some = refl
 
 module _ (text : List ℕ) (areas : List (Area × Option Locn)) (old new : List Batch) where
   -- there are none
-  pub none_added : length areas ≡ 0 → new ≡ old → IsTextAdded text areas old new
-  none_added none same = empty areas none
+  pub none_rewritten : length areas ≡ 0 → new ≡ old → AreRewritten text areas old new
+  none_rewritten none same = empty areas none
     where
-      empty : (list : List (Area × Option Locn)) → length list ≡ 0 → IsTextAdded text list old new
+      empty : (list : List (Area × Option Locn)) → length list ≡ 0 → AreRewritten text list old new
       empty [] is = record {
         writes = ap (map writes_of) same ∙ sym (append-nil (map writes_of old));
         room = refl;
@@ -73,50 +69,12 @@ module _ (text : List ℕ) (areas : List (Area × Option Locn)) (old new : List 
       }
       empty (area ∷ list) is = absurd (omega (arith, is))
 
-  module _ (some : 0 < length areas) (held : AreHeld areas) (fit : too_large_among text areas ≡ None) (prepared : Prepared)
-      (is : IsPrepared prepared areas (area_disks areas) text) where
-    abbrev batches : List Batch
-    batches = prepared.texts ∷ prepared.headers ∷ prepared.publish ∷ []
-
-    same_writes : {x y z x' y' z' : List Put} → x ≡ x' → y ≡ y' → z ≡ z' → (x ∷ y ∷ z ∷ []) ≡ (x' ∷ y' ∷ z' ∷ [])
-    same_writes e f g = cc
-
-    all_run : (sizes : List ℕ) → All (LiesIn sizes) areas → All (CanRun sizes) batches
-    all_run sizes lie =
-        let committed : AreCommitted areas (area_disks areas) = held_committed areas some held in
-        let within : AreWithin sizes areas (area_disks areas) = lie_within sizes areas lie in
-        let none : first_too_large text areas ≡ None = all_fit text areas fit in
-        All-cons (CanRun sizes) prepared.texts (prepared.headers ∷ prepared.publish ∷ [])
-        (texts_can_run text areas (area_disks areas) committed none sizes within prepared.texts is.texts is.text_disks)
-        (All-cons (CanRun sizes) prepared.headers (prepared.publish ∷ [])
-        (headers_can_run text areas (area_disks areas) committed none sizes within prepared.headers is.headers is.header_disks)
-        (All-cons (CanRun sizes) prepared.publish []
-        (publish_can_run text areas (area_disks areas) committed none sizes within prepared.publish is.publish is.publish_disks)
-        (All-nil (CanRun sizes))))
-
-    -- there are
-    pub three_added : new ≡ old ++ batches → IsTextAdded text areas old new
-    three_added behind = record {
-      writes =
-          ap (map writes_of) behind ∙ map-append writes_of old batches
-          ∙ ap (λ (l : List (List Put)). map writes_of old ++ l)
-          (same_writes is.texts is.headers is.publish ∙ sym (three text areas some));
-      room = fit;
-      read = is.read;
-      run = λ sizes lie run. subst (All (CanRun sizes)) (sym behind) (All-append (CanRun sizes) old batches run (all_run sizes lie));
-    }
-
--- three put behind the others, one after another
-pub behind_all : (old first second third : List Batch) (texts headers publish : Batch) (prepared : Prepared)
-    → (texts ≡ prepared.texts) × (headers ≡ prepared.headers) × (publish ≡ prepared.publish)
-    → first ≡ old ++ texts ∷ [] → second ≡ first ++ headers ∷ [] → third ≡ second ++ publish ∷ []
-    → third ≡ old ++ prepared.texts ∷ prepared.headers ∷ prepared.publish ∷ []
-behind_all old first second third texts headers publish prepared parts a b c =
-    c
-    ∙ ap (λ (l : List Batch). l ++ publish ∷ []) (b ∙ ap (λ (l : List Batch). l ++ headers ∷ []) a)
-    ∙ append_assoc (old ++ texts ∷ []) (headers ∷ []) (publish ∷ [])
-    ∙ append_assoc old (texts ∷ []) (headers ∷ publish ∷ [])
-    ∙ ap (λ (l : List Batch). old ++ l) (same parts.0 parts.1 parts.2)
-  where
-    same : {x y z x' y' z' : Batch} → x ≡ x' → y ≡ y' → z ≡ z' → (x ∷ y ∷ z ∷ []) ≡ (x' ∷ y' ∷ z' ∷ [])
-    same e f g = cc
+  -- there are
+  pub some_rewritten : 0 < length areas → too_large_among text areas ≡ None → IsTextAdded text areas (area_disks areas) old new
+      → AreRewritten text areas old new
+  some_rewritten some fit added = record {
+    writes = added.writes ∙ ap (λ (l : List (List Put)). map writes_of old ++ l) (sym (some_batches text areas some));
+    room = fit;
+    read = added.read;
+    run = λ sizes lie run. added.run sizes (lie_within sizes areas lie) run;
+  }

@@ -1,23 +1,20 @@
 -- What a repair writes, as batches of writes, each lasting before the next begins.
-use Rattle.std.specs.Prelude.{ℕ, List, [], ◌∷◌, ◌++◌, map, Option}
+use Rattle.std.specs.Prelude.{ℕ, List, [], ◌∷◌, ◌++◌, Option}
 use Rattle.mda_header.specs.declared.header.Locn.{Locn}
 use Rattle.mda_ring.specs.declared.area.Area.{Area}
 use Rattle.disk_batch.specs.InTurn.{Put}
 use Rattle.vg_found.specs.declared.found.Found.{Found}
-use Rattle.vg_commit.specs.Written.{area_writes, headers_of, publish_of, texts_of}
 use Rattle.group_plan.specs.Cleared.{cleared_areas, unused_labels}
 use Rattle.group_plan.specs.declared.state.NewLabel.{NewLabel}
-use Rattle.change_batches.specs.Batches.{clear_batches}
+use Rattle.change_batches.specs.Batches.{clear_batches, text_batches}
 use Rattle.vg_repair.specs.Stale.{stale_areas, text_of}
 
 -- ---- stale areas
 
 -- the three batches of a commit of the text to these areas, if there are any
-abbrev pub text_batches : List ℕ → List (Area × Option Locn) → List (List Put)
-text_batches text [] = []
-text_batches text (area ∷ areas) =
-    texts_of (map (area_writes text) (area ∷ areas)) ∷ headers_of (map (area_writes text) (area ∷ areas))
-    ∷ publish_of (map (area_writes text) (area ∷ areas)) ∷ []
+abbrev pub stale_batches : List ℕ → List (Area × Option Locn) → List (List Put)
+stale_batches text [] = []
+stale_batches text (area ∷ areas) = text_batches text (area ∷ areas)
 
 -- ---- strays
 
@@ -33,4 +30,4 @@ stray_areas found = cleared_areas found.strays found.areas
 
 -- all batches of a repair: the found text to the stale areas, byte for byte; then those that clear the strays
 abbrev pub repair_batches : Found → List (List Put)
-repair_batches found = text_batches (text_of found) (stale_areas found) ++ clear_batches found.strays found.disks found.areas
+repair_batches found = stale_batches (text_of found) (stale_areas found) ++ clear_batches found.strays found.disks found.areas

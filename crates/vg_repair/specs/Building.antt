@@ -9,13 +9,13 @@ use Rattle.vg_found.specs.declared.found.Found.{Found}
 use Rattle.vg_commit.specs.Plans.{HeadersRead}
 use Rattle.change_batches.specs.Building.{LiesIn}
 use Rattle.change_batches.specs.Sound.{sizes_of, FitsFields}
-use Rattle.vg_repair.specs.Batches.{repair_batches, stray_labels, text_batches}
+use Rattle.vg_repair.specs.Batches.{repair_batches, stale_batches, stray_labels}
 use Rattle.vg_repair.specs.Stale.{stale_areas, text_of, too_large, too_large_among}
 
 -- the three batches of a commit of the text to these areas, if there are any, stand behind the others; each area has room, and
 -- its headers are read again as they are; and where the areas lie in their disks all can run
-pub record IsTextAdded (text : List ℕ) (areas : List (Area × Option Locn)) (old new : List Batch) : Type 0 where
-  pub writes : map writes_of new ≡ map writes_of old ++ text_batches text areas
+pub record AreRewritten (text : List ℕ) (areas : List (Area × Option Locn)) (old new : List Batch) : Type 0 where
+  pub writes : map writes_of new ≡ map writes_of old ++ stale_batches text areas
   pub room : too_large_among text areas ≡ None
   pub read : All (HeadersRead text) areas
   pub run : (sizes : List ℕ) → All (LiesIn sizes) areas → All (CanRun sizes) old → All (CanRun sizes) new

@@ -3,12 +3,12 @@ ghost use Rattle.std.specs.Prelude.{◌≡◌, ◌<◌, All, MatchResult, unwrap
 ghost use Rattle.vg_found.specs.Shape.{HasShape};
 ghost use Rattle.vg_commit.specs.Preparing.{area_disks};
 ghost use Rattle.change_batches.specs.Building.{AreHeld};
-ghost use Rattle.vg_repair.specs.Building.{IsMade, IsTextAdded};
+ghost use Rattle.vg_repair.specs.Building.{AreRewritten, IsMade};
 ghost use Rattle.vg_repair.specs.Stale.{IsCause, stale_areas, text_of};
 
 use crate::RepairFault;
 use crate::areas::{have_room, stale_areas};
-use change_batches::{prepared, push_clears};
+use change_batches::{push_clears, push_text};
 use disk_batch::Batch;
 use mda_ring::Areas;
 use sector_base::{PvSet, Text};
@@ -24,7 +24,7 @@ pub(crate) fn batches_of(alloc: Global, found: &Found) -> Result<Vec<Batch>, Rep
     let mut batches = Vec::new(alloc);
     let stale = stale_areas(alloc, found.disks.as_slice(), found.stale.as_slice())?;
     let none = Text::from_vec(Vec::new(alloc));
-    push_text(alloc, &stale, text_or(&found.text, &none), &mut batches)?;
+    push_rewrites(alloc, &stale, text_or(&found.text, &none), &mut batches)?;
     push_clears(
         alloc,
         found.disks.as_slice(),
@@ -46,23 +46,20 @@ fn text_or<'a>(text: &'a Option<Text>, none: &'a Text) -> &'a Text
 }
 
 // Adds the three batches of a commit of the text to these areas, if there are any.
-fn push_text(
+fn push_rewrites(
     alloc: Global,
     areas: &Areas,
     text: &Text,
     batches: &mut Vec<Batch>,
 ) -> Result<(), RepairFault>
     requires { AreHeld areas.now }
-    ensures { MatchResult result (λ _. IsTextAdded text.now areas.now batches.old.items batches.new.items) (IsCause text.now areas.now) }
+    ensures { MatchResult result (λ _. AreRewritten text.now areas.now batches.old.items batches.new.items) (IsCause text.now areas.now) }
 {
     if areas.len() == 0 {
         return Ok(());
     }
     have_room(areas.as_slice(), text)?;
-    let (texts, headers, publish) = prepared(alloc, areas, disks_of(areas), text)?.into_batches();
-    batches.push(texts)?;
-    batches.push(headers)?;
-    batches.push(publish)?;
+    push_text(alloc, areas, disks_of(areas), text, batches)?;
     Ok(())
 }
 

@@ -6,11 +6,11 @@ use Rattle.vg_found.specs.declared.disk.Disk.{Disk}
 use Rattle.change_batches.specs.Building.{AreClearsAdded, AreHeld, AreScanned}
 use Rattle.vg_repair.specs.Stale.{stale_areas, stale_by, text_of}
 use Rattle.vg_repair.proofs.HeldAreas.{are_scanned, stale_held}
-use Rattle.vg_repair.proofs.RepairBatches.{all_made, text_added}
+use Rattle.vg_repair.proofs.RepairBatches.{all_made, same_rewritten}
 use Rattle.vg_repair.proofs.batches.batches_of.Goals as goal
 
-pub push_text-requires : goal.push_text-requires
-push_text-requires c =
+pub push_rewrites-requires : goal.push_rewrites-requires
+push_rewrites-requires c =
     let is : c.in_ok-stale.stale ≡ stale_areas c.args.found.now =
     c.in_ok-stale.ensures ∙ ap (λ (s : List (ℕ × ℕ)). stale_by s c.as_slice.result.now) c.as_slice-2.ensures
     ∙ ap (stale_by c.args.found.now.stale) c.as_slice.ensures
@@ -30,10 +30,10 @@ returns c =
     in
     let text : c.text_or.result.now ≡ text_of c.args.found.now =
     c.text_or.ensures ∙ ap (λ (n : List ℕ). unwrap_or c.args.found.now.text n) (c.from_vec-none.ensures ∙ c.new.ensures.items) in
-    all_made c.args.found.now c.requires c.push_text.new.batches.items c.push_clears.new.batches.items
-    (text_added c.text_or.result.now (text_of c.args.found.now) c.in_ok-stale.stale (stale_areas c.args.found.now)
-    c.new-batches.result.items c.push_text.new.batches.items text stale c.new-batches.ensures.items c.in_ok-push_text.ensures)
-    (subst (λ (d : List Disk). AreClearsAdded c.args.found.now.strays d c.args.found.now.areas c.push_text.new.batches.items
+    all_made c.args.found.now c.requires c.push_rewrites.new.batches.items c.push_clears.new.batches.items
+    (same_rewritten c.text_or.result.now (text_of c.args.found.now) c.in_ok-stale.stale (stale_areas c.args.found.now)
+    c.new-batches.result.items c.push_rewrites.new.batches.items text stale c.new-batches.ensures.items c.in_ok-push_rewrites.ensures)
+    (subst (λ (d : List Disk). AreClearsAdded c.args.found.now.strays d c.args.found.now.areas c.push_rewrites.new.batches.items
     c.push_clears.new.batches.items) c.as_slice-3.ensures
     (subst (λ (a : List (Area × Option Locn)). AreClearsAdded c.args.found.now.strays c.as_slice-3.result.now a
-    c.push_text.new.batches.items c.push_clears.new.batches.items) c.as_slice-4.ensures c.in_ok-push_clears.ensures))
+    c.push_rewrites.new.batches.items c.push_clears.new.batches.items) c.as_slice-4.ensures c.in_ok-push_clears.ensures))
