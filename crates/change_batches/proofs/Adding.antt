@@ -14,10 +14,7 @@ use Rattle.disk_batch.specs.Batches.{writes_of}
 use Rattle.disk_batch.specs.InTurn.{CanRun, Put}
 use Rattle.disk_batch.specs.declared.batch.Batch.{Batch}
 use Rattle.vg_commit.specs.declared.prepared.Prepared.{Prepared}
-use Rattle.vg_commit.specs.Plans.{HeadersRead}
-use Rattle.vg_commit.specs.Preparing.{AreCommitted, AreWithin, IsPrepared}
-use Rattle.vg_commit.specs.TooLarge.{first_too_large}
-use Rattle.vg_commit.specs.Written.{area_writes, headers_of, publish_of, texts_of}
+use Rattle.vg_commit.specs.Preparing.{AreWithin, IsPrepared}
 use Rattle.vg_commit.proofs.CommitCanRun.{headers_can_run, publish_can_run, texts_can_run}
 use Rattle.group_plan.specs.Judging.{set_of}
 use Rattle.change_batches.specs.Batches.{batch_if, commit_batches}

@@ -6,9 +6,6 @@ use Rattle.disk_model.specs.Operations.{IsWithin}
 use Rattle.mda_header.specs.declared.header.Locn.{Locn}
 use Rattle.mda_ring.specs.Areas.{CanTake, LieApart}
 use Rattle.mda_ring.specs.declared.area.Area.{Area}
-use Rattle.conf_text.specs.Printed.{printed}
-use Rattle.meta_model.specs.declared.group.Group.{Group}
-use Rattle.meta_print.specs.Layout.{tree_of}
 use Rattle.disk_batch.specs.Batches.{disks_of, writes_of}
 use Rattle.disk_batch.specs.InTurn.{CanRun, Put}
 use Rattle.disk_batch.specs.Writes.{disks_in}

@@ -182,12 +182,7 @@ pub fn push_text(
 }
 
 // The commit of the text.
-fn prepared(
-    alloc: Global,
-    areas: &Areas,
-    flush: PvSet,
-    text: &Text,
-) -> Result<Prepared, AllocError>
+fn prepared(alloc: Global, areas: &Areas, flush: PvSet, text: &Text) -> Result<Prepared, AllocError>
     requires committed { AreCommitted areas.now flush }
     requires room { first_too_large text.now areas.now ≡ None }
     ensures { IfOk result (λ prepared. IsPrepared prepared areas.now flush text.now) }

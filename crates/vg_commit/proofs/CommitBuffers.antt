@@ -1,16 +1,14 @@
 -- The buffers of the blocks of a commit, call by call.
 use Rattle.std.proofs.Common.{◌≡◌, List, Option, Some, None, sym, ap, subst}
-use Rattle.disk_model.specs.declared.ops.Done.{Done}
-use Rattle.disk_model.specs.Calls.{Completes}
 use Rattle.disk_model.specs.Operations.{work_of}
 use Rattle.disk_model.specs.Record.{Operation}
 use Rattle.disk_model.specs.State.{IsLawful, State}
 use Rattle.disk_batch.specs.declared.batch.Batch.{Batch}
 use Rattle.disk_batch.specs.declared.batching.BatchStep.{BatchStep}
 use Rattle.disk_batch.specs.declared.batching.BatchStep.TheVariants as batch
-use Rattle.disk_batch.specs.Batches.{Follows, Goes, after_done, disks_of, view_of, writes_of}
+use Rattle.disk_batch.specs.Batches.{Follows, Goes, after_done, disks_of, writes_of}
 use Rattle.disk_batch.specs.Fits.{HasBuffers}
-use Rattle.disk_batch.specs.Views.{Turn, View, Waits, Writes, Flushes, IsWell, IsLost, turn_of}
+use Rattle.disk_batch.specs.Views.{Turn, View, IsWell, turn_of}
 use Rattle.disk_batch.proofs.Fitting.{buffers_beside, buffers_completed, goes_buffers, has_buffer, starts_buffers}
 use Rattle.vg_commit.specs.declared.committing.ComStep.{ComStep}
 use Rattle.vg_commit.specs.declared.committing.ComStep.TheVariants as published
