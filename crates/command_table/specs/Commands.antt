@@ -9,7 +9,7 @@ use Rattle.command_table.specs.declared.command.Command.{Command}
 use Rattle.command_table.specs.declared.command.Command.TheVariants.{Pvcreate, Pvmove, Pvck, Pvs, Vgcreate, Vgextend, Vgreduce, Vgremove}
 use Rattle.command_table.specs.declared.command.Command.TheVariants.{Vgrename, Vgcfgbackup, Vgcfgrestore, Vgck, Vgs, Lvcreate, Lvextend}
 use Rattle.command_table.specs.declared.command.Command.TheVariants.{Lvreduce, Lvremove, Lvrename, Lvs, Read, Fill, Write}
-use Rattle.command_table.specs.declared.command.Command.TheVariants.{List as ListVolumes, Wait, Resync}
+use Rattle.command_table.specs.declared.command.Command.TheVariants.{Flush, List as ListVolumes, Wait, Resync}
 use Rattle.command_table.specs.declared.command.Moving.TheVariants.{From, GoOn, Abort}
 use Rattle.command_table.specs.declared.command.Path.{Path}
 use Rattle.command_table.specs.declared.table.CommandName.{CommandName}
@@ -125,20 +125,26 @@ read_words (path ∷ start ∷ count ∷ []) =
     from_sector (path_in path) (number_of start) (λ path start. option_map (Read path start) (number_of count))
 read_words _ = None
 
-abbrev filled : Path → ℕ → Option ℕ → Option ℕ → Option Command
-filled path start (Some count) (Some value) = Some (Fill path start count value)
-filled path start _ _ = None
+-- what is written goes through to the disks before it is answered
+abbrev goes_through : OptionValues → Bool
+goes_through given = is_some (given key.Through)
+
+abbrev filled : Bool → Path → ℕ → Option ℕ → Option ℕ → Option Command
+filled through path start (Some count) (Some value) = Some (Fill path start count value through)
+filled through path start _ _ = None
 
 -- the same, and the number in the first
-abbrev pub fill_words : List Word → Option Command
-fill_words (path ∷ start ∷ count ∷ value ∷ []) =
-    from_sector (path_in path) (number_of start) (λ path start. filled path start (number_of count) (number_of value))
-fill_words _ = None
+abbrev pub fill_words : OptionValues → List Word → Option Command
+fill_words given (path ∷ start ∷ count ∷ value ∷ []) =
+    from_sector (path_in path) (number_of start)
+    (λ path start. filled (goes_through given) path start (number_of count) (number_of value))
+fill_words given _ = None
 
 -- sectors of a volume: the first, and the digits of all
-abbrev pub write_words : List Word → Option Command
-write_words (path ∷ start ∷ hex ∷ []) = from_sector (path_in path) (number_of start) (λ path start. Some (Write path start hex))
-write_words _ = None
+abbrev pub write_words : OptionValues → List Word → Option Command
+write_words given (path ∷ start ∷ hex ∷ []) =
+    from_sector (path_in path) (number_of start) (λ path start. Some (Write path start hex (goes_through given)))
+write_words given _ = None
 
 -- the command of this name, by its options and arguments; session and demo are none
 abbrev pub command_by_name : CommandName → OptionValues → List Word → Option Command
@@ -164,8 +170,9 @@ command_by_name name.Lvs given arguments = alone Lvs arguments
 command_by_name name.Session given arguments = None
 command_by_name name.Demo given arguments = None
 command_by_name name.Read given arguments = read_words arguments
-command_by_name name.Fill given arguments = fill_words arguments
-command_by_name name.Write given arguments = write_words arguments
+command_by_name name.Fill given arguments = fill_words given arguments
+command_by_name name.Write given arguments = write_words given arguments
+command_by_name name.Flush given arguments = option_map Flush (one_path arguments)
 command_by_name name.List given arguments = alone ListVolumes arguments
 command_by_name name.Wait given arguments = alone Wait arguments
 command_by_name name.Resync given arguments = option_map Resync (one_path arguments)
@@ -225,8 +232,9 @@ kind_of (Lvremove path) = NextVersion (VolumeGone path.lv)
 kind_of (Lvrename vg old new) = NextVersion (VolumeNamed old new)
 kind_of Lvs = Report
 kind_of (Read path start count) = Scripted
-kind_of (Fill path start count value) = Scripted
-kind_of (Write path start hex) = Scripted
+kind_of (Fill path start count value through) = Scripted
+kind_of (Write path start hex through) = Scripted
+kind_of (Flush path) = Scripted
 kind_of ListVolumes = Scripted
 kind_of Wait = Scripted
 kind_of (Resync path) = Scripted
@@ -248,6 +256,7 @@ changes Vgck = false
 changes Vgs = false
 changes Lvs = false
 changes (Read path start count) = false
+changes (Flush path) = false
 changes ListVolumes = false
 changes Wait = false
 changes _ = true
@@ -255,6 +264,6 @@ changes _ = true
 -- the sectors that a command reads or writes of a volume
 abbrev pub sectors_of : Command → ℕ
 sectors_of (Read path start count) = count
-sectors_of (Fill path start count value) = count
-sectors_of (Write path start hex) = length hex / 1024
+sectors_of (Fill path start count value through) = count
+sectors_of (Write path start hex through) = length hex / 1024
 sectors_of _ = 0

@@ -1,6 +1,6 @@
 -- What the words of a command mean.
 use Rattle.std.specs.Prelude.{ℕ, ◌+◌, ◌^◌, length, nat_lt, if◌then◌else◌, List, [], ◌∷◌, Option, Some, None, Result, Ok, Err, option_map}
-use Rattle.std.specs.Prelude.{option_and_then}
+use Rattle.std.specs.Prelude.{is_some, option_and_then}
 use Rattle.command_table.specs.declared.command.Command.{Command}
 use Rattle.command_table.specs.declared.request.Request.{Request}
 use Rattle.command_table.specs.declared.request.Request.TheVariants.{One, Session, Demo}
@@ -28,13 +28,18 @@ abbrev pub workers_in : OptionValues → Option ℕ
 workers_in given = option_and_then narrow (number given key.Workers)
 
 -- a session with so many workers on the group of this name
-abbrev pub session_on : Option ℕ → Word → Option Request
-session_on None vg = None
-session_on (Some workers) vg = if is_group_name vg then Some (Session vg workers) else None
+abbrev pub session_on : OptionValues → Option ℕ → Word → Option Request
+session_on given None vg = None
+session_on given (Some workers) vg = if is_group_name vg then Some (Session (record {
+  group = vg;
+  workers = workers;
+  disk_threads = is_some (given key.DiskThreads);
+  status = is_some (given key.Status);
+})) else None
 
--- `--workers W` and a group
+-- `--workers W` and a group, and what else is asked for
 abbrev pub session : OptionValues → List Word → Option Request
-session given arguments = option_and_then (session_on (workers_in given)) (one_word arguments)
+session given arguments = option_and_then (session_on given (workers_in given)) (one_word arguments)
 
 -- the demo of these numbers
 abbrev pub demo_of : Option ℕ → Option ℕ → Option ℕ → Option Request

@@ -7,8 +7,9 @@ use Rattle.std.specs.Str.{bytes_eq}
 use Rattle.std.specs.String.{string_bytes}
 use Rattle.std.specs.declared.string.String.{String}
 use Rattle.command_table.specs.declared.option_key.OptionKey.{OptionKey}
-use Rattle.command_table.specs.declared.option_key.OptionKey.TheVariants.{Abort, Alloc, Extents, MetadataCopies, Mirrors, Name}
-use Rattle.command_table.specs.declared.option_key.OptionKey.TheVariants.{PhysicalExtentSize, Size, Stripes, StripeSize, Workers}
+use Rattle.command_table.specs.declared.option_key.OptionKey.TheVariants.{Abort, Alloc, DiskThreads, Extents, MetadataCopies}
+use Rattle.command_table.specs.declared.option_key.OptionKey.TheVariants.{Mirrors, Name, PhysicalExtentSize, Size, Status, Stripes}
+use Rattle.command_table.specs.declared.option_key.OptionKey.TheVariants.{StripeSize, Through, Workers}
 
 -- a word of a command line, as its bytes
 abbrev pub Word : Type 0
@@ -27,18 +28,21 @@ unfoldable pub number_named : List Word → Word → Option ℕ
 number_named [] word = None
 number_named (name ∷ names) word = if bytes_eq name word then Some 0 else option_map (λ n. n + 1) (number_named names word)
 
--- the long spelling of an option in lvm(8), without the two hyphens
+-- the long spelling of an option, in lvm(8) where it stands there, without the two hyphens
 abbrev pub name_of : OptionKey → Word
 name_of Abort = codes "abort"
 name_of Alloc = codes "alloc"
+name_of DiskThreads = codes "disk-threads"
 name_of Extents = codes "extents"
 name_of MetadataCopies = codes "metadatacopies"
 name_of Mirrors = codes "mirrors"
 name_of Name = codes "name"
 name_of PhysicalExtentSize = codes "physicalextentsize"
 name_of Size = codes "size"
+name_of Status = codes "status"
 name_of Stripes = codes "stripes"
 name_of StripeSize = codes "stripesize"
+name_of Through = codes "through"
 name_of Workers = codes "workers"
 
 -- its letter, where lvm(8) has one: l, m, n, s, L, i and I

@@ -18,8 +18,8 @@ abbrev pub commands : List CommandName
 commands =
     name.Pvcreate ∷ name.Pvmove ∷ name.Pvck ∷ name.Pvs ∷ name.Vgcreate ∷ name.Vgextend ∷ name.Vgreduce ∷ name.Vgremove ∷ name.Vgrename
     ∷ name.Vgcfgbackup ∷ name.Vgcfgrestore ∷ name.Vgck ∷ name.Vgs ∷ name.Lvcreate ∷ name.Lvextend ∷ name.Lvreduce ∷ name.Lvremove
-    ∷ name.Lvrename ∷ name.Lvs ∷ name.Session ∷ name.Demo ∷ name.Read ∷ name.Fill ∷ name.Write ∷ name.List ∷ name.Wait ∷ name.Resync
-    ∷ []
+    ∷ name.Lvrename ∷ name.Lvs ∷ name.Session ∷ name.Demo ∷ name.Read ∷ name.Fill ∷ name.Write ∷ name.Flush ∷ name.List ∷ name.Wait
+    ∷ name.Resync ∷ []
 
 -- the word that names a command
 abbrev pub spelling_of : CommandName → Word
@@ -47,6 +47,7 @@ spelling_of name.Demo = codes "demo"
 spelling_of name.Read = codes "read"
 spelling_of name.Fill = codes "fill"
 spelling_of name.Write = codes "write"
+spelling_of name.Flush = codes "flush"
 spelling_of name.List = codes "list"
 spelling_of name.Wait = codes "wait"
 spelling_of name.Resync = codes "resync"
@@ -56,6 +57,7 @@ abbrev pub is_for_scripts_alone : CommandName → Bool
 is_for_scripts_alone name.Read = true
 is_for_scripts_alone name.Fill = true
 is_for_scripts_alone name.Write = true
+is_for_scripts_alone name.Flush = true
 is_for_scripts_alone name.List = true
 is_for_scripts_alone name.Wait = true
 is_for_scripts_alone name.Resync = true
@@ -117,7 +119,7 @@ row k v = record { key = k; kind = v }
 
 -- the options of a command
 abbrev pub options_of : CommandName → List OptionRow
-options_of name.Pvcreate = row key.MetadataCopies (Number 0 1) ∷ []
+options_of name.Pvcreate = row key.MetadataCopies (Number 0 2) ∷ []
 options_of name.Pvmove = row key.Abort Flag ∷ []
 options_of name.Vgcreate = row key.PhysicalExtentSize extent_size ∷ []
 options_of name.Lvcreate =
@@ -125,7 +127,9 @@ options_of name.Lvcreate =
     ∷ row key.Mirrors (Number 1 7) ∷ row key.Alloc Policy ∷ []
 options_of name.Lvextend = row key.Extents extents_growth ∷ row key.Size size_growth ∷ []
 options_of name.Lvreduce = row key.Extents extents ∷ row key.Size size ∷ []
-options_of name.Session = row key.Workers (Number 1 8) ∷ []
+options_of name.Session = row key.Workers (Number 1 8) ∷ row key.DiskThreads Flag ∷ row key.Status Flag ∷ []
+options_of name.Fill = row key.Through Flag ∷ []
+options_of name.Write = row key.Through Flag ∷ []
 options_of _ = []
 
 -- what its first arguments have to be, by their places
@@ -149,6 +153,7 @@ first_arguments name.Demo = any_number ∷ Number 1 4096 ∷ Number 1 8 ∷ []
 first_arguments name.Read = Path ∷ any_number ∷ Number 1 128 ∷ []
 first_arguments name.Fill = Path ∷ any_number ∷ Number 1 128 ∷ any_number ∷ []
 first_arguments name.Write = Path ∷ any_number ∷ Hex ∷ []
+first_arguments name.Flush = Path ∷ []
 first_arguments name.Resync = Path ∷ []
 first_arguments _ = []
 

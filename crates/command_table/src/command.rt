@@ -47,7 +47,7 @@ pub struct NewVolume {
 /// A command with its arguments: what lvm(8) takes from the words, and nothing else.
 #[derive(Debug, Drop)]
 pub enum Command {
-    /// Creates a physical volume on the disk of this name, with so many copies of the metadata, 0 or 1.
+    /// Creates a physical volume on the disk of this name, with so many copies of the metadata, 0 to 2.
     Pvcreate {
         pv: Text,
         metadata_copies: u64,
@@ -129,18 +129,24 @@ pub enum Command {
         start: u64,
         count: u64,
     },
-    /// Fills so many sectors with numbers, from this one on.
+    /// Fills so many sectors with numbers, from this one on, and through to the disks where that is asked for.
     Fill {
         path: Path,
         start: u64,
         count: u64,
         value: u64,
+        through: bool,
     },
-    /// Writes sectors of these contents, in hex digits.
+    /// Writes sectors of these contents, in hex digits, and through to the disks where that is asked for.
     Write {
         path: Path,
         start: u64,
         hex: Text,
+        through: bool,
+    },
+    /// Makes sure that what was written to a volume lasts.
+    Flush {
+        path: Path,
     },
     /// Lists the volumes with their lengths.
     List,
@@ -178,6 +184,7 @@ impl Command {
             | Command::Vgs
             | Command::Lvs
             | Command::Read { .. }
+            | Command::Flush { .. }
             | Command::List
             | Command::Wait => false,
             _ => true,

@@ -1,6 +1,6 @@
 //! A function for each command: from its options and arguments to what it means.
 ghost use Rattle.std.specs.Prelude.{◌≡◌, [], IfOk, option_map};
-ghost use Rattle.command_table.specs.declared.command.Command.TheVariants.{Pvck, Vgremove, Vgcfgbackup, Vgcfgrestore, Lvremove, Resync};
+ghost use Rattle.command_table.specs.declared.command.Command.TheVariants.{Pvck, Vgremove, Vgcfgbackup, Vgcfgrestore, Lvremove, Flush, Resync};
 ghost use Rattle.command_table.specs.Commands.{alone, command_by_name, fill_words, goes_together, lvcreate, lvextend, lvreduce, lvrename, new_volume, pvcreate, pvmove, read_words, vgcreate, vgextend, vgreduce, vgrename, write_words};
 ghost use Rattle.command_table.specs.Given.{amount_of, given_by, number_or, one_path, one_word, path_in};
 ghost use Rattle.command_table.specs.Options.{words_in};
@@ -46,8 +46,9 @@ pub fn command_by_name(
         CommandName::Lvs => Ok(alone(Command::Lvs, arguments)),
         CommandName::Session | CommandName::Demo => Ok(None),
         CommandName::Read => read(alloc, arguments),
-        CommandName::Fill => fill(alloc, arguments),
-        CommandName::Write => write(alloc, arguments),
+        CommandName::Fill => fill(alloc, given, arguments),
+        CommandName::Write => write(alloc, given, arguments),
+        CommandName::Flush => flush(alloc, arguments),
         CommandName::List => Ok(alone(Command::List, arguments)),
         CommandName::Wait => Ok(alone(Command::Wait, arguments)),
         CommandName::Resync => resync(alloc, arguments),
@@ -274,6 +275,15 @@ fn lvremove(alloc: Global, arguments: &[&[u8]]) -> Meant
     }
 }
 
+fn flush(alloc: Global, arguments: &[&[u8]]) -> Meant
+    ensures { IfOk result (λ command. command ≡ option_map Flush (one_path (words_in arguments.now))) }
+{
+    match one_path(alloc, arguments)? {
+        Some(path) => Ok(Some(Command::Flush { path })),
+        None => Ok(None),
+    }
+}
+
 fn resync(alloc: Global, arguments: &[&[u8]]) -> Meant
     ensures { IfOk result (λ command. command ≡ option_map Resync (one_path (words_in arguments.now))) }
 {
@@ -318,8 +328,8 @@ fn read(alloc: Global, arguments: &[&[u8]]) -> Meant
     }
 }
 
-fn fill(alloc: Global, arguments: &[&[u8]]) -> Meant
-    ensures { IfOk result (λ command. command ≡ fill_words (words_in arguments.now)) }
+fn fill(alloc: Global, given: &GivenOptions, arguments: &[&[u8]]) -> Meant
+    ensures { IfOk result (λ command. command ≡ fill_words (given_by given.now) (words_in arguments.now)) }
 {
     let [path, start, count, value] = arguments else {
         return Ok(None);
@@ -337,13 +347,14 @@ fn fill(alloc: Global, arguments: &[&[u8]]) -> Meant
             start,
             count,
             value,
+            through: given.has(OptionKey::Through),
         })),
         None => Ok(None),
     }
 }
 
-fn write(alloc: Global, arguments: &[&[u8]]) -> Meant
-    ensures { IfOk result (λ command. command ≡ write_words (words_in arguments.now)) }
+fn write(alloc: Global, given: &GivenOptions, arguments: &[&[u8]]) -> Meant
+    ensures { IfOk result (λ command. command ≡ write_words (given_by given.now) (words_in arguments.now)) }
 {
     let [path, start, hex] = arguments else {
         return Ok(None);
@@ -353,6 +364,7 @@ fn write(alloc: Global, arguments: &[&[u8]]) -> Meant
             path,
             start,
             hex: text_of(alloc, hex)?,
+            through: given.has(OptionKey::Through),
         })),
         _ => Ok(None),
     }

@@ -30,6 +30,6 @@ pub use meaning::{read_command, request_by_name};
 pub use option_key::OptionKey;
 pub use reading::{Reading, has_key, option_named};
 pub use refusal::CommandRefusal;
-pub use request::Request;
+pub use request::{Request, Session};
 pub use table::{CommandName, OptionRow};
 pub use values::{fault_in, is_disk_name};

@@ -11,7 +11,7 @@ use crate::given_options::GivenOptions;
 use crate::reading::Reading;
 use crate::refusal::CommandRefusal;
 use crate::values::number_of;
-use crate::{Command, CommandName, OptionKey, Request};
+use crate::{Command, CommandName, OptionKey, Request, Session};
 use lvm_name::{GroupName, NameRefusal};
 use sector_base::Text;
 use std::alloc::{AllocError, Global};
@@ -44,7 +44,7 @@ fn session(
     ensures { IfOk result (λ request. request ≡ session (given_by given.now) (words_in arguments.now)) }
 {
     match one_word(alloc, arguments)? {
-        Some(vg) => session_on(alloc, workers_in(given), &vg),
+        Some(vg) => session_on(alloc, given, workers_in(given), &vg),
         None => Ok(None),
     }
 }
@@ -57,14 +57,24 @@ fn workers_in(given: &GivenOptions) -> Option<u32>
 }
 
 // A session with so many workers on the group of this name.
-fn session_on(alloc: Global, workers: Option<u32>, vg: &Text) -> Result<Option<Request>, AllocError>
-    ensures { IfOk result (λ request. request ≡ session_on workers vg.now) }
+fn session_on(
+    alloc: Global,
+    given: &GivenOptions,
+    workers: Option<u32>,
+    vg: &Text,
+) -> Result<Option<Request>, AllocError>
+    ensures { IfOk result (λ request. request ≡ session_on (given_by given.now) workers vg.now) }
 {
     let Some(workers) = workers else {
         return Ok(None);
     };
     match GroupName::new(alloc, vg.as_bytes()) {
-        Ok(group) => Ok(Some(Request::Session { group, workers })),
+        Ok(group) => Ok(Some(Request::Session(Session {
+            group,
+            workers,
+            disk_threads: given.has(OptionKey::DiskThreads),
+            status: given.has(OptionKey::Status),
+        }))),
         Err(NameRefusal::NoMemory) => Err(AllocError),
         Err(_) => Ok(None),
     }

@@ -9,14 +9,17 @@ ghost use Rattle.command_table.specs.Options.{is_key, letter_of, name_of, spells
 pub enum OptionKey {
     Abort,
     Alloc,
+    DiskThreads,
     Extents,
     MetadataCopies,
     Mirrors,
     Name,
     PhysicalExtentSize,
     Size,
+    Status,
     Stripes,
     StripeSize,
+    Through,
     Workers,
 }
 
@@ -28,14 +31,17 @@ impl OptionKey {
         match self {
             OptionKey::Abort => "abort",
             OptionKey::Alloc => "alloc",
+            OptionKey::DiskThreads => "disk-threads",
             OptionKey::Extents => "extents",
             OptionKey::MetadataCopies => "metadatacopies",
             OptionKey::Mirrors => "mirrors",
             OptionKey::Name => "name",
             OptionKey::PhysicalExtentSize => "physicalextentsize",
             OptionKey::Size => "size",
+            OptionKey::Status => "status",
             OptionKey::Stripes => "stripes",
             OptionKey::StripeSize => "stripesize",
+            OptionKey::Through => "through",
             OptionKey::Workers => "workers",
         }
     }
@@ -52,8 +58,7 @@ impl OptionKey {
             OptionKey::Size => Some(b'L'),
             OptionKey::Stripes => Some(b'i'),
             OptionKey::StripeSize => Some(b'I'),
-            OptionKey::Abort | OptionKey::Alloc | OptionKey::MetadataCopies | OptionKey::Workers =>
-                None,
+            _ => None,
         }
     }
 

@@ -31,13 +31,14 @@ pub enum CommandName {
     Read,
     Fill,
     Write,
+    Flush,
     List,
     Wait,
     Resync,
 }
 
 /// The commands, in the order in which they are listed to a user.
-static COMMANDS: [CommandName; 27] = [
+static COMMANDS: [CommandName; 28] = [
     CommandName::Pvcreate,
     CommandName::Pvmove,
     CommandName::Pvck,
@@ -62,6 +63,7 @@ static COMMANDS: [CommandName; 27] = [
     CommandName::Read,
     CommandName::Fill,
     CommandName::Write,
+    CommandName::Flush,
     CommandName::List,
     CommandName::Wait,
     CommandName::Resync,
@@ -92,7 +94,7 @@ static NO_OPTIONS: [OptionRow; 0] = [];
 
 static PVCREATE: [OptionRow; 1] = [OptionRow {
     key: OptionKey::MetadataCopies,
-    kind: Kind::Number(0, 1),
+    kind: Kind::Number(0, 2),
 }];
 
 static PVMOVE: [OptionRow; 1] = [OptionRow {
@@ -170,9 +172,24 @@ static LVREDUCE: [OptionRow; 2] = [
     },
 ];
 
-static SESSION: [OptionRow; 1] = [OptionRow {
-    key: OptionKey::Workers,
-    kind: Kind::Number(1, 8),
+static SESSION: [OptionRow; 3] = [
+    OptionRow {
+        key: OptionKey::Workers,
+        kind: Kind::Number(1, 8),
+    },
+    OptionRow {
+        key: OptionKey::DiskThreads,
+        kind: Kind::Flag,
+    },
+    OptionRow {
+        key: OptionKey::Status,
+        kind: Kind::Flag,
+    },
+];
+
+static THROUGH: [OptionRow; 1] = [OptionRow {
+    key: OptionKey::Through,
+    kind: Kind::Flag,
 }];
 
 static NO_ARGUMENTS: [Kind; 0] = [];
@@ -241,7 +258,7 @@ impl CommandName {
         match self {
             CommandName::Pvcreate => row(
                 "pvcreate",
-                "[--metadatacopies 0|1] PV",
+                "[--metadatacopies 0|1|2] PV",
                 &PVCREATE,
                 &ONE_DISK,
             ),
@@ -283,11 +300,22 @@ impl CommandName {
             CommandName::Lvremove => row("lvremove", "VG/LV", &NO_OPTIONS, &ONE_PATH),
             CommandName::Lvrename => row("lvrename", "VG OLD NEW", &NO_OPTIONS, &GROUP_AND_VOLUMES),
             CommandName::Lvs => row("lvs", "", &NO_OPTIONS, &NO_ARGUMENTS),
-            CommandName::Session => row("session", "--workers W VG", &SESSION, &ONE_GROUP),
+            CommandName::Session => row(
+                "session",
+                "--workers W [--disk-threads] [--status] VG",
+                &SESSION,
+                &ONE_GROUP,
+            ),
             CommandName::Demo => row("demo", "SEED LINES WORKERS", &NO_OPTIONS, &DEMO),
             CommandName::Read => row("read", "VG/LV START COUNT", &NO_OPTIONS, &READ),
-            CommandName::Fill => row("fill", "VG/LV START COUNT VALUE", &NO_OPTIONS, &FILL),
-            CommandName::Write => row("write", "VG/LV START HEX", &NO_OPTIONS, &WRITE),
+            CommandName::Fill => row(
+                "fill",
+                "[--through] VG/LV START COUNT VALUE",
+                &THROUGH,
+                &FILL,
+            ),
+            CommandName::Write => row("write", "[--through] VG/LV START HEX", &THROUGH, &WRITE),
+            CommandName::Flush => row("flush", "VG/LV", &NO_OPTIONS, &ONE_PATH),
             CommandName::List => row("list", "", &NO_OPTIONS, &NO_ARGUMENTS),
             CommandName::Wait => row("wait", "", &NO_OPTIONS, &NO_ARGUMENTS),
             CommandName::Resync => row("resync", "VG/LV", &NO_OPTIONS, &ONE_PATH),
@@ -374,6 +402,7 @@ impl CommandName {
             CommandName::Read
                 | CommandName::Fill
                 | CommandName::Write
+                | CommandName::Flush
                 | CommandName::List
                 | CommandName::Wait
                 | CommandName::Resync

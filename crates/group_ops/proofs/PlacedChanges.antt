@@ -6,7 +6,7 @@ use Rattle.std.specs.List.{AllByRecursion as Each}
 use Rattle.command_table.specs.declared.command.Command.{Command}
 use Rattle.command_table.specs.declared.command.Command.TheVariants.{Pvcreate, Pvmove, Pvck, Pvs, Vgcreate, Vgextend, Vgreduce, Vgremove}
 use Rattle.command_table.specs.declared.command.Command.TheVariants.{Vgcfgbackup, Vgcfgrestore, Vgck, Vgs, Lvcreate, Lvs, Read, Fill, Write}
-use Rattle.command_table.specs.declared.command.Command.TheVariants.{List as ListVolumes, Wait, Resync}
+use Rattle.command_table.specs.declared.command.Command.TheVariants.{Flush, List as ListVolumes, Wait, Resync}
 use Rattle.command_table.specs.declared.command.NewVolume.{NewVolume}
 use Rattle.meta_model.specs.declared.group.Group.{Group}
 use Rattle.extent_alloc.specs.declared.part.Part.{Part}
@@ -109,8 +109,9 @@ change_by state is number id Vgs now given none placed = tt
 change_by state is number id (Lvcreate new) now given none placed = create_placed state (unwrap_or id []) new now given state.group placed
 change_by state is number id Lvs now given none placed = tt
 change_by state is number id (Read a b c) now given none placed = tt
-change_by state is number id (Fill a b c d) now given none placed = tt
-change_by state is number id (Write a b c) now given none placed = tt
+change_by state is number id (Fill a b c d e) now given none placed = tt
+change_by state is number id (Write a b c d) now given none placed = tt
+change_by state is number id (Flush a) now given none placed = tt
 change_by state is number id ListVolumes now given none placed = tt
 change_by state is number id Wait now given none placed = tt
 change_by state is number id (Resync a) now given none placed = tt

@@ -56,8 +56,8 @@ use Rattle.line_history.specs.LineRun.{batches_in, clears_in, is_repaired, is_ze
 -- a line that can be planned reads and writes no sectors of a volume
 quiet_line : (id : Option (List ℕ)) (command : Command) → IsPlanned id command → is_data command ≡ false
 quiet_line id (Read path start count) planned = absurd planned
-quiet_line id (Fill path start count value) planned = absurd planned
-quiet_line id (Write path start hex) planned = absurd planned
+quiet_line id (Fill path start count value through) planned = absurd planned
+quiet_line id (Write path start hex through) planned = absurd planned
 quiet_line id _ planned = refl
 
 next_commits : (kind : CommandKind) → kind_is_next kind ≡ true → kind_commits kind ≡ true

@@ -36,7 +36,7 @@ use Rattle.lvm_run.proofs.Promised.{IsTold, kept_undone}
 asked_by_task : (request : Request) (text : List ℕ) (ids : ℕ → List ℕ) (outcome : Outcome)
     → lines_of_task (task_of request ids) text outcome ≡ lines_asked request text ids outcome
 asked_by_task (One command) text ids outcome = refl
-asked_by_task (Session group workers) text ids outcome = refl
+asked_by_task (Session session) text ids outcome = refl
 asked_by_task (Demo seed count workers) text ids outcome = refl
 
 asked_by_words : (words : List Word) (line : CommandLine) (text : List ℕ) (ids : ℕ → List ℕ) (outcome : Outcome)
@@ -74,7 +74,7 @@ none_asked words text ids ending = go (command_line_of words)
   where
     by : (request : Request) → lines_asked request text ids (Ended ending) ≡ []
     by (One command) = refl
-    by (Session group workers) = refl
+    by (Session session) = refl
     by (Demo seed count workers) = refl
 
     go : (o : Option CommandLine) → option_map_or (λ (l : CommandLine). lines_asked l.request text ids (Ended ending)) o [] ≡ []
@@ -105,7 +105,7 @@ request_answers : (names : List Word) (request : Request) (ids : ℕ → List �
     → RunsRequest names request ids now text from to old outcome new → answers_of (lines_asked request text ids outcome) ≡ ByOutcome outcome
 request_answers names (One command) ids now text from to old outcome new runs =
     answers_by (with_text text (line_of 1 command ids)) (said_of outcome)
-request_answers names (Session group workers) ids now text from to old outcome new runs =
+request_answers names (Session session) ids now text from to old outcome new runs =
     none_by outcome (refused_says old outcome new runs.refused)
 request_answers names (Demo seed count workers) ids now text from to old outcome new runs =
     none_by outcome (refused_says old outcome new runs.refused)
@@ -153,7 +153,7 @@ request_first : (names : List Word) (request : Request) (ids : ℕ → List ℕ)
     → RunsRequest names request ids now text from to old outcome new → IsOfLineOne outcome
 request_first names (One command) ids now text from to old outcome new runs =
     line_first names (line_of 1 command ids) now text from to old outcome new runs
-request_first names (Session group workers) ids now text from to old outcome new runs = refused_first old outcome new runs.refused
+request_first names (Session session) ids now text from to old outcome new runs = refused_first old outcome new runs.refused
 request_first names (Demo seed count workers) ids now text from to old outcome new runs = refused_first old outcome new runs.refused
 
 pub words_first : (words : List Word) (now : ℕ) (text : List ℕ) (from to : SourceState) (ids : ℕ → List ℕ) (old : State) (outcome : Outcome)

@@ -30,7 +30,7 @@ as_request : (names : List Word) (asked : Request) (ids : ℕ → List ℕ) (now
     (outcome : Outcome) (new : State)
     → RunsTask names (task_of asked ids) now text from to old outcome new → RunsRequest names asked ids now text from to old outcome new
 as_request names (request.One command) ids now text from to old outcome new runs = runs
-as_request names (request.Session group workers) ids now text from to old outcome new runs = runs
+as_request names (request.Session session) ids now text from to old outcome new runs = runs
 as_request names (request.Demo seed lines workers) ids now text from to old outcome new runs = runs
 
 module _ (words : List Word) (now : ℕ) (ids : ℕ → List ℕ) (old : State) where

@@ -29,6 +29,7 @@ use Rattle.command_table.specs.declared.refusal.CommandRefusal.{CommandRefusal}
 use Rattle.command_table.specs.declared.refusal.CommandRefusal.TheVariants.{Faulty, WrongWords, NoMemory}
 use Rattle.command_table.specs.declared.request.Request.{Request}
 use Rattle.command_table.specs.declared.request.Request.TheVariants.{One, Session}
+use Rattle.command_table.specs.declared.request.Session.{Session as SessionWords}
 use Rattle.command_table.specs.declared.table.OptionRow.{OptionRow}
 use Rattle.command_table.specs.Commands.{alone, goes_together, changes, draws, longer, lvcreate, lvextend, lvreduce, lvrename, new_volume}
 use Rattle.command_table.specs.Commands.{pvcreate, pvmove, shorter, vgcreate, vgextend, vgreduce, vgrename}
@@ -366,13 +367,13 @@ alone_meant command meant (word ∷ words) = tt
 
 session_meant : (given : OptionValues) (arguments : List Word) → IfSome (session given arguments) IsMeantRequest
 session_meant given arguments =
-    chained IsMeantRequest (session_on (workers_in given)) (with_workers (workers_in given)) (one_word arguments)
+    chained IsMeantRequest (session_on given (workers_in given)) (with_workers (workers_in given)) (one_word arguments)
   where
-    with_workers : (workers : Option ℕ) (vg : Word) → IfSome (session_on workers vg) IsMeantRequest
+    with_workers : (workers : Option ℕ) (vg : Word) → IfSome (session_on given workers vg) IsMeantRequest
     with_workers None vg = tt
     with_workers (Some workers) vg = go (is_group_name vg)
       where
-        go : (b : Bool) → IfSome (if b then Some (Session vg workers) else None) IsMeantRequest
+        go : {s : SessionWords} (b : Bool) → IfSome (if b then Some (Session s) else None) IsMeantRequest
         go true = tt
         go false = tt
 

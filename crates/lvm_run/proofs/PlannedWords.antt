@@ -34,5 +34,5 @@ pub can_plan : (words : List Word) (line : CommandLine) (task : Task) (ids : ℕ
     → task ≡ task_of (request_in task) ids → HasId task → CanPlanTask task
 can_plan words line (One own) ids is asked drawn valid =
     by_line own ids (ap (line_or own) drawn) (planned words line own.command is asked) valid
-can_plan words line (Session group workers) ids is asked drawn valid = tt
+can_plan words line (Session session) ids is asked drawn valid = tt
 can_plan words line (Demo seed lines workers) ids is asked drawn valid = tt

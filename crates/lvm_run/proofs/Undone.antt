@@ -2,7 +2,7 @@
 use Rattle.std.proofs.Common.{◌≡◌, ℕ, List, [], Option, refl, inl, inr}
 use Rattle.command_table.specs.Options.{Word}
 use Rattle.command_table.specs.declared.command.Command.{Command}
-use Rattle.command_table.specs.declared.command.Command.TheVariants.{Fill, List as ListVolumes, Lvs, Pvck, Pvmove, Pvs, Read, Resync}
+use Rattle.command_table.specs.declared.command.Command.TheVariants.{Fill, Flush, List as ListVolumes, Lvs, Pvck, Pvmove, Pvs, Read, Resync}
 use Rattle.command_table.specs.declared.command.Command.TheVariants.{Vgcfgbackup, Vgcfgrestore, Vgck, Vgs, Wait, Write}
 use Rattle.command_table.specs.declared.request.Request.{Request}
 use Rattle.command_table.specs.declared.request.Request.TheVariants.{One}
@@ -50,8 +50,9 @@ undone names (One (Vgcfgrestore vg own)) ids now text from state idle =
     inr (record { ending = NoMemory; is = refl; why = tt; nothing = refl })
 undone names (One (Pvmove moving)) ids now text from state idle = record { refused = (inr refl, refl); unread = refl }
 undone names (One (Read path start count)) ids now text from state idle = record { refused = (inr refl, refl); unread = refl }
-undone names (One (Fill path start count value)) ids now text from state idle = record { refused = (inr refl, refl); unread = refl }
-undone names (One (Write path start hex)) ids now text from state idle = record { refused = (inr refl, refl); unread = refl }
+undone names (One (Fill path start count value through)) ids now text from state idle = record { refused = (inr refl, refl); unread = refl }
+undone names (One (Write path start hex through)) ids now text from state idle = record { refused = (inr refl, refl); unread = refl }
+undone names (One (Flush path)) ids now text from state idle = record { refused = (inr refl, refl); unread = refl }
 undone names (One ListVolumes) ids now text from state idle = record { refused = (inr refl, refl); unread = refl }
 undone names (One Wait) ids now text from state idle = record { refused = (inr refl, refl); unread = refl }
 undone names (One (Resync path)) ids now text from state idle = record { refused = (inr refl, refl); unread = refl }

@@ -18,6 +18,7 @@ pub fn is_built(command: &Command) -> bool
             | Command::Read { .. }
             | Command::Fill { .. }
             | Command::Write { .. }
+            | Command::Flush { .. }
             | Command::List
             | Command::Wait
             | Command::Resync { .. }

@@ -223,7 +223,7 @@ fn run_task<R: Source, S: Shelf>(
 {
     match task {
         Task::One(line) => run_line(alloc, script, shelf, names, line, now),
-        Task::Session { .. } => TimedOutcome::ended(Ending::WordsRefused),
+        Task::Session(_) => TimedOutcome::ended(Ending::WordsRefused),
         Task::Demo { .. } => TimedOutcome::ended(Ending::WordsRefused),
     }
 }

@@ -147,7 +147,7 @@ abbrev numbers_out_of_range : List Row
 numbers_out_of_range =
     (codes "read vg0/data 0 0", 16) ∷ (codes "read vg0/data 0 129", 16) ∷ (codes "read vg0/data 0 18446744073709551615", 16)
     ∷ (codes "fill vg0/data 0 0 1", 16) ∷ (codes "fill vg0/data 0 129 1", 16) ∷ (codes "write vg0/data 0 0", 17)
-    ∷ (codes "pvcreate --metadatacopies 2 a", 26) ∷ (codes "lvcreate -l 0 -n data vg0", 12)
+    ∷ (codes "pvcreate --metadatacopies 3 a", 26) ∷ (codes "lvcreate -l 0 -n data vg0", 12)
     ∷ (codes "lvcreate -i 0 -n data -l 5 vg0", 12) ∷ (codes "lvcreate -i 9 -n data -l 5 vg0", 12)
     ∷ (codes "lvcreate -m 0 -n data -l 5 vg0", 12) ∷ (codes "lvcreate -m 8 -n data -l 5 vg0", 12)
     ∷ (codes "lvextend -l 0 vg0/data", 12) ∷ (codes "lvextend -l +0 vg0/data", 12) ∷ (codes "lvreduce -l 0 vg0/data", 12)

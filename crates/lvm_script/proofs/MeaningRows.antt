@@ -8,7 +8,7 @@ use Rattle.command_table.specs.declared.command.Command.{Command}
 use Rattle.command_table.specs.declared.command.Command.TheVariants.{Pvcreate, Pvmove, Pvck, Pvs, Vgcreate, Vgextend, Vgreduce, Vgremove}
 use Rattle.command_table.specs.declared.command.Command.TheVariants.{Vgrename, Vgcfgbackup, Vgcfgrestore, Vgck, Vgs, Lvcreate, Lvextend}
 use Rattle.command_table.specs.declared.command.Command.TheVariants.{Lvreduce, Lvremove, Lvrename, Lvs, Read, Fill, Write}
-use Rattle.command_table.specs.declared.command.Command.TheVariants.{List as ListVolumes, Wait, Resync}
+use Rattle.command_table.specs.declared.command.Command.TheVariants.{Flush, List as ListVolumes, Wait, Resync}
 use Rattle.command_table.specs.declared.command.Moving.TheVariants.{From, GoOn, Abort}
 use Rattle.command_table.specs.declared.command.NewVolume.{NewVolume}
 use Rattle.command_table.specs.declared.command.Path.{Path}
@@ -80,10 +80,12 @@ commands_of_sectors =
     (codes "read vg0/data 0 1", Read vg0_data 0 1)
     ∷ (codes "read vg0/data 18446744073709551615 128", Read vg0_data 18446744073709551615 128)
     ∷ (codes "read vg0/data 000018446744073709551615 0000128", Read vg0_data 18446744073709551615 128)
-    ∷ (codes "  read   vg0/data 7  4 ", Read vg0_data 7 4) ∷ (codes "fill vg0/data 8191 1 1", Fill vg0_data 8191 1 1)
-    ∷ (codes "fill vg0/data 0 128 18446744073709551615", Fill vg0_data 0 128 18446744073709551615)
-    ∷ (codes "fill vg0/data 18446744073709551615 1 000", Fill vg0_data 18446744073709551615 1 0) ∷ (codes "list", ListVolumes)
-    ∷ (codes " wait  ", Wait) ∷ (codes "resync v+._-0/contents", Resync (path (codes "v+._-0") (codes "contents"))) ∷ []
+    ∷ (codes "  read   vg0/data 7  4 ", Read vg0_data 7 4) ∷ (codes "fill vg0/data 8191 1 1", Fill vg0_data 8191 1 1 false)
+    ∷ (codes "fill vg0/data 0 128 18446744073709551615", Fill vg0_data 0 128 18446744073709551615 false)
+    ∷ (codes "fill vg0/data 18446744073709551615 1 000", Fill vg0_data 18446744073709551615 1 0 false) ∷ (codes "list", ListVolumes)
+    ∷ (codes "fill --through vg0/data 0 1 7", Fill vg0_data 0 1 7 true) ∷ (codes "fill vg0/data 0 1 7 --through", Fill vg0_data 0 1 7 true)
+    ∷ (codes "flush vg0/data", Flush vg0_data) ∷ (codes " wait  ", Wait)
+    ∷ (codes "resync v+._-0/contents", Resync (path (codes "v+._-0") (codes "contents"))) ∷ []
 
 commands_of_sectors_mean : meant commands_of_sectors ≡ commands_of commands_of_sectors
 commands_of_sectors_mean = refl
@@ -92,7 +94,8 @@ commands_of_sectors_mean = refl
 abbrev commands_of_disks : List (Word × Command)
 commands_of_disks =
     (codes "pvcreate a", Pvcreate (codes "a") 1) ∷ (codes "pvcreate --metadatacopies 0 a", Pvcreate (codes "a") 0)
-    ∷ (codes "pvcreate a --metadatacopies 01", Pvcreate (codes "a") 1) ∷ (codes "pvcreate /dev/sd!~", Pvcreate (codes "/dev/sd!~") 1)
+    ∷ (codes "pvcreate a --metadatacopies 01", Pvcreate (codes "a") 1) ∷ (codes "pvcreate --metadatacopies 2 a", Pvcreate (codes "a") 2)
+    ∷ (codes "pvcreate /dev/sd!~", Pvcreate (codes "/dev/sd!~") 1)
     ∷ (codes "pvmove", Pvmove GoOn) ∷ (codes "pvmove --abort", Pvmove Abort) ∷ (codes "pvmove a", Pvmove (From (codes "a") []))
     ∷ (codes "pvmove a b a", Pvmove (From (codes "a") (codes "b" ∷ codes "a" ∷ [])))
     ∷ (codes "vgextend vg0 a", Vgextend (codes "vg0") (codes "a" ∷ []))
@@ -214,10 +217,10 @@ largest_piece = refl
 abbrev digits : ℕ → Word
 digits count = replicate count 97
 
-one_sector : meaning_of_line (codes "write vg0/data 5 " ++ digits 1024) ≡ Some (Ok (Write vg0_data 5 (digits 1024)))
+one_sector : meaning_of_line (codes "write vg0/data 5 " ++ digits 1024) ≡ Some (Ok (Write vg0_data 5 (digits 1024) false))
 one_sector = refl
 
-eight_sectors : sectors_of (Write vg0_data 5 (digits 8192)) ≡ 8
+eight_sectors : sectors_of (Write vg0_data 5 (digits 8192) false) ≡ 8
 eight_sectors = refl
 
 -- ---- the command line
@@ -266,8 +269,13 @@ extent_sizes_mean = refl
 four_mebibytes : asked name.Vgcreate [] (codes "vg0" ∷ two_disks) ≡ Some (One (Vgcreate (codes "vg0") 8192 two_disks))
 four_mebibytes = refl
 
-session : asked name.Session ((key.Workers, codes "8") ∷ []) (codes "vg0" ∷ []) ≡ Some (Session (codes "vg0") 8)
+session : asked name.Session ((key.Workers, codes "8") ∷ []) (codes "vg0" ∷ [])
+    ≡ Some (Session (record { group = codes "vg0"; workers = 8; disk_threads = false; status = false }))
 session = refl
+
+session_with_threads : asked name.Session ((key.Status, []) ∷ (key.Workers, codes "2") ∷ (key.DiskThreads, []) ∷ []) (codes "vg0" ∷ [])
+    ≡ Some (Session (record { group = codes "vg0"; workers = 2; disk_threads = true; status = true }))
+session_with_threads = refl
 
 session_without_workers : asked name.Session [] (codes "vg0" ∷ []) ≡ None
 session_without_workers = refl

@@ -29,7 +29,7 @@ numbered =
     )
     ∷ (
       codes "fill vg0/data 8191 1 1" ++ 10 ∷ codes "fill vg0/data 8191 2 1",
-      (1, Fill vg0_data 8191 1 1) ∷ (2, Fill vg0_data 8191 2 1) ∷ [],
+      (1, Fill vg0_data 8191 1 1 false) ∷ (2, Fill vg0_data 8191 2 1 false) ∷ [],
     ) ∷ []
 
 lines_are_numbered : map (λ row. commands_in row.0) numbered ≡ map (λ row. Ok row.1) numbered
@@ -99,7 +99,7 @@ abbrev after_reads : List ℕ → Commands
 after_reads rest = commands_from (lines_in rest) 4096 524160
 
 all_sectors : after_reads (codes "read vg0/data 0 127" ++ 10 ∷ codes "fill vg0/data 0 1 7" ++ 10 ∷ codes "list")
-    ≡ Ok ((4096, Read vg0_data 0 127) ∷ (4097, Fill vg0_data 0 1 7) ∷ (4098, ListVolumes) ∷ [])
+    ≡ Ok ((4096, Read vg0_data 0 127) ∷ (4097, Fill vg0_data 0 1 7 false) ∷ (4098, ListVolumes) ∷ [])
 unfolding commands_from
 all_sectors = refl
 
@@ -129,7 +129,7 @@ earlier_fault_comes_first = refl
 
 -- sectors that are written count by their digits
 abbrev two_sectors : Command
-two_sectors = Write vg0_data 0 (replicate 2048 48)
+two_sectors = Write vg0_data 0 (replicate 2048 48) false
 
 written : limited 524286 (Some (Ok two_sectors)) ≡ Some (Ok two_sectors)
 written = refl

@@ -93,7 +93,7 @@ abbrev out_of_range : List Row
 out_of_range =
     (words (codes "session --workers 0 vg0"), 2) ∷ (words (codes "session --workers 9 vg0"), 2) ∷ (words (codes "demo 1 0 1"), 2)
     ∷ (words (codes "demo 1 4097 1"), 2) ∷ (words (codes "demo 1 1 0"), 3) ∷ (words (codes "demo 1 1 9"), 3)
-    ∷ (words (codes "pvcreate --metadatacopies 2 a"), 2) ∷ (words (codes "vgcreate -s 0 vg0 a"), 2)
+    ∷ (words (codes "pvcreate --metadatacopies 3 a"), 2) ∷ (words (codes "vgcreate -s 0 vg0 a"), 2)
     ∷ (words (codes "vgcreate -s 4s vg0 a"), 2) ∷ (words (codes "vgcreate -s 7s vg0 a"), 2)
     ∷ (words (codes "vgcreate -s 9s vg0 a"), 2) ∷ (words (codes "vgcreate -s 3 vg0 a"), 2)
     ∷ (words (codes "vgcreate -s 2g vg0 a"), 2) ∷ (words (codes "vgcreate -s 2097153s vg0 a"), 2)

@@ -35,7 +35,7 @@ pub fn line_of<N: Words64>(
 {
     match read_request(alloc, words)? {
         Request::One(command) => Ok(Line::new(1, command, ids)),
-        Request::Session { .. } | Request::Demo { .. } => {
+        Request::Session(_) | Request::Demo { .. } => {
             Err(LineRefusal::Refused(LineFault::NotHere, 0))
         }
     }

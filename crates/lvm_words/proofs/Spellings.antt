@@ -8,8 +8,9 @@ use Rattle.std.specs.Str.{bytes_eq, chars}
 use Rattle.clap.specs.Lexer.{long_of, short_of}
 use Rattle.clap.proofs.OnLiterals.{clap_on_literals}
 use Rattle.command_table.specs.declared.option_key.OptionKey.{OptionKey}
-use Rattle.command_table.specs.declared.option_key.OptionKey.TheVariants.{Abort, Alloc, Extents, MetadataCopies, Mirrors, Name}
-use Rattle.command_table.specs.declared.option_key.OptionKey.TheVariants.{PhysicalExtentSize, Size, Stripes, StripeSize, Workers}
+use Rattle.command_table.specs.declared.option_key.OptionKey.TheVariants.{Abort, Alloc, DiskThreads, Extents, MetadataCopies}
+use Rattle.command_table.specs.declared.option_key.OptionKey.TheVariants.{Mirrors, Name, PhysicalExtentSize, Size, Status, Stripes}
+use Rattle.command_table.specs.declared.option_key.OptionKey.TheVariants.{StripeSize, Through, Workers}
 use Rattle.command_table.specs.Options.{Word, is_key, letter_of, name_of, spells}
 use Rattle.lvm_words.specs.Parser.{rest_id}
 
@@ -21,40 +22,49 @@ pub data Spelled (key : OptionKey) : Word → Type 0 where
 pub long_word_of : (key : OptionKey) → long_of (45 ∷ 45 ∷ name_of key) ≡ Some (name_of key, None)
 long_word_of Abort = refl
 long_word_of Alloc = refl
+long_word_of DiskThreads = refl
 long_word_of Extents = refl
 long_word_of MetadataCopies = refl
 long_word_of Mirrors = refl
 long_word_of Name = refl
 long_word_of PhysicalExtentSize = refl
 long_word_of Size = refl
+long_word_of Status = refl
 long_word_of Stripes = refl
 long_word_of StripeSize = refl
+long_word_of Through = refl
 long_word_of Workers = refl
 
 pub not_only_hyphens : (key : OptionKey) → bytes_eq (45 ∷ 45 ∷ name_of key) (45 ∷ 45 ∷ []) ≡ false
 not_only_hyphens Abort = refl
 not_only_hyphens Alloc = refl
+not_only_hyphens DiskThreads = refl
 not_only_hyphens Extents = refl
 not_only_hyphens MetadataCopies = refl
 not_only_hyphens Mirrors = refl
 not_only_hyphens Name = refl
 not_only_hyphens PhysicalExtentSize = refl
 not_only_hyphens Size = refl
+not_only_hyphens Status = refl
 not_only_hyphens Stripes = refl
 not_only_hyphens StripeSize = refl
+not_only_hyphens Through = refl
 not_only_hyphens Workers = refl
 
 pub not_the_rest : (key : OptionKey) → bytes_eq (name_of key) rest_id ≡ false
 not_the_rest Abort = refl
 not_the_rest Alloc = refl
+not_the_rest DiskThreads = refl
 not_the_rest Extents = refl
 not_the_rest MetadataCopies = refl
 not_the_rest Mirrors = refl
 not_the_rest Name = refl
 not_the_rest PhysicalExtentSize = refl
 not_the_rest Size = refl
+not_the_rest Status = refl
 not_the_rest Stripes = refl
 not_the_rest StripeSize = refl
+not_the_rest Through = refl
 not_the_rest Workers = refl
 
 -- ---- an option by its name and by its letter
@@ -66,28 +76,34 @@ key_of_name : Word → OptionKey
 key_of_name name =
     cond (bytes_eq name (codes "abort")) Abort
     (cond (bytes_eq name (codes "alloc")) Alloc
+    (cond (bytes_eq name (codes "disk-threads")) DiskThreads
     (cond (bytes_eq name (codes "extents")) Extents
     (cond (bytes_eq name (codes "metadatacopies")) MetadataCopies
     (cond (bytes_eq name (codes "mirrors")) Mirrors
     (cond (bytes_eq name (codes "name")) Name
     (cond (bytes_eq name (codes "physicalextentsize")) PhysicalExtentSize
     (cond (bytes_eq name (codes "size")) Size
+    (cond (bytes_eq name (codes "status")) Status
     (cond (bytes_eq name (codes "stripes")) Stripes
     (cond (bytes_eq name (codes "stripesize")) StripeSize
-    Workers)))))))))
+    (cond (bytes_eq name (codes "through")) Through
+    Workers))))))))))))
 
 key_of_name_of : (key : OptionKey) → key_of_name (name_of key) ≡ key
 unfolding key_of_name
 key_of_name_of Abort = refl
 key_of_name_of Alloc = refl
+key_of_name_of DiskThreads = refl
 key_of_name_of Extents = refl
 key_of_name_of MetadataCopies = refl
 key_of_name_of Mirrors = refl
 key_of_name_of Name = refl
 key_of_name_of PhysicalExtentSize = refl
 key_of_name_of Size = refl
+key_of_name_of Status = refl
 key_of_name_of Stripes = refl
 key_of_name_of StripeSize = refl
+key_of_name_of Through = refl
 key_of_name_of Workers = refl
 
 pub same_key : (a b : OptionKey) → bytes_eq (name_of a) (name_of b) ≡ true → a ≡ b
@@ -108,14 +124,17 @@ key_of_letter_of : (key : OptionKey) (letter : ℕ) → letter_of key ≡ Some l
 unfolding key_of_letter
 key_of_letter_of Abort letter e = absurd (true≢false (sym (ap is_some e)))
 key_of_letter_of Alloc letter e = absurd (true≢false (sym (ap is_some e)))
+key_of_letter_of DiskThreads letter e = absurd (true≢false (sym (ap is_some e)))
 key_of_letter_of Extents letter e = refl
 key_of_letter_of MetadataCopies letter e = absurd (true≢false (sym (ap is_some e)))
 key_of_letter_of Mirrors letter e = refl
 key_of_letter_of Name letter e = refl
 key_of_letter_of PhysicalExtentSize letter e = refl
 key_of_letter_of Size letter e = refl
+key_of_letter_of Status letter e = absurd (true≢false (sym (ap is_some e)))
 key_of_letter_of Stripes letter e = refl
 key_of_letter_of StripeSize letter e = refl
+key_of_letter_of Through letter e = absurd (true≢false (sym (ap is_some e)))
 key_of_letter_of Workers letter e = absurd (true≢false (sym (ap is_some e)))
 
 pub same_letter : (a b : OptionKey) (letter : ℕ) → letter_of a ≡ Some letter → letter_of b ≡ Some letter → a ≡ b
@@ -139,14 +158,17 @@ pub short_word_of : (key : OptionKey) (letter : ℕ) → letter_of key ≡ Some 
 unfolding clap_on_literals
 short_word_of Abort letter e = absurd (true≢false (sym (ap is_some e)))
 short_word_of Alloc letter e = absurd (true≢false (sym (ap is_some e)))
+short_word_of DiskThreads letter e = absurd (true≢false (sym (ap is_some e)))
 short_word_of Extents letter e = subst (λ l. At l) (some_is 108 letter e) (refl, refl, refl, refl, refl)
 short_word_of MetadataCopies letter e = absurd (true≢false (sym (ap is_some e)))
 short_word_of Mirrors letter e = subst (λ l. At l) (some_is 109 letter e) (refl, refl, refl, refl, refl)
 short_word_of Name letter e = subst (λ l. At l) (some_is 110 letter e) (refl, refl, refl, refl, refl)
 short_word_of PhysicalExtentSize letter e = subst (λ l. At l) (some_is 115 letter e) (refl, refl, refl, refl, refl)
 short_word_of Size letter e = subst (λ l. At l) (some_is 76 letter e) (refl, refl, refl, refl, refl)
+short_word_of Status letter e = absurd (true≢false (sym (ap is_some e)))
 short_word_of Stripes letter e = subst (λ l. At l) (some_is 105 letter e) (refl, refl, refl, refl, refl)
 short_word_of StripeSize letter e = subst (λ l. At l) (some_is 73 letter e) (refl, refl, refl, refl, refl)
+short_word_of Through letter e = absurd (true≢false (sym (ap is_some e)))
 short_word_of Workers letter e = absurd (true≢false (sym (ap is_some e)))
 
 -- ---- what a word that spells an option is

@@ -30,13 +30,13 @@ command_line_of words = option_and_then of_disks (disks_front words)
 -- the task that is asked for, where a source of numbers gives these: one command is line 1, and draws its id
 abbrev pub task_of : Request → (ℕ → List ℕ) → Task
 task_of (request.One command) upcoming = One (line_of 1 command upcoming)
-task_of (request.Session group workers) upcoming = Session group workers
+task_of (request.Session session) upcoming = Session session
 task_of (request.Demo seed lines workers) upcoming = Demo seed lines workers
 
 -- what a task was asked for by
 abbrev pub request_in : Task → Request
 request_in (One line) = request.One line.command
-request_in (Session group workers) = request.Session group workers
+request_in (Session session) = request.Session session
 request_in (Demo seed lines workers) = request.Demo seed lines workers
 
 -- the command line that it was asked for by

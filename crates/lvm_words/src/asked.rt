@@ -6,10 +6,9 @@ ghost use Rattle.lvm_words.specs.CommandLines.{HasId, command_line_of, draws_id,
 ghost use Rattle.lvm_words.specs.declared.command_line.CommandLine.{CommandLine as CommandLineRecord};
 
 use crate::{CommandLine, WordsRefusal, read_command_line};
-use command_table::Request;
+use command_table::{Request, Session};
 use line_answers::DiskNames;
 use lvm_id::Words64;
-use lvm_name::GroupName;
 use lvm_script::Line;
 use std::alloc::Global;
 
@@ -18,8 +17,8 @@ use std::alloc::Global;
 pub enum Task {
     /// One command, which is line 1.
     One(Line),
-    /// A session on the group of this name, with so many workers, 1 to 8. Its script comes from the source.
-    Session { group: GroupName, workers: u32 },
+    /// A session, whose script comes from the source.
+    Session(Session),
     /// The demo with this seed, so many lines, 1 to 4,096, and so many workers, 1 to 8.
     Demo { seed: u64, lines: u64, workers: u32 },
 }
@@ -67,7 +66,7 @@ impl Task {
     {
         match request {
             Request::One(command) => Task::One(Line::new(1, command, ids)),
-            Request::Session { group, workers } => Task::Session { group, workers },
+            Request::Session(session) => Task::Session(session),
             Request::Demo {
                 seed,
                 lines,

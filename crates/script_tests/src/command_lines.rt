@@ -64,9 +64,11 @@ fn told(alloc: Global, task: &Task) -> Result<String, AllocError> {
             let draws = if line.id.is_some() { " draws" } else { "" };
             format!(in alloc; "{} {changes}{draws}", line.number)
         }
-        Task::Session { group, workers } => {
-            let name = str::from_utf8(group.as_bytes()).unwrap_or("");
-            format!(in alloc; "session {name} {workers}")
+        Task::Session(session) => {
+            let name = str::from_utf8(session.group.as_bytes()).unwrap_or("");
+            let threads = if session.disk_threads { " threads" } else { "" };
+            let status = if session.status { " status" } else { "" };
+            format!(in alloc; "session {name} {}{threads}{status}", session.workers)
         }
         Task::Demo {
             seed,

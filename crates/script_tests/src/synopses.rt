@@ -54,7 +54,10 @@ fn arguments_of<'a>(alloc: Global, words: &'a str) -> Result<Vec<&'a str>, Alloc
     for word in words.split_whitespace() {
         let word = bare(word);
         if word.starts_with('-') {
-            is_value = word != "--abort";
+            is_value = !matches!(
+                word,
+                "--abort" | "--disk-threads" | "--status" | "--through"
+            );
         } else if is_value {
             is_value = false;
         } else if word != "|" && word != "..." {

@@ -37,8 +37,8 @@ quiet_step _ q = record { step = λ b a s i. refl; births = λ b a s i k x. refl
 -- what is known of a command that reads and writes no sectors of a volume
 pub undata : (c : Command) → is_data c ≡ false → (writes c ≡ false) × (volume_named c ≡ None)
 undata (command.Read path start count) q = cc
-undata (command.Fill path start count value) q = cc
-undata (command.Write path start hex) q = cc
+undata (command.Fill path start count value through) q = cc
+undata (command.Write path start hex through) q = cc
 undata _ q = (refl, refl)
 
 -- and of one that leaves the volumes as they are
@@ -114,8 +114,8 @@ created_says names disk pv c e =
 pub commit_kind : (names : List Word) (c : Command) → commits c ≡ true → (is_data c ≡ false) × (created_disk names c ≡ None)
 commit_kind names (command.Pvcreate pv copies) q = cc
 commit_kind names (command.Read path start count) q = cc
-commit_kind names (command.Fill path start count value) q = cc
-commit_kind names (command.Write path start hex) q = cc
+commit_kind names (command.Fill path start count value through) q = cc
+commit_kind names (command.Write path start hex through) q = cc
 commit_kind names _ q = (refl, refl)
 
 no_sectors : (c : Command) → commits c ≡ true → (is_read c || is_list c) ≡ false

@@ -142,7 +142,7 @@ listing = line command.List
 
 -- one sector is filled, and read
 abbrev pub filling : ℕ → ℕ → ℕ → Line
-filling first count number = line (command.Fill path first count number)
+filling first count number = line (command.Fill path first count number false)
 
 abbrev pub reading : Line
 reading = line (command.Read path 0 1)
