@@ -80,7 +80,7 @@ abbrev pub rows_of : GroupState → Line → ℕ → List Part → List (Option 
 rows_of state line now given = by line.command
   where
     by : Command → List (Option OpRefusal)
-    by (Pvcreate pv copies) = pvcreate_rows state (drawn line) pv
+    by (Pvcreate pv copies) = pvcreate_rows state (drawn line) pv copies
     by (Vgcreate vg extent_size pvs) = vgcreate_rows state (empty_group (drawn line) vg extent_size) pvs now
     by (Vgextend vg pvs) = vgextend_rows state vg pvs now
     by (Vgreduce vg pv) = vgreduce_rows state vg pv now

@@ -7,17 +7,17 @@ use Rattle.group_plan.specs.Judging.{first_refusal, stands_on_disk}
 use Rattle.group_plan.specs.declared.state.GroupState.{GroupState}
 use Rattle.pv_plans.specs.Pvcreate.{disk_rows, fewest_sectors, group_has, is_listed}
 
-pub record DiskPasses (state : GroupState) (id : List ℕ) (number : ℕ) (disk : Disk) : Type 0 where
+pub record DiskPasses (state : GroupState) (id : List ℕ) (copies number : ℕ) (disk : Disk) : Type 0 where
   pub unlisted : is_listed state number ≡ false
-  pub enough : nat_lt disk.sectors fewest_sectors ≡ false
+  pub enough : nat_lt disk.sectors (fewest_sectors copies) ≡ false
   pub own_id : (group_has id state.group || stands_on_disk id state.disks) ≡ false
 
-pub disk_passes : (state : GroupState) (id name : List ℕ) (number : ℕ) (disk : Disk)
-    → first_refusal (disk_rows state id name number (Some disk)) ≡ None → DiskPasses state id number disk
-disk_passes state id name number disk none =
-    let rows = none_holds (disk_rows state id name number (Some disk)) none in
+pub disk_passes : (state : GroupState) (id name : List ℕ) (copies number : ℕ) (disk : Disk)
+    → first_refusal (disk_rows state id name copies number (Some disk)) ≡ None → DiskPasses state id copies number disk
+disk_passes state id name copies number disk none =
+    let rows = none_holds (disk_rows state id name copies number (Some disk)) none in
     record {
       unlisted = test_fails (is_listed state number) (PvUsed name) rows.0;
-      enough = test_fails (nat_lt disk.sectors fewest_sectors) (TooSmall disk.sectors fewest_sectors) rows.1.0;
+      enough = test_fails (nat_lt disk.sectors (fewest_sectors copies)) (TooSmall disk.sectors (fewest_sectors copies)) rows.1.0;
       own_id = test_fails (group_has id state.group || stands_on_disk id state.disks) (IdTaken id) rows.1.1.0;
     }

@@ -1,5 +1,5 @@
 -- pvcreate(8): the rows of its refusals, and its change.
-use Rattle.std.specs.Prelude.{ℕ, ◌*◌, ◌||◌, ◌==◌, Bool, false, nat_lt, if◌then◌else◌, List, [], ◌∷◌, Option, None, Some, unwrap_or}
+use Rattle.std.specs.Prelude.{ℕ, ◌*◌, ◌-◌, ◌||◌, ◌==◌, Bool, false, nat_lt, if◌then◌else◌, List, [], ◌∷◌, Option, None, Some, unwrap_or}
 use Rattle.std.specs.Prelude.{slice_get}
 use Rattle.std.specs.Option.{option_and_then, option_map_or}
 use Rattle.std.specs.FinSet as set
@@ -18,9 +18,9 @@ use Rattle.group_plan.specs.declared.state.Change.{Change}
 use Rattle.group_plan.specs.declared.state.GroupState.{GroupState}
 use Rattle.group_plan.specs.declared.state.NewLabel.{NewLabel}
 
--- the fewest sectors of a disk for it
-abbrev pub fewest_sectors : ℕ
-fewest_sectors = 2056
+-- the fewest sectors of a disk for it, with so many copies of the metadata
+abbrev pub fewest_sectors : ℕ → ℕ
+fewest_sectors copies = if copies == 2 then 4096 else 2056
 
 -- the group lists the disk with this number
 abbrev pub is_listed : GroupState → ℕ → Bool
@@ -31,24 +31,24 @@ abbrev pub group_has : List ℕ → Option Group → Bool
 group_has id group = option_map_or (λ (g : Group). has_any_id g id) group false
 
 -- the disk has too few sectors
-abbrev pub few_row : Disk → Option OpRefusal
-few_row disk = refused_if (nat_lt disk.sectors fewest_sectors) (TooSmall disk.sectors fewest_sectors)
+abbrev pub few_row : ℕ → Disk → Option OpRefusal
+few_row copies disk = refused_if (nat_lt disk.sectors (fewest_sectors copies)) (TooSmall disk.sectors (fewest_sectors copies))
 
 -- the disk with this number is listed, or has too few sectors; or the drawn id stands in the group or on a disk
-abbrev pub disk_rows : GroupState → List ℕ → List ℕ → ℕ → Option Disk → List (Option OpRefusal)
-disk_rows state id name number disk =
+abbrev pub disk_rows : GroupState → List ℕ → List ℕ → ℕ → ℕ → Option Disk → List (Option OpRefusal)
+disk_rows state id name copies number disk =
     refused_if (is_listed state number) (PvUsed name)
-    ∷ option_and_then few_row disk
+    ∷ option_and_then (few_row copies) disk
     ∷ refused_if (group_has id state.group || stands_on_disk id state.disks) (IdTaken id)
     ∷ []
 
 -- no disk has the name, or the rows on it
-abbrev pub pvcreate_rows : GroupState → List ℕ → List ℕ → List (Option OpRefusal)
-pvcreate_rows state id name = by (number_named state.names name)
+abbrev pub pvcreate_rows : GroupState → List ℕ → List ℕ → ℕ → List (Option OpRefusal)
+pvcreate_rows state id name copies = by (number_named state.names name)
   where
     by : Option ℕ → List (Option OpRefusal)
     by None = Some (UnknownPv name) ∷ []
-    by (Some number) = disk_rows state id name number (slice_get state.disks number)
+    by (Some number) = disk_rows state id name copies number (slice_get state.disks number)
 
 -- the sector of the label that was found
 abbrev pub label_in : PvFound → Option ℕ
@@ -60,9 +60,17 @@ label_in (Whole label header areas) = Some label
 abbrev pub label_sector : Disk → ℕ
 label_sector disk = unwrap_or (option_and_then label_in disk.contents) 1
 
--- the metadata areas: one behind the first eight sectors, or none
-abbrev pub new_areas : ℕ → List Extent
-new_areas copies = if copies == 0 then [] else record { offset = 4096; size = 1044480 } ∷ []
+-- the metadata area in front of the data, behind the first eight sectors
+abbrev pub first_area : Extent
+first_area = record { offset = 4096; size = 1044480 }
+
+-- the one at the end of a disk of so many sectors
+abbrev pub last_area : ℕ → Extent
+last_area sectors = record { offset = sectors * 512 - 1044480; size = 1044480 }
+
+-- the metadata areas for so many copies of the metadata: none, the first one, or both
+abbrev pub new_areas : ℕ → ℕ → List Extent
+new_areas sectors copies = if copies == 0 then [] else first_area ∷ (if copies == 2 then last_area sectors ∷ [] else [])
 
 -- a header on a disk of so many sectors: all from the first mebibyte on holds data
 abbrev pub new_header : List ℕ → ℕ → ℕ → PvHeader
@@ -70,7 +78,7 @@ new_header id sectors copies = record {
   id = id;
   device_bytes = sectors * 512;
   data_areas = record { offset = 1048576; size = 0 } ∷ [];
-  areas = new_areas copies;
+  areas = new_areas sectors copies;
   version = 2;
   flags = 0;
 }

@@ -3,7 +3,7 @@ ghost use Rattle.std.specs.Prelude.{◌≡◌, ◌≤◌, ◌<◌, ◌^◌, ◌|
 ghost use Rattle.group_plan.specs.Plans.{Plans};
 ghost use Rattle.group_plan.specs.Judging.{Judges, first_refusal, stands_on_disk};
 ghost use Rattle.group_plan.specs.State.{IsState};
-ghost use Rattle.pv_plans.specs.Pvcreate.{disk_rows, group_has, is_listed, label_sector, new_areas, new_header, new_label, pvcreate_change, pvcreate_rows};
+ghost use Rattle.pv_plans.specs.Pvcreate.{disk_rows, fewest_sectors, group_has, is_listed, label_sector, new_areas, new_header, new_label, pvcreate_change, pvcreate_rows};
 
 use disk_contents::PvFound;
 use group_plan::{
@@ -17,21 +17,21 @@ use sector_base::{PvSet, Text};
 use std::alloc::{AllocError, Global};
 use vg_found::Disk;
 
-/// The fewest sectors of a disk for a physical volume.
-const FEWEST_SECTORS: u64 = 2_056;
-
 /// Where the metadata area begins, in bytes.
 const AREA_START: u64 = 4_096;
 
 /// Where the data begin, in bytes: behind the metadata area.
 const DATA_START: u64 = 1_048_576;
 
-/// The change of a pvcreate with this id on the disk with this name, with so many copies of the metadata, 0 or 1.
+/// The size of a metadata area, in bytes.
+const AREA_SIZE: u64 = DATA_START - AREA_START;
+
+/// The change of a pvcreate with this id on the disk with this name, with so many copies of the metadata, 0 to 2.
 ///
 /// # Errors
 ///
-/// `UnknownPv` where no disk has the name, `PvUsed` where the group lists it, `TooSmall` below 2,056 sectors, `IdTaken`
-/// where the id stands in the group or on a disk: the first of these. `NoMemory` where memory is wanting.
+/// `UnknownPv` where no disk has the name, `PvUsed` where the group lists it, `TooSmall` below 2,056 sectors, with two copies
+/// below 4,096, `IdTaken` where the id stands in the group or on a disk: the first of these. `NoMemory` where memory is wanting.
 pub fn plan_pvcreate(
     alloc: Global,
     state: &GroupState,
@@ -40,14 +40,14 @@ pub fn plan_pvcreate(
     copies: u64,
 ) -> Result<Change, PlanRefusal>
     requires { IsState state.now }
-    ensures { Plans (pvcreate_rows state.now id.now name.now) (pvcreate_change state.now id.now name.now copies) result }
+    ensures { Plans (pvcreate_rows state.now id.now name.now copies) (pvcreate_change state.now id.now name.now copies) result }
 {
     let Some(number) = state.names.number_of(name.as_bytes()) else {
         let name = copied_text(alloc, name)?;
         return Err(PlanRefusal::Refused(OpRefusal::UnknownPv(name)));
     };
     let disk = state.disks.get(number as usize);
-    judge_disk(alloc, state, id, name, number, disk)?;
+    judge_disk(alloc, state, id, name, copies, number, disk)?;
     Ok(Change {
         group: None,
         zero: Spans::from_vec(Vec::new(alloc)),
@@ -64,24 +64,33 @@ fn judge_disk(
     state: &GroupState,
     id: &LvmId,
     name: &Text,
+    copies: u64,
     number: u32,
     disk: &Disk,
 ) -> Result<(), PlanRefusal>
     requires state { IsState state.now }
     requires disk { slice_get state.now.disks number ≡ Some disk.now }
-    ensures { Judges result (first_refusal (disk_rows state.now id.now name.now number (Some disk.now))) }
+    ensures { Judges result (first_refusal (disk_rows state.now id.now name.now copies number (Some disk.now))) }
 {
     if is_listed(state, number) {
         let name = copied_text(alloc, name)?;
         return Err(PlanRefusal::Refused(OpRefusal::PvUsed(name)));
     }
-    if disk.sectors < FEWEST_SECTORS {
-        return Err(PlanRefusal::Refused(OpRefusal::TooSmall(disk.sectors, FEWEST_SECTORS)));
+    let fewest = fewest_sectors(copies);
+    if disk.sectors < fewest {
+        return Err(PlanRefusal::Refused(OpRefusal::TooSmall(disk.sectors, fewest)));
     }
     if is_taken(state, id) {
         return Err(PlanRefusal::Refused(OpRefusal::IdTaken(*id)));
     }
     Ok(())
+}
+
+// The fewest sectors of a disk for a physical volume with so many copies of the metadata.
+fn fewest_sectors(copies: u64) -> u64
+    ensures { result ≡ fewest_sectors copies }
+{
+    if copies == 2 { 4_096 } else { 2_056 }
 }
 
 // Whether the group lists the disk with this number.
@@ -149,21 +158,28 @@ fn new_header(alloc: Global, id: &LvmId, sectors: u64, copies: u64) -> Result<Pv
         id: *id,
         device_bytes: sectors * 512,
         data_areas: Extents::from_vec(data_areas),
-        areas: new_areas(alloc, copies)?,
+        areas: new_areas(alloc, sectors, copies)?,
         version: 2,
         flags: 0,
     })
 }
 
-// The metadata areas: one, or none.
-fn new_areas(alloc: Global, copies: u64) -> Result<Extents, AllocError>
-    ensures { IfOk result (λ list. list ≡ new_areas copies) }
+// The metadata areas on a disk of so many sectors: none, one in front of the data, or that one and one at the disk's end.
+fn new_areas(alloc: Global, sectors: u64, copies: u64) -> Result<Extents, AllocError>
+    requires { sectors ≤ 2 ^ 40 }
+    ensures { IfOk result (λ list. list ≡ new_areas sectors copies) }
 {
     let mut list = Vec::new(alloc);
     if copies != 0 {
         list.push(Extent {
             offset: AREA_START,
-            size: DATA_START - AREA_START,
+            size: AREA_SIZE,
+        })?;
+    }
+    if copies == 2 {
+        list.push(Extent {
+            offset: (512 * sectors).saturating_sub(AREA_SIZE),
+            size: AREA_SIZE,
         })?;
     }
     Ok(Extents::from_vec(list))

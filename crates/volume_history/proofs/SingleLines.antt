@@ -66,28 +66,28 @@ module _ (o : Origin) (line : Line) where
 
   -- one that leaves its disk alone leaves none out
   leaves_none : LeavesDisk o line → (m : ℕ) → o.start ≤ m → m ≤ end_of o → (written : ℕ → Bool)
-      → ((pv : ℕ) → written pv ≡ has_written (is_created_at line.command pv) (since_start o m)) → (pv : ℕ)
+      → ((pv : ℕ) → written pv ≡ has_written (is_created_at o.sizes line.command pv) (since_start o m)) → (pv : ℕ)
       → none_out pv ≡ leaves (created_disk o.names line.command) (written pv) pv
   leaves_none alone m ge le written same pv =
       sym (false_and (is_number (created_disk o.names line.command) pv) (written pv)
-      (λ is. same pv ∙ unwritten_by (is_created_at line.command pv) o m ge le
+      (λ is. same pv ∙ unwritten_by (is_created_at o.sizes line.command pv) o m ge le
       (alone pv (names_it (created_disk o.names line.command) pv is))))
 
   out_begun : (m : ℕ) → m ≤ end_of o → (pv : ℕ)
       → left_out (origin_at m o) (begun_entries o line) (length (origin_at m o).told.steps) pv
-      ≡ leaves (created_disk o.names line.command) (has_written (is_created_at line.command pv) (since_start o m)) pv
+      ≡ leaves (created_disk o.names line.command) (has_written (is_created_at o.sizes line.command pv) (since_start o m)) pv
   out_begun m le pv =
-      ap (λ (l : List Step). leaves (created_disk o.names line.command) (has_written (is_created_at line.command pv) l) pv)
+      ap (λ (l : List Step). leaves (created_disk o.names line.command) (has_written (is_created_at o.sizes line.command pv) l) pv)
       (since_seen_now o m le)
 
   out_answered : (a : Answer) → is_fine a ≡ false → (pv : ℕ)
       → left_out (origin_at (end_of o) o) (answered_entries o line a) (length (origin_at (end_of o) o).told.steps) pv
-      ≡ leaves (created_disk o.names line.command) (has_written (is_created_at line.command pv) (since_start o (end_of o))) pv
+      ≡ leaves (created_disk o.names line.command) (has_written (is_created_at o.sizes line.command pv) (since_start o (end_of o))) pv
   out_answered a bad pv =
       ap (λ (b : Bool). if is_number (created_disk o.names line.command) pv
-      && has_written (is_created_at line.command pv)
+      && has_written (is_created_at o.sizes line.command pv)
       (take (end_of o - o.start) (steps_upto (origin_at (end_of o) o) (end_of o))) then not b else false) bad
-      ∙ ap (λ (l : List Step). leaves (created_disk o.names line.command) (has_written (is_created_at line.command pv) l) pv)
+      ∙ ap (λ (l : List Step). leaves (created_disk o.names line.command) (has_written (is_created_at o.sizes line.command pv) l) pv)
       (since_seen o (end_of o) (omega arith))
 
 -- ---- no line, and a line that commits nothing and writes nothing
@@ -148,7 +148,7 @@ module _ (o : Origin) (line : Line) (law : StaysLaw o) (plain : is_data line.com
       opening_phase o law.still (begun_entries o line) m (omega (arith, law.still.from, ge)) le (λ key x. refl) refl refl
       (λ image is. inl (finds_with o.sizes image none_out
       (left_out (origin_at m o) (begun_entries o line) (length (origin_at m o).told.steps)) o.version
-      (λ pv. leaves_none o line alone m ge le (λ k. has_written (is_created_at line.command k) (since_start o m)) (λ k. refl) pv
+      (λ pv. leaves_none o line alone m ge le (λ k. has_written (is_created_at o.sizes line.command k) (since_start o m)) (λ k. refl) pv
       ∙ sym (out_begun o line m le pv)) (law.after m ge le image is))) tt
 
   pub undone_line : (a : Answer) → LeavesAll o line → is_good a ≡ false → may_say line.command a ≡ true
@@ -169,7 +169,7 @@ module _ (o : Origin) (line : Line) (law : StaysLaw o) (plain : is_data line.com
           (λ image is. inl (finds_with o.sizes image none_out
           (left_out (origin_at (end_of o) o) (answered_entries o line a) (length (origin_at (end_of o) o).told.steps)) o.version
           (λ pv. leaves_none o line alone (end_of o) law.still.until (omega arith)
-          (λ k. has_written (is_created_at line.command k) (since_start o (end_of o))) (λ k. refl) pv
+          (λ k. has_written (is_created_at o.sizes line.command k) (since_start o (end_of o))) (λ k. refl) pv
           ∙ sym (out_answered o line a (not_fine a bad) pv))
           (law.after (end_of o) law.still.until (omega arith) image is))) tt
 
@@ -414,10 +414,10 @@ module _ (o : Origin) (line : Line) (disk before : ℕ) (law : CreateLaw o line 
   -- the disk is left out once it was written
   half_made : (m : ℕ) → m ≤ end_of o → (pv : ℕ)
       → is_half_made o line disk m pv ≡ leaves o line (created_disk o.names line.command)
-      (has_written (is_created_at line.command pv) (since_start o m)) pv
+      (has_written (is_created_at o.sizes line.command pv) (since_start o m)) pv
   half_made m le pv =
-      sym (as_it_is ((disk == pv) && has_written (is_created_at line.command pv) (since_start o m)))
-      ∙ ap (λ (d : Option ℕ). leaves o line d (has_written (is_created_at line.command pv) (since_start o m)) pv) (sym law.names)
+      sym (as_it_is ((disk == pv) && has_written (is_created_at o.sizes line.command pv) (since_start o m)))
+      ∙ ap (λ (d : Option ℕ). leaves o line d (has_written (is_created_at o.sizes line.command pv) (since_start o m)) pv) (sym law.names)
     where
       as_it_is : (b : Bool) → (if b then true else false) ≡ b
       as_it_is true = refl

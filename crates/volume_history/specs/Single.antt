@@ -92,7 +92,7 @@ pub record StaysLaw (o : Origin) : Type 0 where
 abbrev pub LeavesDisk : Origin → Line → Type 0
 LeavesDisk o line =
     (disk : ℕ) → created_disk o.names line.command ≡ Some disk
-    → has_written (is_created_at line.command disk) (take (end_of o - o.start) o.told.steps) ≡ false
+    → has_written (is_created_at o.sizes line.command disk) (take (end_of o - o.start) o.told.steps) ≡ false
 
 -- nor any write, where it is to remove the group
 abbrev pub LeavesAll : Origin → Line → Type 0
@@ -144,7 +144,7 @@ pub record GivenUpLaw (o : Origin) : Type 0 where
 
 -- whether it is this disk, and a write of what the line creates there was submitted since the start
 abbrev pub is_half_made : Origin → Line → ℕ → ℕ → ℕ → Bool
-is_half_made o line disk m pv = (disk == pv) && has_written (is_created_at line.command pv) (take (m - o.start) (steps_upto o m))
+is_half_made o line disk m pv = (disk == pv) && has_written (is_created_at o.sizes line.command pv) (take (m - o.start) (steps_upto o m))
 
 -- a pvcreate of this disk that was begun at the start: at each moment before this one every image shows the version in
 -- force, where the disk is left out once a write of it was submitted
