@@ -5,6 +5,8 @@ use Rattle.std.specs.Borrow.{Bor}
 use Rattle.std.specs.Option.{option_and_then}
 use Rattle.command_table.specs.declared.fault.Fault.{Fault}
 use Rattle.command_table.specs.declared.fault.Fault.TheVariants.{BadOption, BadNumber, BadCount, BadName, BadHex}
+use Rattle.command_table.specs.declared.line_fault.LineFault.{LineFault}
+use Rattle.command_table.specs.declared.line_fault.LineFault.TheVariants.{UnknownWord, NotHere, Faulty, WrongWords, SessionFull}
 use Rattle.command_table.specs.declared.table.CommandName.{CommandName}
 use Rattle.command_table.specs.declared.kind.Kind.{Kind}
 use Rattle.command_table.specs.declared.kind.Kind.TheVariants.{Flag}
@@ -136,3 +138,11 @@ fault_word BadNumber = codes "BadNumber"
 fault_word BadCount = codes "BadCount"
 fault_word BadName = codes "BadName"
 fault_word BadHex = codes "BadHex"
+
+-- and that of the fault of a line
+abbrev pub line_fault_word : LineFault → Word
+line_fault_word UnknownWord = codes "UnknownWord"
+line_fault_word NotHere = codes "NotHere"
+line_fault_word (Faulty fault) = fault_word fault
+line_fault_word WrongWords = codes "WrongWords"
+line_fault_word SessionFull = codes "SessionFull"

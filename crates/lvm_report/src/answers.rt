@@ -10,8 +10,8 @@ use line_table::Answers;
 use sector_base::Text;
 use std::alloc::{AllocError, Global};
 
-/// Writes the line of each answered line of a run, in their order: its number, a colon and a space, and its answer. A line
-/// without an answer has none. The disks have these names.
+/// Writes the line of each line of a run, in their order: its number, a colon and a space, and its answer, or that it wasn't
+/// begun where it has none. The disks have these names.
 ///
 /// # Errors
 ///
@@ -26,7 +26,7 @@ pub fn write_answers<W: Sink>(
         (is_ok result) (W.written out.new) (W.fault_count out.new) }
 {
     for (number, answer) in answers {
-        write_if_answered(out, *number, answer, names)?;
+        write_line(out, *number, answer, names)?;
     }
     Ok(())
 }
@@ -46,8 +46,8 @@ pub fn answer_lines(alloc: Global, answers: &Answers, names: &DiskNames) -> Resu
     }
 }
 
-// Writes the answer of the line with this number, if it has one.
-fn write_if_answered<W: Sink>(
+// Writes the line of the line with this number.
+fn write_line<W: Sink>(
     out: &mut W,
     number: u64,
     answer: &Option<Answer>,
@@ -58,8 +58,17 @@ fn write_if_answered<W: Sink>(
 {
     match answer {
         Some(answer) => write_answered(out, number, answer, names),
-        None => Ok(()),
+        None => write_unbegun(out, number),
     }
+}
+
+// Writes that the line with this number wasn't begun.
+fn write_unbegun<W: Sink>(out: &mut W, number: u64) -> Result<(), Failed>
+    ensures { WritesText (W.written out.old) (W.fault_count out.old) (decimal number ++ codes ": not begun\n")
+        (is_ok result) (W.written out.new) (W.fault_count out.new) }
+{
+    write_number(out, number)?;
+    write_bytes(out, b": not begun\n")
 }
 
 /// Writes this answer of the line with this number, as its line.

@@ -58,8 +58,8 @@ use Rattle.lvm_run.specs.CommandSpec.{Context, Finds, Inputs, no_inputs}
 use Rattle.lvm_run.specs.Meets.{ChangesDisks, IsJudged, IsTaken, Meets, batches_if, is_done, line_begun}
 use Rattle.lvm_run.specs.Scan.{FindsWhole, IsOpenCause, IsOpened, OpensDisks}
 use Rattle.lvm_run.specs.declared.ending.Ending.{Ending}
-use Rattle.lvm_run.specs.declared.ending.Ending.TheVariants.{WordsRefused, NoMemory, SourceFailed, ScriptTooLong, OpenFailed}
-use Rattle.lvm_run.specs.declared.ending.Ending.TheVariants.{ScanReadFailed, ScanRefused, RepairFailed, RepairRefused}
+use Rattle.lvm_run.specs.declared.ending.Ending.TheVariants.{WordsRefused, NoMemory, SourceFailed, ScriptTooLong, ScriptRefused}
+use Rattle.lvm_run.specs.declared.ending.Ending.TheVariants.{OpenFailed, ScanReadFailed, ScanRefused, RepairFailed, RepairRefused}
 use Rattle.lvm_run.specs.declared.outcome.Outcome.{Outcome}
 use Rattle.lvm_run.specs.declared.outcome.Outcome.TheVariants.{Ended, Answered}
 use Rattle.lvm_run.proofs.ChangedDisks.{looks, none_begun, none_in_turn, unpassed, untrue, unwritten}
@@ -84,6 +84,7 @@ module _ (names : List Word) (command : Command) (id : Option (List ℕ)) (time 
   meets_unopened new WordsRefused again cause opens = absurd cause
   meets_unopened new SourceFailed again cause opens = absurd cause
   meets_unopened new ScriptTooLong again cause opens = absurd cause
+  meets_unopened new (ScriptRefused line fault place) again cause opens = absurd cause
   meets_unopened new NoMemory again cause opens = record {
     given = no_inputs;
     cause = tt;

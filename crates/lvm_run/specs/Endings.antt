@@ -1,15 +1,17 @@
 -- What ends a run before its lines, and the single line that it prints then.
-use Rattle.std.specs.Prelude.{ℕ, true, false, List, [], ◌∷◌, ◌++◌, codes, slice_index_or, flat_map}
+use Rattle.std.specs.Prelude.{ℕ, true, false, List, [], ◌∷◌, ◌++◌, codes, decimal, slice_index_or, flat_map}
 use Rattle.sector_base.specs.Shown.{Value, number, shown_text, text}
 use Rattle.lvm_id.specs.LvmId.{hyphen_form}
+use Rattle.command_table.specs.declared.line_fault.LineFault.{LineFault}
 use Rattle.command_table.specs.Options.{Word}
+use Rattle.command_table.specs.Words.{line_fault_word}
 use Rattle.scan_rules.specs.Copies.{kind_of}
 use Rattle.scan_rules.specs.declared.copy_refusal.CopyRefusal.{CopyRefusal}
 use Rattle.scan_rules.specs.declared.decision.ScanRefusal.{ScanRefusal as RefusalOfScan}
 use Rattle.scan_rules.specs.declared.decision.ScanRefusal.TheVariants as scan
 use Rattle.lvm_run.specs.declared.ending.Ending.{Ending}
-use Rattle.lvm_run.specs.declared.ending.Ending.TheVariants.{WordsRefused, NoMemory, SourceFailed, ScriptTooLong, OpenFailed}
-use Rattle.lvm_run.specs.declared.ending.Ending.TheVariants.{ScanReadFailed, ScanRefused, RepairFailed, RepairRefused}
+use Rattle.lvm_run.specs.declared.ending.Ending.TheVariants.{WordsRefused, NoMemory, SourceFailed, ScriptTooLong, ScriptRefused}
+use Rattle.lvm_run.specs.declared.ending.Ending.TheVariants.{OpenFailed, ScanReadFailed, ScanRefused, RepairFailed, RepairRefused}
 use Rattle.lvm_run.specs.declared.disks_refusal.DisksRefusal.{DisksRefusal}
 use Rattle.lvm_run.specs.declared.disks_refusal.DisksRefusal.TheVariants.{Disks, Partial}
 
@@ -44,12 +46,18 @@ shown_scan names (Partial ids) = (codes "Partial", flat_map id_values ids)
 abbrev pub repair_values : List Word → ℕ → ℕ → ℕ → List Value
 repair_values names pv need room = named names pv ∷ number need ∷ number room ∷ []
 
+-- of a refused line of a script: the fault's word, and its place in the line
+abbrev pub script_values : LineFault → ℕ → List Value
+script_values fault place = text (line_fault_word fault) ∷ number place ∷ []
+
 -- what the run prints
 abbrev pub ending_text : List Word → Ending → List ℕ
 ending_text names WordsRefused = codes "words refused\n"
 ending_text names NoMemory = []
 ending_text names SourceFailed = codes "source failed\n"
 ending_text names ScriptTooLong = codes "script too long\n"
+ending_text names (ScriptRefused line fault place) =
+    codes "script line " ++ (decimal line ++ shown_text (codes ":", script_values fault place)) ++ codes "\n"
 ending_text names (OpenFailed pv) = codes "open failed " ++ slice_index_or names pv [] ++ codes "\n"
 ending_text names (ScanReadFailed pv) = codes "scan refused ReadFailed " ++ slice_index_or names pv [] ++ codes "\n"
 ending_text names (ScanRefused refusal whole) = codes "scan refused " ++ shown_text (shown_scan names refusal) ++ codes "\n"
@@ -63,6 +71,7 @@ status_of_ending WordsRefused = 3
 status_of_ending NoMemory = 2
 status_of_ending SourceFailed = 4
 status_of_ending ScriptTooLong = 5
+status_of_ending (ScriptRefused line fault place) = 5
 status_of_ending (OpenFailed pv) = 6
 status_of_ending (ScanReadFailed pv) = 6
 status_of_ending (ScanRefused refusal true) = 5

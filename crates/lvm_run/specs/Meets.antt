@@ -17,8 +17,8 @@ use Rattle.disk_model.specs.Steps.{Image, Reading, Flushing, Record, now_after}
 use Rattle.disk_batch.specs.InTurn.{Put, WritesInTurn}
 use Rattle.vg_found.specs.declared.found.Found.{Found}
 use Rattle.vg_scan.specs.Scans.{FailedOn, HoldsNow}
-use Rattle.lvm_run.specs.declared.ending.Ending.TheVariants.{WordsRefused, NoMemory, SourceFailed, ScriptTooLong, OpenFailed}
-use Rattle.lvm_run.specs.declared.ending.Ending.TheVariants.{ScanReadFailed, ScanRefused, RepairFailed, RepairRefused}
+use Rattle.lvm_run.specs.declared.ending.Ending.TheVariants.{WordsRefused, NoMemory, SourceFailed, ScriptTooLong, ScriptRefused}
+use Rattle.lvm_run.specs.declared.ending.Ending.TheVariants.{OpenFailed, ScanReadFailed, ScanRefused, RepairFailed, RepairRefused}
 use Rattle.lvm_run.specs.declared.outcome.Outcome.{Outcome}
 use Rattle.lvm_run.specs.declared.outcome.Outcome.TheVariants.{Ended, Answered, Reported}
 use Rattle.lvm_run.specs.CommandSpec.{CommandSpec, Context, Inputs, LooksAt, AtNothing, AtDisks, Scanned, Finds, Refuses, Lacks, no_inputs}
@@ -62,6 +62,7 @@ IsCause spec context given old new (Ended WordsRefused) = ⊥
 IsCause spec context given old new (Ended NoMemory) = FailedForWant spec.looks old new
 IsCause spec context given old new (Ended SourceFailed) = ⊥
 IsCause spec context given old new (Ended ScriptTooLong) = ⊥
+IsCause spec context given old new (Ended (ScriptRefused line fault place)) = ⊥
 IsCause spec context given old new (Ended (OpenFailed pv)) = IsTrue spec.flushes × IsLastFault old new pv (Flushing pv)
 IsCause spec context given old new (Ended (ScanReadFailed pv)) = IsJudgedFirst spec context × IsReadFault spec context spec.looks old new pv
 IsCause spec context given old new (Ended (ScanRefused refusal whole)) =

@@ -1,12 +1,13 @@
 //! What ends a run before its lines.
-ghost use Rattle.std.specs.Prelude.{◌≡◌, [], ◌++◌, codes, is_ok};
+ghost use Rattle.std.specs.Prelude.{◌≡◌, [], ◌++◌, codes, decimal, is_ok};
 ghost use Rattle.sector_base.specs.Shown.{shown_text};
 ghost use Rattle.byte_streams.specs.Streams.{WritesText};
 ghost use Rattle.lvm_run.specs.Endings.{ending_text, status_of_ending};
-ghost use Rattle.lvm_run.specs.Endings.{repair_values, shown_scan};
+ghost use Rattle.lvm_run.specs.Endings.{repair_values, script_values, shown_scan};
 
 use crate::disks_refusal::DisksRefusal;
-use byte_streams::{Failed, Sink, write_bytes};
+use byte_streams::{Failed, Sink, write_bytes, write_number};
+use command_table::LineFault;
 use line_answers::{DiskNames, Shown, write_kind};
 
 /// What ends a run before its lines. It prints one line, or none.
@@ -20,6 +21,12 @@ pub enum Ending {
     SourceFailed,
     /// The source gives more than 16,777,216 bytes.
     ScriptTooLong,
+    /// The line with this number of a script is refused; the fault is at this place in it.
+    ScriptRefused {
+        line: u64,
+        fault: LineFault,
+        place: u64,
+    },
     /// The opening flush of the disk with this number failed.
     OpenFailed(u32),
     /// A read of the disk with this number failed.
@@ -43,7 +50,9 @@ impl Ending {
             Ending::NoMemory => 2,
             Ending::SourceFailed => 4,
             Ending::OpenFailed(_) | Ending::ScanReadFailed(_) | Ending::RepairFailed(_) => 6,
-            Ending::ScriptTooLong | Ending::RepairRefused { .. } => 5,
+            Ending::ScriptTooLong
+            | Ending::ScriptRefused { .. }
+            | Ending::RepairRefused { .. } => 5,
             Ending::ScanRefused { whole, .. } => { if *whole { 5 } else { 6 } }
         }
     }
@@ -58,6 +67,9 @@ impl Ending {
             Ending::NoMemory => write_bytes(out, b""),
             Ending::SourceFailed => write_bytes(out, b"source failed\n"),
             Ending::ScriptTooLong => write_bytes(out, b"script too long\n"),
+            Ending::ScriptRefused { line, fault, place } => {
+                write_script_refusal(out, *line, *fault, *place)
+            }
             Ending::OpenFailed(pv) => write_line(out, b"open failed ", names.bytes_of(*pv)),
             Ending::ScanReadFailed(pv) => {
                 write_line(out, b"scan refused ReadFailed ", names.bytes_of(*pv))
@@ -79,6 +91,39 @@ fn write_line<W: Sink>(out: &mut W, first: &[u8], second: &[u8]) -> Result<(), F
     write_bytes(out, first)?;
     write_bytes(out, second)?;
     write_bytes(out, b"\n")
+}
+
+// Writes the line of a refused line of a script.
+fn write_script_refusal<W: Sink>(
+    out: &mut W,
+    line: u64,
+    fault: LineFault,
+    place: u64,
+) -> Result<(), Failed>
+    ensures { WritesText (W.written out.old) (W.fault_count out.old) (codes "script line " ++ (decimal line ++ shown_text (codes ":", script_values fault place)) ++ codes "\n")
+        (is_ok result) (W.written out.new) (W.fault_count out.new) }
+{
+    write_bytes(out, b"script line ")?;
+    write_fault(out, line, fault, place)?;
+    write_bytes(out, b"\n")
+}
+
+// Writes the line's number, its fault and the place.
+fn write_fault<W: Sink>(
+    out: &mut W,
+    line: u64,
+    fault: LineFault,
+    place: u64,
+) -> Result<(), Failed>
+    ensures { WritesText (W.written out.old) (W.fault_count out.old) (decimal line ++ shown_text (codes ":", script_values fault place))
+        (is_ok result) (W.written out.new) (W.fault_count out.new) }
+{
+    write_number(out, line)?;
+    write_kind(
+        out,
+        ":",
+        &[Shown::Text(fault.word().as_bytes()), Shown::Number(place)],
+    )
 }
 
 // Writes the line of a refusal of the scan.

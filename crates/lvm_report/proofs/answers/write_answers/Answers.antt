@@ -6,8 +6,8 @@ use Rattle.line_answers.specs.declared.answer.Answer.{Answer}
 use Rattle.lvm_report.specs.AnswerLines.{answer_line}
 use Rattle.lvm_report.proofs.answers.write_answers.Goals as goal
 
-pub returns-in_err-write_if_answered : goal.returns-in_err-write_if_answered
-returns-in_err-write_if_answered g c =
+pub returns-in_err-write_line : goal.returns-in_err-write_line
+returns-in_err-write_line g c =
     let p = err_from_is_err_and c.from_residual.result c.from_residual.ensures.1 in
     let i : ℕ = c.loop-number.number-index in
     let line : ℕ × Option Answer = c.loop-number-item.result in
@@ -16,4 +16,4 @@ returns-in_err-write_if_answered g c =
     let is =
     subst (λ (lines : List (ℕ × Option Answer)). line ≡ get_or lines i line) c.deref-number-items.ensures.value c.loop-number-item.is in
     rw p.1 (stopped_at (answer_line c.args.names.now) _ _ _ _ _ _ [] c.args.answers.now.items i line within is c.loop-number.invariant
-    c.in_err-write_if_answered.ensures)
+    c.in_err-write_line.ensures)
