@@ -15,4 +15,4 @@ pub use contents::{AreaFound, AreasFound, PvFound};
 pub use find::find_pv;
 pub use laws::one_finding;
 pub use read_refusal::ReadRefusal;
-pub use reading::read_sectors;
+pub use reading::{read_into, read_sectors};

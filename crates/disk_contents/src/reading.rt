@@ -76,6 +76,24 @@ pub fn read_sectors<S: Shelf>(
         (ReadsUntil span.pv (S.state shelf.old) (span ∷ []) (S.state shelf.new)) }
 {
     let buffer = Sectors::zeroed(alloc, span.count)?;
+    read_into(shelf, span, buffer)
+}
+
+/// The same into a buffer of as many sectors.
+pub fn read_into<S: Shelf>(
+    shelf: &mut S,
+    span: Span,
+    buffer: Sectors,
+) -> Result<Sectors, ReadRefusal>
+    requires idle { (S.state shelf.old).in_flight ≡ [] }
+    requires disk { span.pv < length (S.state shelf.old).sizes }
+    requires within { span.first + span.count ≤ slice_index_or (S.state shelf.old).sizes span.pv 0 }
+    requires buffer { length buffer ≡ span.count }
+    ensures { MatchResult result
+        (λ sectors. ReadsWell (S.state shelf.old) (span ∷ []) (S.state shelf.new) × (length sectors ≡ span.count)
+        × HoldsOfDisk (S.state shelf.old).told span.pv (λ sector_at. (k : ℕ) → k < span.count → slice_index_or sectors k [] ≡ sector_at (span.first + k)))
+        (ReadsUntil span.pv (S.state shelf.old) (span ∷ []) (S.state shelf.new)) }
+{
     shelf.reserve(1, u64::from(span.count))?;
     Ok(read_span(shelf, span, buffer)?)
 }

@@ -145,8 +145,11 @@ fn read_text<S: Shelf>(
     ensures continues { Continues collected.old.copies collected.new.copies }
     ensures disks { collected.new.disks ≡ collected.old.disks }
 {
-    let sectors = read_text_sectors(alloc, shelf, area, locn)?;
-    take_text(alloc, area, locn, &sectors, collected)
+    let buffer = collected.take_buffer(alloc);
+    let sectors = read_text_sectors(alloc, shelf, area, locn, buffer)?;
+    let gives = take_text(alloc, area, locn, &sectors, collected);
+    collected.keep_buffer(sectors);
+    gives
 }
 
 // What these sectors of the entry's spans give. A text that they are known to store is neither gathered, summed nor parsed again.

@@ -16,6 +16,7 @@ use sector_base::Sectors;
 use std::alloc::{AllocError, Global};
 use std::collections::BTreeMap;
 use std::marker::Model;
+use std::mem;
 
 // What was read of the disks so far. Contracts see it as its readings.
 #[derive(Debug, Drop)]
@@ -23,6 +24,8 @@ pub(crate) struct Collected {
     readings: Readings,
     // The copy that was read at an entry of each size and sum; of several the last.
     numbers: BTreeMap<(u64, u32), usize>,
+    // What the last text was read into, for the next one.
+    buffer: Sectors,
 }
 
 impl Model for Collected {
@@ -45,7 +48,23 @@ impl Collected {
         Collected {
             readings: Readings::new(alloc),
             numbers: BTreeMap::new(alloc),
+            buffer: Sectors::from_vec(Vec::new(alloc)),
         }
+    }
+
+    // Gives the buffer of the last text away.
+    pub(crate) fn take_buffer(&mut self, alloc: Global) -> Sectors
+        ensures { self.new ≡ self.old }
+    {
+        let none = Sectors::from_vec(Vec::new(alloc));
+        mem::replace(&mut self.buffer, none)
+    }
+
+    // Keeps it for the next one.
+    pub(crate) fn keep_buffer(&mut self, buffer: Sectors)
+        ensures { self.new ≡ self.old }
+    {
+        self.buffer = buffer;
     }
 
     // The number of a copy that was read at an entry of this size and sum, and whose text these sectors of the entry's spans store.

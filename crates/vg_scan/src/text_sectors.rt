@@ -7,7 +7,7 @@ ghost use Rattle.mda_ring.specs.Ring.{touched_count};
 ghost use Rattle.disk_contents.specs.Parts.{ReadsUntil, ReadsWell};
 ghost use Rattle.vg_scan.specs.Texts.{AreTextSectors, text_spans};
 
-use disk_contents::{ReadRefusal, read_sectors};
+use disk_contents::{ReadRefusal, read_into, read_sectors};
 use disk_model::Shelf;
 use mda_header::Locn;
 use mda_ring::{Area, spans};
@@ -17,12 +17,14 @@ use std::alloc::{AllocError, Global};
 // The most bytes of a text that is read.
 const MOST_BYTES: u64 = 1_099_511_627_776;
 
-// Reads the sectors that the entry's text touches, its spans in their order. A text of more than 2^40 bytes is want of memory.
+// Reads the sectors that the entry's text touches, its spans in their order, into this buffer where that is large enough. A text
+// of more than 2^40 bytes is want of memory.
 pub(crate) fn read_text_sectors<S: Shelf>(
     alloc: Global,
     shelf: &mut S,
     area: &Area,
     locn: Locn,
+    buffer: Sectors,
 ) -> Result<Sectors, ReadRefusal>
     requires idle { (S.state shelf.old).in_flight ≡ [] }
     requires disk { area.now.pv < length (S.state shelf.old).sizes }
@@ -39,7 +41,7 @@ pub(crate) fn read_text_sectors<S: Shelf>(
     if locn.size > MOST_BYTES {
         return Err(ReadRefusal::NoMemory);
     }
-    read_ring(alloc, shelf, area, locn)
+    read_ring(alloc, shelf, area, locn, buffer)
 }
 
 // Reads the sectors that the text of an entry touches that isn't huge.
@@ -48,6 +50,7 @@ fn read_ring<S: Shelf>(
     shelf: &mut S,
     area: &Area,
     locn: Locn,
+    buffer: Sectors,
 ) -> Result<Sectors, ReadRefusal>
     requires idle { (S.state shelf.old).in_flight ≡ [] }
     requires disk { area.now.pv < length (S.state shelf.old).sizes }
@@ -63,7 +66,8 @@ fn read_ring<S: Shelf>(
     ensures count { IfOk result (λ sectors. length sectors ≡ touched_count area.now.size locn.offset locn.size) }
 {
     let (first, rest) = spans(area, locn.offset, locn.size);
-    let sectors = read_sectors(alloc, shelf, first)?;
+    let buffer = sized(alloc, buffer, first.count)?;
+    let sectors = read_into(shelf, first, buffer)?;
     match rest {
         None => Ok(sectors),
         Some(rest) => {
@@ -71,6 +75,19 @@ fn read_ring<S: Shelf>(
             Ok(joined(sectors, more)?)
         }
     }
+}
+
+// So many sectors: the first of the buffer, where it has as many.
+fn sized(alloc: Global, buffer: Sectors, count: u32) -> Result<Sectors, AllocError>
+    ensures { IfOk result (λ sized. length sized ≡ count) }
+{
+    let mut list = buffer.into_vec();
+    if list.len() < count as usize {
+        drop(list);
+        return Sectors::zeroed(alloc, count);
+    }
+    list.truncate(count as usize);
+    Ok(Sectors::from_vec(list))
 }
 
 // The sectors of both.

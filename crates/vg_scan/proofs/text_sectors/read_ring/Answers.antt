@@ -14,7 +14,7 @@ use Rattle.vg_scan.proofs.text_sectors.read_ring.Goals as goal
 pub returns-in_err-sectors-clause-read : goal.returns-in_err-sectors-clause-read
 returns-in_err-sectors-clause-read g c =
     let before = g.S.Shelf.state c.args.shelf.now in
-    let after = g.S.Shelf.state c.read_sectors.new.shelf in
+    let after = g.S.Shelf.state c.read_into.new.shelf in
     let spans = c.spans-rest.ensures in
     let p = err_from_is_err_and c.from_residual.result c.from_residual.ensures.1 in
     rw (p.1, p.2)
@@ -24,8 +24,8 @@ returns-in_err-sectors-clause-read g c =
 pub returns-in_err-more-in-Some-clause-read : goal.returns-in_err-more-in-Some-clause-read
 returns-in_err-more-in-Some-clause-read g c =
     let before = g.S.Shelf.state c.args.shelf.now in
-    let there = g.S.Shelf.state c.read_sectors.new.shelf in
-    let after = g.S.Shelf.state c.read_sectors-in-Some.new.shelf in
+    let there = g.S.Shelf.state c.read_into.new.shelf in
+    let after = g.S.Shelf.state c.read_sectors.new.shelf in
     let spans = c.spans-rest.ensures in
     let area = c.args.area.now in
     let rest = c.in-Some.rest in
@@ -37,8 +37,8 @@ returns-in_err-more-in-Some-clause-read g c =
 pub returns-in_err-joined-in-Some-clause-read : goal.returns-in_err-joined-in-Some-clause-read
 returns-in_err-joined-in-Some-clause-read g c =
     let before = g.S.Shelf.state c.args.shelf.now in
-    let there = g.S.Shelf.state c.read_sectors.new.shelf in
-    let after = g.S.Shelf.state c.read_sectors-in-Some.new.shelf in
+    let there = g.S.Shelf.state c.read_into.new.shelf in
+    let after = g.S.Shelf.state c.read_sectors.new.shelf in
     let area = c.args.area.now in
     let texts = text_spans area c.args.locn in
     let p = err_from_is_err_and c.from_residual-in_err-joined-in-Some.result c.from_residual-in_err-joined-in-Some.ensures.1 in
@@ -50,8 +50,8 @@ returns-in_err-joined-in-Some-clause-read g c =
 pub returns-in_ok-joined-in-Some-clause-read : goal.returns-in_ok-joined-in-Some-clause-read
 returns-in_ok-joined-in-Some-clause-read g c =
     let before = g.S.Shelf.state c.args.shelf.now in
-    let there = g.S.Shelf.state c.read_sectors.new.shelf in
-    let after = g.S.Shelf.state c.read_sectors-in-Some.new.shelf in
+    let there = g.S.Shelf.state c.read_into.new.shelf in
+    let after = g.S.Shelf.state c.read_sectors.new.shelf in
     let spans = c.spans-rest.ensures in
     let area = c.args.area.now in
     let locn = c.args.locn in

@@ -5,7 +5,7 @@ use Rattle.disk_contents.specs.declared.read_refusal.ReadRefusal.TheVariants.{Re
 use Rattle.disk_contents.specs.Parts.{ReadsWell}
 use Rattle.disk_model.proofs.ReadingAlone.{holds_before}
 use Rattle.disk_contents.proofs.ReadingParts.{read_holds, until_after, until_read, well_both, well_read, well_reserved}
-use Rattle.disk_contents.proofs.reading.read_sectors.Goals as goal
+use Rattle.disk_contents.proofs.reading.read_into.Goals as goal
 
 pub returns : goal.returns
 returns g c =
