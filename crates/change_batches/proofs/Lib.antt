@@ -1,5 +1,5 @@
 mod Adding
-mod AreaBatch
+pub mod AreaBatch
 pub mod BaseShows
 mod ChangeBatches
 pub mod ChecksumBound

@@ -1,1 +1,2 @@
+pub mod NewAreas
 pub mod PassedRows
