@@ -32,17 +32,18 @@ use Rattle.vg_change.proofs.Sound.{can_make, lies_on}
 
 -- every image on the way keeps what the base holds
 pub areas_kept : (state : GroupState) (line : Line) (now : ℕ) (given : List Part) (sizes : List ℕ) → IsState state
-    → CanMake state.areas (change_of state line now given) now → LiesOn sizes state.areas (change_of state line now given)
-    → IsReadAgain state.areas (change_of state line now given) now
+    → IsPlanned line.id line.command → refusal_of state line now given ≡ None → CanMake state.areas (change_of state line now given) now
+    → LiesOn sizes state.areas (change_of state line now given) → IsReadAgain state.areas (change_of state line now given) now
     → (base image : Image) → ShowsEntries state.areas base → HasFirstBatches (batches_of state line now given) base image
     → AreasAreKept state line now given base image
-areas_kept state line now given sizes is can lies again base image names h =
+areas_kept state line now given sizes is planned passes can lies again base image names h =
     let change : Change = change_of state line now given in
     let kept = change_kept state.areas (areas_take state is) (areas_far state is) change can.labels lies.differ base names now
-    (λ none. new_near change.labels (new_labels_are state line now given none)) can.commit again.commit image h in
+    (λ none. new_near change.labels (new_labels_are state line now given is planned passes none)) can.commit again.commit image h in
     record { areas = kept.0; labels = kept.1 }
 
 module _ (state : GroupState) (line : Line) (now : ℕ) (given : List Part) (sizes : List ℕ) (is : IsState state)
+    (planned : IsPlanned line.id line.command) (passes : refusal_of state line now given ≡ None)
     (can : CanMake state.areas (change_of state line now given) now) (lies : LiesOn sizes state.areas (change_of state line now given))
     (again : IsReadAgain state.areas (change_of state line now given) now)
     (base : Image) (names : ShowsEntries state.areas base) where
@@ -55,35 +56,37 @@ module _ (state : GroupState) (line : Line) (now : ℕ) (given : List Part) (siz
       ++ commit_batches g now (areas_of change state.areas)
 
   holds : (g : Option Group) → change.group ≡ g → HoldsAfter g now change state.areas (with_batches (batches_for g) base)
-  holds None is_none = new_empty change.labels (new_labels_are state line now given is_none) base can.labels
+  holds None is_none =
+      new_empty sizes change.labels (new_labels_are state line now given is planned passes is_none) can.labels (lies.new_areas is_none)
+      lies.differ base
   holds (Some group) is_some =
       areas_shown state.areas (areas_take state is) (areas_far state is) change can.labels lies.differ base names now
-      (λ none. new_near change.labels (new_labels_are state line now given none)) can.commit again.commit group is_some
+      (λ none. new_near change.labels (new_labels_are state line now given is planned passes none)) can.commit again.commit group is_some
 
-  label_there : IsPlanned line.id line.command → (k : ℕ) (d : NewLabel) → k < length change.labels
+  label_there : (k : ℕ) (d : NewLabel) → k < length change.labels
       → HasLabel (with_batches (batches_of state line now given) base) (get_or change.labels k d)
-  label_there planned k d within =
+  label_there k d within =
       let label : NewLabel = get_or change.labels k d in
       let there =
       labels_stand state.areas (areas_take state is) (areas_far state is) change can.labels lies.differ base names now
-      (λ none. new_near change.labels (new_labels_are state line now given none)) can.commit again.commit k d within in
+      (λ none. new_near change.labels (new_labels_are state line now given is planned passes none)) can.commit again.commit k d within in
       record {
         label = subst (λ (l : List ℕ). IsLabel l label.sector) (sym there) (label_read label (can.labels k d within));
         header =
             subst (λ (l : List ℕ). IsPvHeader l label.header []) (sym there)
             (header_found label (can.labels k d within) (again.labels k d within)
-            (headers_found state line now given is planned k d within));
+            (headers_found state line now given is planned passes k d within));
       }
 
 -- and once all batches are written, what the line makes is found
 pub found_after : (state : GroupState) (line : Line) (now : ℕ) (given : List Part) (sizes : List ℕ) → IsState state
-    → IsPlanned line.id line.command → CanMake state.areas (change_of state line now given) now
+    → IsPlanned line.id line.command → refusal_of state line now given ≡ None → CanMake state.areas (change_of state line now given) now
     → LiesOn sizes state.areas (change_of state line now given)
     → IsReadAgain state.areas (change_of state line now given) now → (base : Image) → ShowsEntries state.areas base
     → IsFoundAfter state line now given (with_batches (batches_of state line now given) base)
-found_after state line now given sizes is planned can lies again base names = record {
-  labels = label_there state line now given sizes is can lies again base names planned;
-  areas = holds state line now given sizes is can lies again base names (change_of state line now given).group refl;
+found_after state line now given sizes is planned passes can lies again base names = record {
+  labels = label_there state line now given sizes is planned passes can lies again base names;
+  areas = holds state line now given sizes is planned passes can lies again base names (change_of state line now given).group refl;
 }
 
 -- its batches, where this group is committed
@@ -104,14 +107,16 @@ keeps_images state line now given is planned takes none made same again fields =
     let read : IsReadAgain state.areas (change_of state line now given) now =
     subst (λ (c : Change). IsReadAgain state.areas c now) same again in
     record {
-      kept = λ base image names h. areas_kept state line now given (sizes_of state.disks) is can lies read base image names h;
+      kept = λ base image names h.
+          areas_kept state line now given (sizes_of state.disks) is planned none can lies read base image names h;
       unpublished = λ base image n group names made' less h.
           areas_unpublished state.areas (areas_take state is) (areas_far state is) (change_of state line now given) can.labels lies.differ
-          base names now (λ none'. new_near (change_of state line now given).labels (new_labels_are state line now given none'))
+          base names now
+          (λ none'. new_near (change_of state line now given).labels (new_labels_are state line now given is planned none none'))
           can.commit read.commit group made'
           image n (subst (λ (g : Option Group). n < length (batches_with state line now given g)) made' less)
           (subst (λ (g : Option Group). HasFirstBatches (take n (batches_with state line now given g)) base image) made' h);
-      found = λ base names. found_after state line now given (sizes_of state.disks) is planned can lies read base names;
+      found = λ base names. found_after state line now given (sizes_of state.disks) is planned none can lies read base names;
       clears =
           clears_images state.disks state.areas (state_scanned state is) (change_of state line now given).cleared
           (subst (λ (c : Change). All FitsFields (unused_labels c.cleared state.disks)) same fields);

@@ -1,6 +1,5 @@
 -- The label of a new physical volume can be written, and lies on its disk.
-use Rattle.std.proofs.Common.{◌≡◌, ◌≢◌, ◌≤◌, ◌<◌, ℕ, ◌==◌, Bool, true, false, cond, ltb, List, [], ◌∷◌, length, Option, Some, None, refl}
-use Rattle.std.proofs.Common.{subst, arith}
+use Rattle.std.proofs.Common.{◌≡◌, ◌≢◌, ◌≤◌, ◌<◌, ℕ, ◌*◌, ◌-◌, ◌/◌, ltb, List, [], ◌∷◌, length, Option, Some, None, refl, subst, arith}
 use Rattle.std.specs.Prelude.{All, AllPairs, slice_get, unwrap_or}
 use Rattle.std.specs.Option.{option_and_then, option_map_or}
 use Rattle.std.proofs.lemmas.Bool.{ltb-false}
@@ -19,8 +18,9 @@ use Rattle.group_plan.specs.State.{IsState}
 use Rattle.group_plan.specs.declared.state.GroupState.{GroupState}
 use Rattle.group_plan.specs.declared.state.NewLabel.{NewLabel}
 use Rattle.group_plan.proofs.Rows.{none_holds, test_fails}
-use Rattle.pv_plans.specs.Pvcreate.{disk_rows, few_row, fewest_sectors, label_in, label_sector, new_areas, new_label, pvcreate_change}
-use Rattle.pv_plans.specs.Pvcreate.{pvcreate_rows}
+use Rattle.pv_plans.proofs.NewAreas.{areas_have, areas_pair, enough_for_one, few_areas}
+use Rattle.pv_plans.specs.Pvcreate.{disk_rows, few_row, fewest_sectors, first_area, label_in, label_sector, last_area, new_areas, new_label}
+use Rattle.pv_plans.specs.Pvcreate.{pvcreate_change, pvcreate_rows}
 use Rattle.change_batches.proofs.HeldInDisks.{HasSize, has_size}
 use Rattle.change_batches.specs.Sound.{sizes_of, AreasLie, CanLabel, CanMake, IsOnDisk, LabelLies, LiesOn, header_sector}
 
@@ -53,7 +53,7 @@ module _ (id : List ℕ) (copies : ℕ) where
   label_has P number None has = All-nil P
   label_has P number (Some disk) has = All-cons P (new_label id copies number disk) [] (has disk refl) (All-nil P)
 
-  labels_have : (P : NewLabel → Type 0) (disks : List Disk) (o : Option ℕ)
+  pub labels_have : (P : NewLabel → Type 0) (disks : List Disk) (o : Option ℕ)
       → ((number : ℕ) (disk : Disk) → o ≡ Some number → slice_get disks number ≡ Some disk → P (new_label id copies number disk))
       → All P (labels_by disks o)
   labels_have P disks None has = All-nil P
@@ -73,39 +73,34 @@ sector_by pv sectors (Some found) stands = found_sector pv sectors found stands
 
 -- ---- its disk
 
-abbrev rows_by : GroupState → List ℕ → List ℕ → Option ℕ → List (Option OpRefusal)
-rows_by state id name None = Some (UnknownPv name) ∷ []
-rows_by state id name (Some number) = disk_rows state id name number (slice_get state.disks number)
+abbrev rows_by : GroupState → List ℕ → List ℕ → ℕ → Option ℕ → List (Option OpRefusal)
+rows_by state id name copies None = Some (UnknownPv name) ∷ []
+rows_by state id name copies (Some number) = disk_rows state id name copies number (slice_get state.disks number)
 
-has_enough : (state : GroupState) (id name : List ℕ) (number : ℕ) (disk : Disk) → first_refusal (pvcreate_rows state id name) ≡ None
-    → number_named state.names name ≡ Some number → slice_get state.disks number ≡ Some disk
-    → fewest_sectors ≤ disk.sectors
-has_enough state id name number disk none named there =
-    let rows : first_refusal (rows_by state id name (Some number)) ≡ None =
-    subst (λ (o : Option ℕ). first_refusal (rows_by state id name o) ≡ None) named none in
-    let few : few_row disk ≡ None =
-    subst (λ (o : Option Disk). option_and_then few_row o ≡ None) there (none_holds (rows_by state id name (Some number)) rows).1.0 in
-    ltb-false disk.sectors fewest_sectors (test_fails (ltb disk.sectors fewest_sectors) (TooSmall disk.sectors fewest_sectors) few)
+pub has_enough : (state : GroupState) (id name : List ℕ) (copies number : ℕ) (disk : Disk)
+    → first_refusal (pvcreate_rows state id name copies) ≡ None → number_named state.names name ≡ Some number
+    → slice_get state.disks number ≡ Some disk → fewest_sectors copies ≤ disk.sectors
+has_enough state id name copies number disk none named there =
+    let rows : first_refusal (rows_by state id name copies (Some number)) ≡ None =
+    subst (λ (o : Option ℕ). first_refusal (rows_by state id name copies o) ≡ None) named none in
+    let few : few_row copies disk ≡ None =
+    subst (λ (o : Option Disk). option_and_then (few_row copies) o ≡ None) there
+    (none_holds (rows_by state id name copies (Some number)) rows).1.0 in
+    ltb-false disk.sectors (fewest_sectors copies)
+    (test_fails (ltb disk.sectors (fewest_sectors copies)) (TooSmall disk.sectors (fewest_sectors copies)) few)
 
--- ---- its metadata area
+-- ---- its metadata areas
 
-few_by : (b : Bool) (area : Extent) → length (cond b [] (area ∷ [])) ≤ 1
-few_by true area = omega arith
-few_by false area = omega arith
-
-areas_by : (P : Extent → Type 0) (b : Bool) (area : Extent) → P area → All P (cond b [] (area ∷ []))
-areas_by P true area has = All-nil P
-areas_by P false area has = All-cons P area [] has (All-nil P)
-
-apart_by : (R : Extent → Extent → Type 0) (b : Bool) (area : Extent) → AllPairs R (cond b [] (area ∷ []))
-apart_by R true area = none_apart R
-apart_by R false area = one_apart R area
-
-areas_on_disk : (sizes : List ℕ) (pv sectors copies : ℕ) → HasSize sizes pv sectors → fewest_sectors ≤ sectors
-    → All (λ (area : Extent). IsOnDisk sizes pv (header_sector area)) (new_areas copies)
+areas_on_disk : (sizes : List ℕ) (pv sectors copies : ℕ) → HasSize sizes pv sectors → fewest_sectors copies ≤ sectors
+    → All (λ (area : Extent). IsOnDisk sizes pv (header_sector area)) (new_areas sectors copies)
 areas_on_disk sizes pv sectors copies has enough =
-    areas_by (λ (area : Extent). IsOnDisk sizes pv (header_sector area)) (copies == 0) (record { offset = 4096; size = 1044480 })
-    (record { disk = has.within; within = omega (arith, has.size, enough) })
+    let one : 2056 ≤ sectors = enough_for_one copies sectors enough in
+    areas_have (λ (area : Extent). IsOnDisk sizes pv (header_sector area)) copies sectors enough
+    (record { disk = has.within; within = omega (arith, has.size, one) })
+    (λ both. record { disk = has.within; within = omega (arith, has.size, both) })
+
+headers_differ : (sectors : ℕ) → 4096 ≤ sectors → header_sector first_area ≢ header_sector (last_area sectors)
+headers_differ sectors both same = let at : 8 ≡ (sectors * 512 - 1044480) / 512 = same in omega (arith, both, at)
 
 -- ---- the change
 
@@ -119,13 +114,14 @@ pvcreate_can_make state is id name copies now = record {
             let within : number < length state.disks = slice_get_within state.disks number disk there in omega (arith, within, is.few);
         sector_below = sector_by number disk.sectors disk.contents (is.disks number disk there).contents;
         fits =
-            let few : length (new_areas copies) ≤ 1 = few_by (copies == 0) (record { offset = 4096; size = 1044480 }) in omega (arith, few);
+            let few : length (new_areas disk.sectors copies) ≤ 2 = few_areas copies disk.sectors in omega (arith, few);
       });
   commit = λ group same. absurd (none-some group same);
 }
 
 pub pvcreate_lies_on : (state : GroupState) → IsState state → (id name : List ℕ) (copies : ℕ)
-    → first_refusal (pvcreate_rows state id name) ≡ None → LiesOn (sizes_of state.disks) state.areas (pvcreate_change state id name copies)
+    → first_refusal (pvcreate_rows state id name copies) ≡ None
+    → LiesOn (sizes_of state.disks) state.areas (pvcreate_change state id name copies)
 pvcreate_lies_on state is id name copies none = record {
   labels =
       labels_have id copies (LabelLies (sizes_of state.disks)) state.disks (number_named state.names name)
@@ -137,11 +133,12 @@ pvcreate_lies_on state is id name copies none = record {
   differ = labels_apart id copies (λ (a b : NewLabel). a.disk ≢ b.disk) state.disks (number_named state.names name);
   new_areas = λ no_group.
       labels_have id copies (AreasLie (sizes_of state.disks)) state.disks (number_named state.names name)
-      (λ number disk named there. record {
-        lie =
-            areas_on_disk (sizes_of state.disks) number disk.sectors copies (has_size state.disks number disk there)
-            (has_enough state id name number disk none named there);
-        differ = apart_by (λ (a b : Extent). header_sector a ≢ header_sector b) (copies == 0) (record { offset = 4096; size = 1044480 });
+      (λ number disk named there.
+      let enough : fewest_sectors copies ≤ disk.sectors = has_enough state id name copies number disk none named there in
+      record {
+        lie = areas_on_disk (sizes_of state.disks) number disk.sectors copies (has_size state.disks number disk there) enough;
+        differ =
+            areas_pair (λ (a b : Extent). header_sector a ≢ header_sector b) copies disk.sectors enough (headers_differ disk.sectors);
       });
   commit = λ group same. absurd (none-some group same);
 }
