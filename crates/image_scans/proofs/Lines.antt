@@ -53,7 +53,7 @@ pub record MakesPv (state : GroupState) (change : Change) : Type 0 where
   pub copies : ℕ
   pub labels_is : change.labels ≡ new_label id copies number disk ∷ []
   pub unlisted : is_listed state number ≡ false
-  pub enough : fewest_sectors ≤ disk.sectors
+  pub enough : fewest_sectors copies ≤ disk.sectors
   pub not_in_group : group_has id state.group ≡ false
   pub on_no_disk : stands_on_disk id state.disks ≡ false
 
@@ -64,16 +64,16 @@ pub data LineMakes (found : Found) (state : GroupState) (change : Change) : Type
 
 -- ---- pvcreate
 
-abbrev rows_by : GroupState → List ℕ → List ℕ → Option ℕ → List (Option OpRefusal)
-rows_by state id name None = Some (UnknownPv name) ∷ []
-rows_by state id name (Some number) = disk_rows state id name number (slice_get state.disks number)
+abbrev rows_by : GroupState → List ℕ → List ℕ → ℕ → Option ℕ → List (Option OpRefusal)
+rows_by state id name copies None = Some (UnknownPv name) ∷ []
+rows_by state id name copies (Some number) = disk_rows state id name copies number (slice_get state.disks number)
 
 on_disk : (found : Found) (state : GroupState) (id name : List ℕ) (copies number : ℕ) (o : Option Disk) → slice_get state.disks number ≡ o
-    → first_refusal (disk_rows state id name number o) ≡ None → (change : Change) → change.group ≡ None
+    → first_refusal (disk_rows state id name copies number o) ≡ None → (change : Change) → change.group ≡ None
     → change.labels ≡ option_map_or (λ disk. new_label id copies number disk ∷ []) o [] → LineMakes found state change
 on_disk found state id name copies number None there none change group labels = makes_nothing group labels
 on_disk found state id name copies number (Some disk) there none change group labels =
-    let rows = disk_passes state id name number disk none in
+    let rows = disk_passes state id name copies number disk none in
     let ids = both_false (group_has id state.group) (stands_on_disk id state.disks) rows.own_id in
     makes_pv (record {
       none = group;
@@ -84,13 +84,13 @@ on_disk found state id name copies number (Some disk) there none change group la
       copies = copies;
       labels_is = labels;
       unlisted = rows.unlisted;
-      enough = ltb-false disk.sectors fewest_sectors rows.enough;
+      enough = ltb-false disk.sectors (fewest_sectors copies) rows.enough;
       not_in_group = ids.0;
       on_no_disk = ids.1;
     })
 
 by_name : (found : Found) (state : GroupState) (id name : List ℕ) (copies : ℕ) (o : Option ℕ)
-    → first_refusal (rows_by state id name o) ≡ None → (change : Change) → change.group ≡ None
+    → first_refusal (rows_by state id name copies o) ≡ None → (change : Change) → change.group ≡ None
     → change.labels ≡ option_map_or (λ number. option_map_or (λ disk. new_label id copies number disk ∷ []) (slice_get state.disks number)
     []) o [] → LineMakes found state change
 by_name found state id name copies None none change group labels = absurd cc

@@ -41,7 +41,7 @@ use Rattle.vg_change.specs.LineBatches.{batches_of}
 use Rattle.vg_change.proofs.LineLabels.{new_labels_are, new_near}
 use Rattle.image_scans.specs.Laws.{CanCarryOut, is_labelled}
 use Rattle.image_scans.specs.Versions.{FindsVersion, version_in}
-use Rattle.image_scans.proofs.CommitLine.{headers, settled}
+use Rattle.image_scans.proofs.CommitLine.{headers, is_state, settled}
 use Rattle.image_scans.proofs.AreaReadings.{IsNone, IsSettled, pv_weaker}
 use Rattle.image_scans.proofs.Lines.{MakesPv}
 use Rattle.image_scans.proofs.OneDisk.{AllButOne, IsNewAt, all_but_one}
@@ -114,7 +114,9 @@ module _ (base : Image) (sizes : List â„•) (found : Found) (names : List (List â
       (All-append (KeepsSector pv sector) (batch_if (flat_map area_puts change.labels) ++ batch_if (map label_put change.labels)) []
       (All-append (KeepsSector pv sector) (batch_if (flat_map area_puts change.labels)) (batch_if (map label_put change.labels))
       (all_if (KeepsSector pv sector) (flat_map area_puts change.labels)
-      (new_near change.labels (new_labels_are state line now given m.none) pv sector (inl (apart_from pv other))))
+      (new_near change.labels
+      (new_labels_are state line now given (is_state base sizes found names backup line now given p) p.planned p.passes m.none) pv sector
+      (inl (apart_from pv other))))
       (all_if (KeepsSector pv sector) (map label_put change.labels) (labels_keep_other change.labels pv sector (apart_from pv other))))
       (All-nil (KeepsSector pv sector)))
       front

@@ -1,21 +1,23 @@
 -- Once a new physical volume stands on its disk, the disk reads as one with empty areas.
-use Rattle.std.proofs.Common.{◌≡◌, ◌≢◌, ◌≤◌, ◌<◌, ℕ, ◌+◌, ◌*◌, ◌/◌, ◌==◌, Bool, true, false, ◌||◌, cond, eqb, ltb, min, max, List, [], ◌∷◌}
-use Rattle.std.proofs.Common.{◌++◌, get_or, map, flat_map, Option, Some, None, Ok, inr, refl, sym, ap, subst, ◌∙◌, arith}
+use Rattle.std.proofs.Common.{◌≡◌, ◌≢◌, ◌≤◌, ◌<◌, ℕ, ◌+◌, ◌-◌, ◌*◌, ◌/◌, ◌%◌, ◌==◌, Bool, true, false, not, ◌&&◌, ◌||◌, cond, nat_lt, min}
+use Rattle.std.proofs.Common.{max, List, [], ◌∷◌, ◌++◌, get_or, map, flat_map, find, Option, Some, None, Ok, inr, refl, sym, ap, subst, ◌∙◌}
+use Rattle.std.proofs.Common.{arith}
 use Rattle.std.specs.Prelude.{All, option_map, unwrap_or}
 use Rattle.std.specs.FinSet as set
-use Rattle.std.specs.List.{AllByRecursion as Each, list_any}
+use Rattle.std.specs.List.{AllByRecursion as Each, list_any, reduce}
 use Rattle.std.specs.Option.{option_and_then}
-use Rattle.std.proofs.lemmas.Bool.{true≢false}
+use Rattle.std.proofs.lemmas.Bool.{or_left, true≢false}
 use Rattle.std.proofs.lemmas.Bool.Decides.{nat_tests}
 use Rattle.std.proofs.lemmas.List.Elements.{All-append, All-cons, All-from_recursion, All-head, All-nil, recursion_from_All}
 use Rattle.std.specs.Str.{bytes_eq}
+use Rattle.list_laws.proofs.Bools.{eq_to, lt_false, lt_true}
 use Rattle.lvm_script.specs.declared.line.Line.{Line}
 use Rattle.disk_model.specs.Steps.{Image}
 use Rattle.pv_label.specs.Label.{IsFirstLabel, IsLabel}
 use Rattle.pv_label.specs.LabelSectors.{first_four}
 use Rattle.pv_header.specs.declared.extent_list.Extent.{Extent}
 use Rattle.pv_header.specs.declared.header.PvHeader.{PvHeader}
-use Rattle.pv_header.specs.Areas.{CanLie, end_of, first_overlap, is_outside, next_start, shares_byte}
+use Rattle.pv_header.specs.Areas.{CanLie, end_of, first_overlap, is_misshapen, is_outside, next_start, shares_byte}
 use Rattle.mda_header.specs.declared.entry.HeaderEntry.TheVariants.{Nothing}
 use Rattle.mda_header.specs.Header.{IsHeader}
 use Rattle.meta_model.specs.declared.group.Group.{Group}
@@ -38,7 +40,8 @@ use Rattle.group_plan.specs.declared.state.Change.{Change}
 use Rattle.group_plan.specs.declared.state.GroupState.{GroupState}
 use Rattle.group_plan.specs.declared.state.NewLabel.{NewLabel}
 use Rattle.group_plan.specs.declared.backup.Backup.{Backup}
-use Rattle.pv_plans.specs.Pvcreate.{group_has, label_in, new_label}
+use Rattle.pv_plans.proofs.NewAreas.{enough_for_one}
+use Rattle.pv_plans.specs.Pvcreate.{fewest_sectors, first_area, group_has, label_in, last_area, new_areas, new_label}
 use Rattle.group_ops.specs.Laws.{state_in}
 use Rattle.group_ops.specs.Planning.{change_of}
 use Rattle.change_batches.specs.Batches.{area_puts, areas_of, batch_if, commit_batches, empty_area, label_put, new_area_puts}
@@ -49,7 +52,7 @@ use Rattle.vg_change.proofs.LineLabels.{new_labels_are, new_near}
 use Rattle.image_scans.specs.Laws.{CanCarryOut, none_out}
 use Rattle.image_scans.specs.Versions.{FindsVersion, version_in}
 use Rattle.image_scans.proofs.Again.{same_ids}
-use Rattle.image_scans.proofs.CommitLine.{all_written, can, headers, shown}
+use Rattle.image_scans.proofs.CommitLine.{all_written, can, headers, is_state, shown}
 use Rattle.image_scans.proofs.CommitScans.{none_unread}
 use Rattle.image_scans.proofs.AreaReadings.{AreasGive, IsNone}
 use Rattle.image_scans.proofs.Labels.{of_four}
@@ -94,38 +97,103 @@ each_none (area ∷ areas) = (refl, each_none areas)
 abbrev data_area : Extent
 data_area = record { offset = 1048576; size = 0 }
 
-abbrev one_area : Extent
-one_area = record { offset = 4096; size = 1044480 }
+none_passes : {X : Type 0} (p : X → Bool) (xs : List X) → Each (λ (x : X). p x ≡ false) xs → find p xs ≡ None
+none_passes p [] all = refl
+none_passes p (x ∷ xs) all = ap (λ (t : Bool). cond t (Some x) (find p xs)) all.0 ∙ none_passes p xs all.1
 
 outside_not : (bytes : ℕ) (area : Extent) → area.offset + area.size ≤ bytes → is_outside bytes area ≡ false
 outside_not bytes area fits = grind (arith, nat_tests)
 
-shares_not : (all : List Extent) (bytes : ℕ) (a b : Extent) → 0 < b.size → b.offset + b.size ≤ a.offset → shares_byte all bytes a b ≡ false
-unfolding shares_byte
-shares_not all bytes a b some below =
-    let sized : eqb b.size 0 ≡ false = grind (arith, nat_tests) in
-    let ends : end_of all bytes b ≡ b.offset + b.size =
-    ap (λ (t : Bool). cond t (next_start all b.offset bytes) (b.offset + b.size)) sized in
-    let last : ltb (max a.offset b.offset) (min (end_of all bytes a) (b.offset + b.size)) ≡ false = grind (arith, nat_tests) in
-    ap (λ (n : ℕ). ltb (max a.offset b.offset) (min (end_of all bytes a) n)) ends ∙ last
+-- of two areas the first ends before the second begins, or the second before the first
+upto_second : (a b e f n : ℕ) → e ≡ n → n ≤ b → min e f ≤ max a b
+upto_second a b e f n ends before = omega (arith, ends, before)
 
-lie_with : (bytes : ℕ) → 1052672 ≤ bytes → (b : Bool) → CanLie (data_area ∷ []) (cond b [] (one_area ∷ [])) bytes
+upto_first : (a b e f n : ℕ) → f ≡ n → n ≤ a → min e f ≤ max a b
+upto_first a b e f n ends before = omega (arith, ends, before)
+
+ends_before : (all : List Extent) (bytes n : ℕ) (a b : Extent) → end_of all bytes a ≡ n → n ≤ b.offset → shares_byte all bytes a b ≡ false
+unfolding shares_byte
+ends_before all bytes n a b ends before =
+    lt_false (max a.offset b.offset) (min (end_of all bytes a) (end_of all bytes b))
+    (upto_second a.offset b.offset (end_of all bytes a) (end_of all bytes b) n ends before)
+
+begins_behind : (all : List Extent) (bytes n : ℕ) (a b : Extent) → end_of all bytes b ≡ n → n ≤ a.offset → shares_byte all bytes a b ≡ false
+unfolding shares_byte
+begins_behind all bytes n a b ends before =
+    lt_false (max a.offset b.offset) (min (end_of all bytes a) (end_of all bytes b))
+    (upto_first a.offset b.offset (end_of all bytes a) (end_of all bytes b) n ends before)
+
+abbrev both_and_data : ℕ → List Extent
+both_and_data sectors = data_area ∷ first_area ∷ last_area sectors ∷ []
+
+-- the data end where the area at the disk's end begins
+data_upto : (sectors bytes : ℕ) → 4096 ≤ sectors → end_of (both_and_data sectors) bytes data_area ≡ sectors * 512 - 1044480
+unfolding next_start
+data_upto sectors bytes both =
+    ap (λ (t : Bool). unwrap_or (reduce min (map (λ (area : Extent). area.offset) (cond t (last_area sectors ∷ []) []))) bytes)
+    (or_left (nat_lt 1048576 (sectors * 512 - 1044480)) (sectors * 512 - 1044480 == 1048576 && not (1044480 == 0))
+    (lt_true 1048576 (sectors * 512 - 1044480) (omega (arith, both))))
+
+last_shaped : (sectors : ℕ) → 4096 ≤ sectors → is_misshapen (last_area sectors) ≡ false
+last_shaped sectors both =
+    let whole : ((sectors * 512 - 1044480) % 512 == 0) ≡ true = eq_to ((sectors * 512 - 1044480) % 512) 0 (omega (arith, both)) in
+    let far : nat_lt (sectors * 512 - 1044480) 2048 ≡ false = lt_false (sectors * 512 - 1044480) 2048 (omega (arith, both)) in
+    ap (λ (t : Bool). not t || not (1044480 % 512 == 0) || nat_lt (sectors * 512 - 1044480) 2048 || nat_lt 1044480 1536) whole
+    ∙ ap (λ (t : Bool). t || nat_lt 1044480 1536) far
+
+-- no area, the one in front of the data, or both
+lie_none : (sectors : ℕ) → 2056 ≤ sectors → CanLie (data_area ∷ []) [] (sectors * 512)
 unfolding first_overlap
-lie_with bytes enough true = record {
-  inside = ap (λ (t : Bool). cond t (Some data_area) None) (outside_not bytes data_area (omega (arith, enough)));
+lie_none sectors enough = record {
+  inside =
+      none_passes (is_outside (sectors * 512)) (data_area ∷ []) (outside_not (sectors * 512) data_area (omega (arith, enough)), tt);
   well_shaped = refl;
   apart = refl;
 }
-lie_with bytes enough false = record {
+
+lie_first : (sectors : ℕ) → 2056 ≤ sectors → CanLie (data_area ∷ []) (first_area ∷ []) (sectors * 512)
+unfolding first_overlap
+lie_first sectors enough = record {
   inside =
-      ap (λ (t : Bool). cond t (Some data_area) (cond (is_outside bytes one_area) (Some one_area) None))
-      (outside_not bytes data_area (omega (arith, enough)))
-      ∙ ap (λ (t : Bool). cond t (Some one_area) None) (outside_not bytes one_area (omega (arith, enough)));
+      none_passes (is_outside (sectors * 512)) (data_area ∷ first_area ∷ [])
+      (outside_not (sectors * 512) data_area (omega (arith, enough)),
+      (outside_not (sectors * 512) first_area (omega (arith, enough)), tt));
   well_shaped = refl;
   apart =
-      ap (λ (t : Bool). cond t (Some (data_area, one_area)) None)
-      (shares_not (data_area ∷ one_area ∷ []) bytes data_area one_area (omega arith) (omega arith));
+      none_passes (λ (pair : Extent × Extent). shares_byte (data_area ∷ first_area ∷ []) (sectors * 512) pair.0 pair.1)
+      ((data_area, first_area) ∷ [])
+      (begins_behind (data_area ∷ first_area ∷ []) (sectors * 512) 1048576 data_area first_area refl (omega arith), tt);
 }
+
+lie_both : (sectors : ℕ) → 4096 ≤ sectors → CanLie (data_area ∷ []) (first_area ∷ last_area sectors ∷ []) (sectors * 512)
+unfolding first_overlap
+lie_both sectors both = record {
+  inside =
+      none_passes (is_outside (sectors * 512)) (both_and_data sectors)
+      (outside_not (sectors * 512) data_area (omega (arith, both)),
+      (outside_not (sectors * 512) first_area (omega (arith, both)),
+      (outside_not (sectors * 512) (last_area sectors) (omega (arith, both)), tt)));
+  well_shaped = none_passes is_misshapen (first_area ∷ last_area sectors ∷ []) (refl, (last_shaped sectors both, tt));
+  apart =
+      none_passes (λ (pair : Extent × Extent). shares_byte (both_and_data sectors) (sectors * 512) pair.0 pair.1)
+      ((data_area, first_area) ∷ (data_area, last_area sectors) ∷ (first_area, last_area sectors) ∷ [])
+      (begins_behind (both_and_data sectors) (sectors * 512) 1048576 data_area first_area refl (omega arith),
+      (ends_before (both_and_data sectors) (sectors * 512) (sectors * 512 - 1044480) data_area (last_area sectors)
+      (data_upto sectors (sectors * 512) both) (omega arith),
+      (ends_before (both_and_data sectors) (sectors * 512) 1048576 first_area (last_area sectors) refl (omega (arith, both)), tt)));
+}
+
+can_lie : (copies sectors : ℕ) → fewest_sectors copies ≤ sectors → CanLie (data_area ∷ []) (new_areas sectors copies) (sectors * 512)
+can_lie copies sectors enough = by (copies == 0) (copies == 2) enough
+  where
+    one : 2056 ≤ sectors
+    one = enough_for_one copies sectors enough
+
+    by : (none two : Bool) → cond two 4096 2056 ≤ sectors
+        → CanLie (data_area ∷ []) (cond none [] (first_area ∷ cond two (last_area sectors ∷ []) [])) (sectors * 512)
+    by true two many = lie_none sectors one
+    by false true many = lie_both sectors many
+    by false false many = lie_first sectors one
 
 -- ---- the label
 
@@ -226,7 +294,9 @@ module _ (base : Image) (sizes : List ℕ) (found : Found) (names : List (List �
       (All-append (KeepsSector m.number k) (batch_if (flat_map area_puts change.labels) ++ batch_if (map label_put change.labels)) []
       (All-append (KeepsSector m.number k) (batch_if (flat_map area_puts change.labels)) (batch_if (map label_put change.labels))
       (all_if (KeepsSector m.number k) (flat_map area_puts change.labels)
-      (new_near change.labels (new_labels_are state line now given m.none) m.number k (inr (omega (arith, less, low)))))
+      (new_near change.labels
+      (new_labels_are state line now given (is_state base sizes found names backup line now given p) p.planned p.passes m.none) m.number k
+      (inr (omega (arith, less, low)))))
       (all_if (KeepsSector m.number k) (map label_put change.labels)
       (keeps_sector (map label_put change.labels) m.number k
       (λ value by. let w = label_where change.labels label m.number k value by in omega (arith, less, w.3, at_sector w.0 label w.1)))))
@@ -252,8 +322,7 @@ module _ (base : Image) (sizes : List ℕ) (found : Found) (names : List (List �
         (subst (λ (s : List ℕ). IsLabel s k) (before_kept k less) has)),
     record {
       fields = has_label.header;
-      areas = let enough : 2056
-          ≤ m.disk.sectors = m.enough in lie_with (m.disk.sectors * 512) (omega (arith, enough)) (m.copies == 0);
+      areas = can_lie m.copies m.disk.sectors m.enough;
     },
     record {
       in_order = in_order m.number (image m.number) label.header.areas;

@@ -220,7 +220,9 @@ module _ (base : Image) (sizes : List â„•) (found : Found) (names : List (List â
           []
           (All-append (KeepsSector number at.sector) (batch_if (flat_map area_puts change.labels)) (batch_if (map label_put change.labels))
           (all_if (KeepsSector number at.sector) (flat_map area_puts change.labels)
-          (new_near change.labels (new_labels_are state line now given none) number at.sector (inl apart)))
+          (new_near change.labels
+          (new_labels_are state line now given (is_state base sizes found names backup line now given p) p.planned p.passes none)
+          number at.sector (inl apart)))
           (all_if (KeepsSector number at.sector) (map label_put change.labels) (labels_keep_other change.labels number at.sector apart)))
           (All-nil (KeepsSector number at.sector))
 
