@@ -101,11 +101,11 @@ module _ (scans : RepairedScans) (finds_each : EachSetFinds) (removed_each : Eac
 
   pub sets_agree : commits g.line.command ≡ true → SetsAgree g.sizes ended
   sets_agree commit =
-      by (kind_of state (c.line.given.named ∙ sym (repaired_count g.found))
+      by (kind_of state g.sizes can.scan.are.sizes_is (c.line.given.named ∙ sym (repaired_count g.found))
       (λ k disk there. ((c.line.repaired_shape refl).disks k disk there).0) g.line g.clock g.given c.line.given.planned
       (c.line.given_back refl) (c.line.takes refl) (c.line.passes refl))
     where
-      by : Kind g.names g.line.command change → SetsAgree g.sizes ended
+      by : Kind g.sizes g.names g.line.command change → SetsAgree g.sizes ended
       by (commits_group group is) = of_commit group is
       by (creates disk label none created labels on no_zeros places) =
           absurd (true≢false (sym commit ∙ (created_quiet g.names disk g.line.command created).1))

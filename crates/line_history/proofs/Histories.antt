@@ -39,6 +39,7 @@ use Rattle.volume_history.specs.Single.{LeavesAll, LeavesDisk, MayEnd as MayFoll
 use Rattle.volume_history.specs.Single.{taken_entries}
 use Rattle.line_history.proofs.ClearedLines.{committed_law, made_law}
 use Rattle.line_history.proofs.Clearing.{as_written, ended_base, whole_origin}
+use Rattle.line_history.proofs.Finding.{scan_repaired}
 use Rattle.line_history.proofs.LineKinds.{Kind, commits_group, creates, kind_of, removes_group}
 use Rattle.line_history.proofs.Lines.{change, commit_law, next, none_created, origin_handed, origin_repaired, stays_handed, stays_repaired}
 use Rattle.line_history.proofs.Lines.{stays_unpublished}
@@ -141,7 +142,8 @@ module _ (scans : RepairedScans) (g : Given) (start ended : Record) where
 
       leaves : writes_submitted zeros.since ≡ [] → LeavesDisk (origin_repaired scans g stage start ended r repaired) g.line
       leaves none disk created =
-          none_written (is_created_at g.line.command disk) (take (length ended.steps - length start.steps) ended.steps) (nothing_since none)
+          none_written (is_created_at g.sizes g.line.command disk) (take (length ended.steps - length start.steps) ended.steps)
+          (nothing_since none)
 
       undone : LeavesDisk (origin_repaired scans g stage start ended r repaired) g.line
           → LeavesAll (origin_repaired scans g stage start ended r repaired) g.line → (said : Answer) → is_good said ≡ false
@@ -164,9 +166,10 @@ module _ (scans : RepairedScans) (g : Given) (start ended : Record) where
 
   -- ---- its zeros were begun
   kind : (stage : Stage) (r : RunsLine g stage start ended) (repaired : is_repaired stage ≡ true) (begun : zeros_begun stage ≡ true)
-      → Kind g.names g.line.command (change scans g stage start ended r repaired)
+      → Kind g.sizes g.names g.line.command (change scans g stage start ended r repaired)
   kind stage r repaired begun =
-      kind_of (state_in (repaired_of g.found) g.names g.backup) (r.given.named ∙ sym (repaired_count g.found))
+      kind_of (state_in (repaired_of g.found) g.names g.backup) g.sizes (scan_repaired scans g stage start ended r repaired).are.sizes_is
+      (r.given.named ∙ sym (repaired_count g.found))
       (λ k disk there. ((r.repaired_shape repaired).disks k disk there).0) g.line g.clock g.given r.given.planned (r.given_back begun)
       (r.takes begun) (r.passes begun)
 
@@ -178,7 +181,7 @@ module _ (scans : RepairedScans) (g : Given) (start ended : Record) where
         (r.zeros refl).writes ∙ ap (λ (spans : List Span). flat_map (λ (batch : List Put). batch)
         (take (r.zeros refl).submitted (batch_if (map zero_put spans)))) no_zeros ∙ nothing_of (r.zeros refl).submitted
 
-    left : Kind g.names g.line.command (change scans g Zeroing start ended r refl)
+    left : Kind g.sizes g.names g.line.command (change scans g Zeroing start ended r refl)
         → LeavesDisk (origin_repaired scans g Zeroing start ended r refl) g.line
         × LeavesAll (origin_repaired scans g Zeroing start ended r refl) g.line
     left (commits_group group made) = (
@@ -238,7 +241,7 @@ module _ (scans : RepairedScans) (g : Given) (start ended : Record) where
       → HasHistoryOf g ended (journal_of_line (length start.steps) None (length ended.steps)) ((g.line, Some (answer.PvFailed pv)) ∷ [])
   failed r pv = by (kind Writing r refl refl)
     where
-      by : Kind g.names g.line.command (change scans g Writing start ended r refl)
+      by : Kind g.sizes g.names g.line.command (change scans g Writing start ended r refl)
           → HasHistoryOf g ended (journal_of_line (length start.steps) None (length ended.steps)) ((g.line, Some (answer.PvFailed pv)) ∷ [])
       by (commits_group group made) = commit_failed r pv group made
       by (creates disk label none created labels on no_zeros places) =
@@ -276,7 +279,7 @@ module _ (scans : RepairedScans) (g : Given) (start ended : Record) where
   TookPlace took said = HasHistoryOf g ended (journal_of_line (length start.steps) took (length ended.steps)) ((g.line, Some said) ∷ [])
 
   kind_cleared : (well : Bool) (c : ClearsLine g well start ended)
-      → Kind g.names g.line.command (change scans g Done start c.made c.line refl)
+      → Kind g.sizes g.names g.line.command (change scans g Done start c.made c.line refl)
   kind_cleared well c = kind scans g start c.made Done c.line refl refl
 
   took_by : (well : Bool) (said : Answer) (c : ClearsLine g well start ended) (b : Bool) → commits_in g ≡ b
@@ -299,7 +302,7 @@ module _ (scans : RepairedScans) (g : Given) (start ended : Record) where
 
   -- all went well
   module _ (c : ClearsLine g true start ended) where
-    all_well : Kind g.names g.line.command (change scans g Done start c.made c.line refl)
+    all_well : Kind g.sizes g.names g.line.command (change scans g Done start c.made c.line refl)
         → TookPlace (took_of (commits_in g) true (length c.made.steps) (length ended.steps)) answer.Fine
     all_well (commits_group group made) = committed true c group made answer.Fine tt
     all_well (creates disk label none created labels on no_zeros places) =
@@ -348,7 +351,7 @@ module _ (scans : RepairedScans) (g : Given) (start ended : Record) where
         (planned_says g.line.id g.line.command pv c.line.given.planned).1) refl)
         (cases_lt 0 c.clears.submitted)
 
-    one_failed : Kind g.names g.line.command (change scans g Done start c.made c.line refl)
+    one_failed : Kind g.sizes g.names g.line.command (change scans g Done start c.made c.line refl)
         → TookPlace (took_of (commits_in g) false (length c.made.steps) (length ended.steps)) (answer.PvFailed pv)
     one_failed (commits_group group made) = committed false c group made (answer.PvFailed pv) tt
     one_failed (creates disk label none created labels on no_zeros places) =

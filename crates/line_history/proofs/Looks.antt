@@ -83,7 +83,7 @@ module _ (handed : Record) (sizes : List ℕ) (names : List Word) (clock : ℕ) 
 
     leaves : (line : Line) → LeavesDisk origin_is line
     leaves line disk created =
-        none_written (is_created_at line.command disk) (take (length ended.steps - length start.steps) ended.steps) nothing_since
+        none_written (is_created_at sizes line.command disk) (take (length ended.steps - length start.steps) ended.steps) nothing_since
 
     -- what has no pending command at its end
     told_so : (es : List ChronicleEntry) → Tells origin_is es → is_some (pending es) ≡ false

@@ -56,10 +56,10 @@ module _ (scans : RepairedScans) (g : Given) (stage : Stage) (start ended : Reco
     (disk : ℕ) (label : NewLabel) (none : (change scans g stage start ended r repaired).group ≡ None)
     (created : created_disk g.names g.line.command ≡ Some disk)
     (labels : (change scans g stage start ended r repaired).labels ≡ label ∷ []) (on : label.disk ≡ disk)
-    (no_zeros : (change scans g stage start ended r repaired).zero ≡ []) (places : IsCreated g.line.command disk label) where
+    (no_zeros : (change scans g stage start ended r repaired).zero ≡ []) (places : IsCreated g.sizes g.line.command disk label) where
   -- what it may write there
   abbrev own : Span → Bool
-  own = is_created_at g.line.command disk
+  own = is_created_at g.sizes g.line.command disk
 
   -- it writes no zeros, so that its batches are all that it writes
   all_batches : zeros_in g ++ batches_in g ≡ batches_in g
@@ -110,8 +110,8 @@ module _ (scans : RepairedScans) (g : Given) (stage : Stage) (start ended : Reco
     half_made : (w : Bool) → has_written own steps ≡ w → (pv : ℕ)
         → is_half_made (origin_repaired scans g stage start ended r repaired) g.line disk m pv ≡ ((disk == pv) && w)
     half_made w is pv =
-        ap (λ (l : List Step). (disk == pv) && has_written (is_created_at g.line.command pv) l) part_is
-        ∙ at_disk disk pv (λ k. has_written (is_created_at g.line.command k) steps) w is
+        ap (λ (l : List Step). (disk == pv) && has_written (is_created_at g.sizes g.line.command pv) l) part_is
+        ∙ at_disk disk pv (λ k. has_written (is_created_at g.sizes g.line.command k) steps) w is
 
     labelled : (pv : ℕ) → is_labelled (change scans g stage start ended r repaired).labels pv ≡ (disk == pv)
     labelled pv = ap (λ (all : List NewLabel). is_labelled all pv) labels ∙ or_false (label.disk == pv) ∙ ap (λ (k : ℕ). k == pv) on
