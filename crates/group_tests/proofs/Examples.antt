@@ -107,3 +107,21 @@ row_labels = refl
 row_small : small_row 65536 (added_of state (codes "a" ∷ [])) ≡ Some (TooSmall 65536 67584)
 unfolding number_named added_named small_row next_start
 row_small = refl
+
+-- a disk with two areas, which has 513 extents of 8 sectors between them
+abbrev with_two : Disk
+with_two =
+    record {
+      sectors = 8192;
+      contents =
+          Some (Whole 1 (new_header (3 ∷ []) 8192 2)
+          (record { area = extent 4096 1044480; header = Err BadMagic; entry = Nothing }
+          ∷ record { area = extent 3149824 1044480; header = Err BadMagic; entry = Nothing } ∷ []));
+    }
+
+row_between : (change_of (record state { disks = with_two ∷ []; names = codes "a" ∷ []; areas = held_areas 0 (with_two ∷ []) })
+    (line (Vgcreate (codes "vg") 8 (codes "a" ∷ []))) 0 []).group
+    ≡ Some (record (empty_group (9 ∷ []) (codes "vg") 8)
+    { pvs = (codes "pv0", record (pv 3 (codes "a")) { dev_size = 8192; pe_count = 513 }) ∷ [] })
+unfolding digits number_named added_named extended free_number next_start
+row_between = refl

@@ -68,8 +68,11 @@ line id command = record { number = 1; id = Some (id ∷ []); command = command 
 
 -- ---- pvcreate
 
+abbrev new_with : ℕ → ℕ → ℕ → List ℕ → Option OpRefusal
+new_with copies sectors id name = refusal_of (state Nothing sectors) (line id (Pvcreate name copies)) 0 []
+
 abbrev new_on : ℕ → ℕ → List ℕ → Option OpRefusal
-new_on sectors id name = refusal_of (state Nothing sectors) (line id (Pvcreate name 1)) 0 []
+new_on sectors id name = new_with 1 sectors id name
 
 row_unknown : new_on 2055 9 (codes "d") ≡ Some (UnknownPv (codes "d"))
 unfolding number_named
@@ -88,6 +91,15 @@ row_least : new_on 2056 9 (codes "c") ≡ None
 unfolding number_named
 row_least = refl
 
+-- two areas need more
+row_few_for_two : new_with 2 4095 9 (codes "c") ≡ Some (TooSmall 4095 4096)
+unfolding number_named
+row_few_for_two = refl
+
+row_least_for_two : new_with 2 4096 9 (codes "c") ≡ None
+unfolding number_named
+row_least_for_two = refl
+
 -- the label stays in its sector, and all of the disk behind the first mebibyte is for data
 abbrev header : PvHeader
 header = record {
@@ -103,6 +115,16 @@ row_label : (change_of (state Nothing 2056) (line 9 (Pvcreate (codes "c") 1)) 0 
     ≡ record { disk = 2; sector = 3; header = header } ∷ []
 unfolding number_named
 row_label = refl
+
+-- a second area is at the disk's end
+row_two_areas : (change_of (state Nothing 8192) (line 9 (Pvcreate (codes "c") 2)) 0 []).labels
+    ≡ record {
+      disk = 2;
+      sector = 3;
+      header = record header { device_bytes = 4194304; areas = extent 4096 1044480 ∷ extent 3149824 1044480 ∷ [] };
+    } ∷ []
+unfolding number_named
+row_two_areas = refl
 
 -- ---- vgcreate
 
