@@ -59,6 +59,7 @@ areas_lie sizes label lie =
     let l : IsOnDisk sizes label.disk (header_sector (get_or label.header.areas k d)) = lie.lie k d within in
     record { disk = l.disk; within = omega (arith, l.within); buffer = refl })
 
+-- no two of those of all labels share a sector
 share_none : (sizes : List ℕ) (labels : List NewLabel) → All (AreasLie sizes) labels
     → AllPairs (λ (a b : NewLabel). a.disk ≢ b.disk) labels → ShareNoSector (flat_map area_puts labels)
 share_none sizes labels lie differ =

@@ -104,7 +104,7 @@ none_passes p (x ∷ xs) all = ap (λ (t : Bool). cond t (Some x) (find p xs)) a
 outside_not : (bytes : ℕ) (area : Extent) → area.offset + area.size ≤ bytes → is_outside bytes area ≡ false
 outside_not bytes area fits = grind (arith, nat_tests)
 
--- of two areas the first ends before the second begins, or the second before the first
+-- of two areas the first ends where the second begins or before it, or the second where the first does
 upto_second : (a b e f n : ℕ) → e ≡ n → n ≤ b → min e f ≤ max a b
 upto_second a b e f n ends before = omega (arith, ends, before)
 
@@ -155,9 +155,10 @@ lie_first : (sectors : ℕ) → 2056 ≤ sectors → CanLie (data_area ∷ []) (
 unfolding first_overlap
 lie_first sectors enough = record {
   inside =
-      none_passes (is_outside (sectors * 512)) (data_area ∷ first_area ∷ [])
-      (outside_not (sectors * 512) data_area (omega (arith, enough)),
-      (outside_not (sectors * 512) first_area (omega (arith, enough)), tt));
+      none_passes (is_outside (sectors * 512)) (data_area ∷ first_area ∷ []) (
+        outside_not (sectors * 512) data_area (omega (arith, enough)),
+        (outside_not (sectors * 512) first_area (omega (arith, enough)), tt),
+      );
   well_shaped = refl;
   apart =
       none_passes (λ (pair : Extent × Extent). shares_byte (data_area ∷ first_area ∷ []) (sectors * 512) pair.0 pair.1)
@@ -169,18 +170,24 @@ lie_both : (sectors : ℕ) → 4096 ≤ sectors → CanLie (data_area ∷ []) (f
 unfolding first_overlap
 lie_both sectors both = record {
   inside =
-      none_passes (is_outside (sectors * 512)) (both_and_data sectors)
-      (outside_not (sectors * 512) data_area (omega (arith, both)),
-      (outside_not (sectors * 512) first_area (omega (arith, both)),
-      (outside_not (sectors * 512) (last_area sectors) (omega (arith, both)), tt)));
+      none_passes (is_outside (sectors * 512)) (both_and_data sectors) (
+        outside_not (sectors * 512) data_area (omega (arith, both)),
+        (
+          outside_not (sectors * 512) first_area (omega (arith, both)),
+          (outside_not (sectors * 512) (last_area sectors) (omega (arith, both)), tt),
+        ),
+      );
   well_shaped = none_passes is_misshapen (first_area ∷ last_area sectors ∷ []) (refl, (last_shaped sectors both, tt));
   apart =
       none_passes (λ (pair : Extent × Extent). shares_byte (both_and_data sectors) (sectors * 512) pair.0 pair.1)
-      ((data_area, first_area) ∷ (data_area, last_area sectors) ∷ (first_area, last_area sectors) ∷ [])
-      (begins_behind (both_and_data sectors) (sectors * 512) 1048576 data_area first_area refl (omega arith),
-      (ends_before (both_and_data sectors) (sectors * 512) (sectors * 512 - 1044480) data_area (last_area sectors)
-      (data_upto sectors (sectors * 512) both) (omega arith),
-      (ends_before (both_and_data sectors) (sectors * 512) 1048576 first_area (last_area sectors) refl (omega (arith, both)), tt)));
+      ((data_area, first_area) ∷ (data_area, last_area sectors) ∷ (first_area, last_area sectors) ∷ []) (
+        begins_behind (both_and_data sectors) (sectors * 512) 1048576 data_area first_area refl (omega arith),
+        (
+          ends_before (both_and_data sectors) (sectors * 512) (sectors * 512 - 1044480) data_area (last_area sectors)
+              (data_upto sectors (sectors * 512) both) (omega arith),
+          (ends_before (both_and_data sectors) (sectors * 512) 1048576 first_area (last_area sectors) refl (omega (arith, both)), tt),
+        ),
+      );
 }
 
 can_lie : (copies sectors : ℕ) → fewest_sectors copies ≤ sectors → CanLie (data_area ∷ []) (new_areas sectors copies) (sectors * 512)

@@ -107,8 +107,10 @@ module _ (f : Extent → ℕ) where
   in_own : (areas : List Extent) → Each (HasIn areas) areas
   in_own [] = tt
   in_own (area ∷ areas) =
-      (ap (λ (b : Bool). b || list_any (λ (x : Extent). f area == f x) areas) (eq_to (f area) (f area) refl),
-      in_more area areas areas (in_own areas))
+      (
+        ap (λ (b : Bool). b || list_any (λ (x : Extent). f area == f x) areas) (eq_to (f area) (f area) refl),
+        in_more area areas areas (in_own areas),
+      )
 
 -- what a pvcreate writes stands where it may, on a disk of so many sectors
 module _ (sizes : List ℕ) (pv id : List ℕ) (copies number : ℕ) (disk : Disk) (size : slice_index_or sizes number 0 ≡ disk.sectors) where
@@ -123,21 +125,23 @@ module _ (sizes : List ℕ) (pv id : List ℕ) (copies number : ℕ) (disk : Dis
       → Each (λ (area : Extent). is_created_at sizes (Pvcreate pv copies) number (one_sector number (area.offset / 512)) ≡ true) areas
   areas_own [] each = tt
   areas_own (area ∷ areas) each =
-      (own (area.offset / 512) (or_right (nat_lt (area.offset / 512) 4)
-      (list_any (λ (x : Extent). area.offset / 512 == x.offset / 512) (new_areas disk.sectors copies)) each.0), areas_own areas each.1)
+      (
+        own (area.offset / 512) (or_right (nat_lt (area.offset / 512) 4)
+            (list_any (λ (x : Extent). area.offset / 512 == x.offset / 512) (new_areas disk.sectors copies)) each.0),
+        areas_own areas each.1,
+      )
 
   created_at : label_sector disk < 4 → IsCreated sizes (Pvcreate pv copies) number (new_label id copies number disk)
   created_at low = (
     own (label_sector disk)
-        (ap (λ (b : Bool). b
-        || list_any (λ (area : Extent). label_sector disk == area.offset / 512) (new_areas disk.sectors copies))
+        (ap (λ (b : Bool). b || list_any (λ (area : Extent). label_sector disk == area.offset / 512) (new_areas disk.sectors copies))
         (lt_true (label_sector disk) 4 low)),
     areas_own (new_areas disk.sectors copies) (in_own (λ (area : Extent). area.offset / 512) (new_areas disk.sectors copies)),
   )
 
 create_kind : (state : GroupState) (sizes : List ℕ) → sizes_of state.disks ≡ sizes → (id pv : List ℕ) (copies : ℕ) (o : Option ℕ)
-    → number_named state.names pv ≡ o
-    → length state.names ≡ length state.disks → ((k : ℕ) (disk : Disk) → slice_get state.disks k ≡ Some disk → IsDisk k disk)
+    → number_named state.names pv ≡ o → length state.names ≡ length state.disks
+    → ((k : ℕ) (disk : Disk) → slice_get state.disks k ≡ Some disk → IsDisk k disk)
     → first_refusal (rows_by state id pv copies o) ≡ None
     → Kind sizes state.names (Pvcreate pv copies) (pvcreate_change state id pv copies)
 create_kind state sizes sized id pv copies None is many stand none = absurd cc

@@ -1,5 +1,5 @@
 -- The metadata areas of a new physical volume, on a disk that has enough sectors for them.
-use Rattle.std.proofs.Common.{◌≤◌, ℕ, ◌==◌, Bool, true, false, cond, List, [], ◌∷◌, length, arith}
+use Rattle.std.proofs.Common.{◌≤◌, ℕ, ◌==◌, Bool, true, false, cond, [], ◌∷◌, length, arith}
 use Rattle.std.specs.Prelude.{All, AllPairs}
 use Rattle.std.proofs.lemmas.List.Elements.{All-cons, All-nil}
 use Rattle.std.proofs.lemmas.List.Kept.{AllPairs-cons}
