@@ -106,11 +106,10 @@ module _ (f : Extent → ℕ) where
 
   in_own : (areas : List Extent) → Each (HasIn areas) areas
   in_own [] = tt
-  in_own (area ∷ areas) =
-      (
-        ap (λ (b : Bool). b || list_any (λ (x : Extent). f area == f x) areas) (eq_to (f area) (f area) refl),
-        in_more area areas areas (in_own areas),
-      )
+  in_own (area ∷ areas) = (
+    ap (λ (b : Bool). b || list_any (λ (x : Extent). f area == f x) areas) (eq_to (f area) (f area) refl),
+    in_more area areas areas (in_own areas),
+  )
 
 -- what a pvcreate writes stands where it may, on a disk of so many sectors
 module _ (sizes : List ℕ) (pv id : List ℕ) (copies number : ℕ) (disk : Disk) (size : slice_index_or sizes number 0 ≡ disk.sectors) where
@@ -124,12 +123,11 @@ module _ (sizes : List ℕ) (pv id : List ℕ) (copies number : ℕ) (disk : Dis
   areas_own : (areas : List Extent) → Each (HasIn (λ (area : Extent). area.offset / 512) (new_areas disk.sectors copies)) areas
       → Each (λ (area : Extent). is_created_at sizes (Pvcreate pv copies) number (one_sector number (area.offset / 512)) ≡ true) areas
   areas_own [] each = tt
-  areas_own (area ∷ areas) each =
-      (
-        own (area.offset / 512) (or_right (nat_lt (area.offset / 512) 4)
-            (list_any (λ (x : Extent). area.offset / 512 == x.offset / 512) (new_areas disk.sectors copies)) each.0),
-        areas_own areas each.1,
-      )
+  areas_own (area ∷ areas) each = (
+    own (area.offset / 512) (or_right (nat_lt (area.offset / 512) 4)
+        (list_any (λ (x : Extent). area.offset / 512 == x.offset / 512) (new_areas disk.sectors copies)) each.0),
+    areas_own areas each.1,
+  )
 
   created_at : label_sector disk < 4 → IsCreated sizes (Pvcreate pv copies) number (new_label id copies number disk)
   created_at low = (
