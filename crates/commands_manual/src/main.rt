@@ -11,16 +11,18 @@ mod wanted;
 use std::io;
 use std::process::ExitCode;
 use tables::{missing, rows_of, unknown};
-use wanted::{command_rows, option_rows};
+use wanted::{call_rows, command_rows, option_rows};
 
 fn main(rt: HostRuntime) -> io::Result<ExitCode> {
     let manual = io::read_to_string(rt.alloc(), rt.reader())?;
     let commands = rows_of(rt.alloc(), manual.as_str(), "\n## The table of commands\n")?;
     let options = rows_of(rt.alloc(), manual.as_str(), "\n## Options\n")?;
+    let calls = rows_of(rt.alloc(), manual.as_str(), "\n## Words for other calls\n")?;
     let commands_agree = agrees(&rt, &command_rows(rt.alloc())?, &commands)?;
     let options_agree = agrees(&rt, &option_rows(rt.alloc())?, &options)?;
-    if commands_agree && options_agree {
-        println!(rt; "the manual agrees with the table of commands")?;
+    let calls_agree = agrees(&rt, &call_rows(rt.alloc())?, &calls)?;
+    if commands_agree && options_agree && calls_agree {
+        println!(rt; "the manual agrees with the tables of commands")?;
         Ok(ExitCode::SUCCESS)
     } else {
         Ok(ExitCode::FAILURE)

@@ -1,6 +1,7 @@
 //! The rows that the tables of the manual have to have.
 
 use command_table::{CommandName, OptionKey};
+use lvm_words::OtherCall;
 use std::alloc::{AllocError, Global};
 
 /// The rows of the table of commands, with its head.
@@ -10,6 +11,18 @@ pub fn command_rows(alloc: Global) -> Result<Vec<String>, AllocError> {
     for name in CommandName::all() {
         let words = cell(alloc, name.synopsis())?;
         let row = format!(in alloc; "| {} |{words} | {} |", name.spelling(), in_scripts(*name))?;
+        rows.push(row)?;
+    }
+    Ok(rows)
+}
+
+/// The rows of the table of the words for other calls, with its head.
+pub fn call_rows(alloc: Global) -> Result<Vec<String>, AllocError> {
+    let mut rows = Vec::new(alloc);
+    rows.push(String::from_str(alloc, "| call | words |")?)?;
+    for call in OtherCall::all() {
+        let words = cell(alloc, call.synopsis())?;
+        let row = format!(in alloc; "| {} |{words} |", call.spelling())?;
         rows.push(row)?;
     }
     Ok(rows)

@@ -1,7 +1,7 @@
 //! What is told on standard error about words that were refused.
 use command_table::{CommandName, Fault, LineFault};
 use lvm_run::BUILT;
-use lvm_words::{WordsFault, disk_names, fault_of_command_line};
+use lvm_words::{OtherCall, WordsFault, disk_names, fault_of_command_line};
 use std::alloc::{AllocError, Global};
 
 /// Which of these words is at fault, and how the command is used; or all commands, a line each, where there is none among the
@@ -50,6 +50,11 @@ fn push_fault(
     let Some(first) = first else {
         return push_commands(text);
     };
+    if let Some(call) = OtherCall::named(first.as_bytes()) {
+        text.push_str("lvm: this doesn't run yet\n")?;
+        push_usage(text, call.spelling(), call.synopsis())?;
+        return text.push_str(BUILT);
+    }
     text.push_str("lvm: ")?;
     if let Some(word) = word {
         text.push_str(word.as_str())?;
@@ -58,28 +63,31 @@ fn push_fault(
     text.push_str(text_of(fault, word))?;
     text.push('\n')?;
     match CommandName::named(first.as_bytes()) {
-        Some(name) if name.is_for_words() => push_usage(text, name),
+        Some(name) if name.is_for_words() => push_usage(text, name.spelling(), name.synopsis()),
         _ => push_commands(text),
     }
 }
 
-// Adds all commands, a line each, and which of them run.
+// Adds all commands, and the words for other calls, a line each, and which commands run.
 fn push_commands(text: &mut String) -> Result<(), AllocError> {
     for name in CommandName::all() {
         if name.is_for_words() {
-            push_usage(text, *name)?;
+            push_usage(text, name.spelling(), name.synopsis())?;
         }
+    }
+    for call in OtherCall::all() {
+        push_usage(text, call.spelling(), call.synopsis())?;
     }
     text.push_str(BUILT)
 }
 
-// Adds how the command is used.
-fn push_usage(text: &mut String, name: CommandName) -> Result<(), AllocError> {
+// Adds how a command of this name with these words is used.
+fn push_usage(text: &mut String, name: &str, words: &str) -> Result<(), AllocError> {
     text.push_str("usage: lvm -d NAME [-d NAME ...] ")?;
-    text.push_str(name.spelling())?;
-    if !name.synopsis().is_empty() {
+    text.push_str(name)?;
+    if !words.is_empty() {
         text.push(' ')?;
-        text.push_str(name.synopsis())?;
+        text.push_str(words)?;
     }
     text.push('\n')
 }

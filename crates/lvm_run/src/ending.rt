@@ -32,12 +32,19 @@ pub enum Ending {
     /// A read of the disk with this number failed.
     ScanReadFailed(u32),
     /// The disks aren't taken as they are. Whether each of them was read.
-    ScanRefused { refusal: DisksRefusal, whole: bool },
+    ScanRefused {
+        refusal: DisksRefusal,
+        whole: bool,
+    },
     /// A write or flush of the repair failed on the disk with this number.
     RepairFailed(u32),
     /// The text of the group has no room in a stale area of the disk with this number: how many sectors it needs, and how
     /// many there are.
-    RepairRefused { pv: u32, need: u64, room: u64 },
+    RepairRefused {
+        pv: u32,
+        need: u64,
+        room: u64,
+    },
 }
 
 impl Ending {
@@ -50,9 +57,8 @@ impl Ending {
             Ending::NoMemory => 2,
             Ending::SourceFailed => 4,
             Ending::OpenFailed(_) | Ending::ScanReadFailed(_) | Ending::RepairFailed(_) => 6,
-            Ending::ScriptTooLong
-            | Ending::ScriptRefused { .. }
-            | Ending::RepairRefused { .. } => 5,
+            Ending::ScriptTooLong | Ending::ScriptRefused { .. } | Ending::RepairRefused { .. } =>
+                5,
             Ending::ScanRefused { whole, .. } => { if *whole { 5 } else { 6 } }
         }
     }
@@ -109,12 +115,7 @@ fn write_script_refusal<W: Sink>(
 }
 
 // Writes the line's number, its fault and the place.
-fn write_fault<W: Sink>(
-    out: &mut W,
-    line: u64,
-    fault: LineFault,
-    place: u64,
-) -> Result<(), Failed>
+fn write_fault<W: Sink>(out: &mut W, line: u64, fault: LineFault, place: u64) -> Result<(), Failed>
     ensures { WritesText (W.written out.old) (W.fault_count out.old) (decimal line ++ shown_text (codes ":", script_values fault place))
         (is_ok result) (W.written out.new) (W.fault_count out.new) }
 {

@@ -1,5 +1,5 @@
 -- Whole scripts: how lines are numbered, how many there may be, and how many sectors they may read and write.
-use Rattle.std.specs.Prelude.{◌≡◌, ℕ, List, [], ◌∷◌, ◌++◌, Some, None, Ok, Err, codes, map, replicate}
+use Rattle.std.specs.Prelude.{◌≡◌, false, ℕ, List, [], ◌∷◌, ◌++◌, Some, None, Ok, Err, codes, map, replicate}
 use Rattle.std.proofs.Common.{refl}
 use Rattle.command_table.specs.declared.command.Command.{Command}
 use Rattle.command_table.specs.declared.command.Command.TheVariants.{Pvcreate, Vgcfgbackup, Vgcfgrestore, Read, Fill, Write}

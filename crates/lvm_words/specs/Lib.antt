@@ -1,3 +1,4 @@
 pub mod CommandLines
 pub mod Disks
+pub mod OtherCalls
 pub mod Parser

@@ -16,7 +16,7 @@ returns-in_err-sectors-clause-read g c =
     let before = g.S.Shelf.state c.args.shelf.now in
     let after = g.S.Shelf.state c.read_into.new.shelf in
     let spans = c.spans-rest.ensures in
-    let p = err_from_is_err_and c.from_residual.result c.from_residual.ensures.1 in
+    let p = err_from_is_err_and c.from_residual-in_err-sectors.result c.from_residual-in_err-sectors.ensures.1 in
     rw (p.1, p.2)
     (first_ended c.args.area.now c.args.locn c.spans-rest.result spans.spans before after after c.in_err-sectors.field-0.0
     spans.in_area.0.pv_is c.in_err-sectors.ensures)
