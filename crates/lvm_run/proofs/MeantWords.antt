@@ -371,11 +371,11 @@ session_meant given arguments =
   where
     with_workers : (workers : Option ℕ) (vg : Word) → IfSome (session_on given workers vg) IsMeantRequest
     with_workers None vg = tt
-    with_workers (Some workers) vg = go (is_group_name vg)
+    with_workers (Some workers) vg = go _ (is_group_name vg)
       where
-        go : {s : SessionWords} (b : Bool) → IfSome (if b then Some (Session s) else None) IsMeantRequest
-        go true = tt
-        go false = tt
+        go : (words : SessionWords) (b : Bool) → IfSome (if b then Some (Session words) else None) IsMeantRequest
+        go words true = tt
+        go words false = tt
 
 demo_meant : (arguments : List Word) → IfSome (demo arguments) IsMeantRequest
 demo_meant [] = tt
