@@ -24,10 +24,11 @@ fn answers(alloc: Global) -> Result<Answers, AllocError> {
     Ok(answers)
 }
 
-const LINES: &[u8] = b"3: refused NoSpace 7 2\n8: ok\n18446744073709551615: pv failed sdb\n";
+const LINES: &[u8] =
+    b"3: refused NoSpace 7 2\n5: not begun\n8: ok\n18446744073709551615: pv failed sdb\n";
 
 #[test]
-fn each_answered_line_has_its_line(rt: HostRuntime) -> Result<(), Fail> {
+fn each_line_is_printed(rt: HostRuntime) -> Result<(), Fail> {
     let alloc = rt.alloc();
     let text = answer_lines(alloc, &answers(alloc)?, &names(alloc)?)?;
     assert_eq!(rt; text.as_bytes(), LINES);
@@ -41,7 +42,7 @@ fn lines_are_written_up_to_the_fault(rt: HostRuntime) -> Result<(), Fail> {
     let alloc = rt.alloc();
     let cases: [(usize, &[u8], bool); 3] = [
         (100, LINES, true),
-        (27, b"3: refused NoSpace 7 2\n8: o", false),
+        (27, b"3: refused NoSpace 7 2\n5: n", false),
         (0, b"", false),
     ];
     for (capacity, written, well) in cases {
