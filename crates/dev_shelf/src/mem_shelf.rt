@@ -111,6 +111,21 @@ impl MemShelf {
         self.holding.ready_count(&self.row) > 0
     }
 
+    // Completes an operation that is ready; none where none is.
+    fn reap_ready(&mut self) -> Option<Done>
+        ensures none { IsNone result ↔ ((state_of_shelf self.old).ready ≡ []) }
+        ensures cases { MatchOption result (MakesReady (state_of_shelf self.old) (state_of_shelf self.new)) (λ done. Completes (state_of_shelf self.old) done (state_of_shelf self.new)) }
+        ensures ready { IfSome result (λ done. Contains (state_of_shelf self.old).ready done.tag) }
+        ensures plan { MatchOption result (plan_left self.new ≡ after_vain (state_of_shelf self.old).in_flight (plan_left self.old))
+            (λ done. FollowsPlan (state_of_shelf self.old) (plan_left self.old) done (state_of_shelf self.new) (plan_left self.new)) }
+    {
+        if self.has_ready() {
+            return Some(self.complete_ready());
+        }
+        self.count_vain();
+        None
+    }
+
     // Completes the next operation of the plan, of those that are ready.
     fn complete_ready(&mut self) -> Done
         requires { (state_of_shelf self.old).ready ≢ [] }
@@ -169,7 +184,7 @@ impl MemShelf {
 impl Shelf for MemShelf {
     ghost use Rattle.std.specs.Prelude.{OnOk, OnErr};
     ghost use Rattle.disk_model.specs.Operations.{Lies, sectors_of};
-    ghost use Rattle.disk_model.specs.Calls.{Submits, Reserves};
+    ghost use Rattle.disk_model.specs.Calls.{Reaps, Reserves, Submits};
     ghost use Rattle.dev_shelf.specs.DiskRow.{state_of};
     ghost use Rattle.dev_shelf.specs.DiskRowInvariant.{lawful_of};
     ghost use Rattle.dev_shelf.specs.HeldLaws.{lawful_back};
@@ -215,17 +230,11 @@ impl Shelf for MemShelf {
     }
 
     fn reap(&mut self) -> Option<Done>
-        ensures none { IsNone result ↔ ((state_of_shelf self.old).ready ≡ []) }
-        ensures cases { MatchOption result (MakesReady (state_of_shelf self.old) (state_of_shelf self.new)) (λ done. Completes (state_of_shelf self.old) done (state_of_shelf self.new)) }
-        ensures ready { IfSome result (λ done. Contains (state_of_shelf self.old).ready done.tag) }
+        ensures reaps { Reaps (state_of_shelf self.old) result (state_of_shelf self.new) }
         ensures plan { MatchOption result (plan_left self.new ≡ after_vain (state_of_shelf self.old).in_flight (plan_left self.old))
             (λ done. FollowsPlan (state_of_shelf self.old) (plan_left self.old) done (state_of_shelf self.new) (plan_left self.new)) }
     {
-        if self.has_ready() {
-            return Some(self.complete_ready());
-        }
-        self.count_vain();
-        None
+        self.reap_ready()
     }
 
     fn settle(&mut self) -> Option<Done>

@@ -15,6 +15,7 @@ pub mod Ordered
 pub mod ValueLists
 pub mod StepsSince
 pub mod ReadingAlone
+pub mod Reaping
 pub mod KeptSectors
 pub mod LastFault
 pub mod IdleAgain

@@ -1,6 +1,6 @@
 -- What the calls of a shelf do to its state.
 use Rattle.std.specs.Prelude.{◌≡◌, ◌≢◌, ◌≤◌, ◌<◌, ℕ, ◌+◌, Bool, not, ◌==◌, ◌&&◌, if◌then◌else◌, List, [], ◌∷◌, ◌++◌, length, filter}
-use Rattle.std.specs.Prelude.{Contains, IfSome, option_map}
+use Rattle.std.specs.Prelude.{Contains, IfSome, IsNone, MatchOption, Option, option_map, ◌↔◌}
 use Rattle.disk_model.specs.declared.ops.Op.{Op}
 use Rattle.disk_model.specs.declared.ops.Done.{Done}
 use Rattle.disk_model.specs.Steps.{Submitted, Completed, step_on}
@@ -49,3 +49,12 @@ pub record Completes (old : State) (done : Done) (new : State) : Type 0 where
   pub next : new.next_tag ≡ old.next_tag
   pub faults : (pv : ℕ) → new.faults pv ≡ (if not done.well && (disk_of done.op == pv) then old.faults pv + 1 else old.faults pv)
   pub sizes : new.sizes ≡ old.sizes
+
+-- More operations may have become ready since the last call, and then one that is ready completes. There is no answer exactly where
+-- none is ready, and then nothing else changes.
+pub record Reaps (old : State) (answer : Option Done) (new : State) : Type 0 where
+  pub looked : State
+  pub makes : MakesReady old looked
+  pub none : IsNone answer ↔ (looked.ready ≡ [])
+  pub cases : MatchOption answer (MakesReady looked new) (λ done. Completes looked done new)
+  pub ready : IfSome answer (λ done. Contains looked.ready done.tag)

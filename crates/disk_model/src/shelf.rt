@@ -1,8 +1,8 @@
 //! The trait of a row of disks, as every layer above sees it.
-ghost use Rattle.std.specs.Prelude.{◌≡◌, ◌≤◌, ◌<◌, ℕ, List, [], length, slice_index_or, IfSome, OnErr, OnOk, MatchOption, IsNone, Contains, ◌↔◌};
+ghost use Rattle.std.specs.Prelude.{◌≡◌, ◌≤◌, ◌<◌, ℕ, List, [], length, slice_index_or, OnErr, OnOk, MatchOption, IsNone, ◌↔◌};
 ghost use Rattle.disk_model.specs.Operations.{Lies, sectors_of};
 ghost use Rattle.disk_model.specs.State.{State, IsLawful};
-ghost use Rattle.disk_model.specs.Calls.{Submits, Completes, MakesReady, Reserves};
+ghost use Rattle.disk_model.specs.Calls.{Completes, MakesReady, Reaps, Reserves, Submits};
 
 use crate::{Done, Op};
 use std::alloc::AllocError;
@@ -46,11 +46,9 @@ pub trait Shelf {
         requires sectors { sectors_of op ≤ (state self.old).spare_sectors }
         ensures { Submits (state self.old) op result (state self.new) };
 
-    /// Completes an operation that is ready; `None` where none is. Others may have become ready since the last call.
+    /// Completes an operation that is ready; `None` where none is. It looks first which others have become ready since the last call.
     fn reap(&mut self) -> Option<Done>
-        ensures none { IsNone result ↔ ((state self.old).ready ≡ []) }
-        ensures cases { MatchOption result (MakesReady (state self.old) (state self.new)) (λ done. Completes (state self.old) done (state self.new)) }
-        ensures ready { IfSome result (λ done. Contains (state self.old).ready done.tag) };
+        ensures { Reaps (state self.old) result (state self.new) };
 
     /// Waits until an operation completes; `None` where none is in flight.
     fn settle(&mut self) -> Option<Done>
