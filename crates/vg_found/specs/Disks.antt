@@ -1,6 +1,9 @@
 -- The disks of a scan: their metadata areas, and what of them a scan decides over whatever the areas give.
-use Rattle.std.specs.Prelude.{ℕ, ◌+◌, ◌/◌, Bool, false, if◌then◌else◌, Option, Some, None, option_map, unwrap_or, List, [], ◌∷◌, ◌++◌, map}
-use Rattle.std.specs.Prelude.{filter_map}
+use Rattle.std.specs.Prelude.{ℕ, ◌+◌, ◌/◌, Bool, false, nat_lt, if◌then◌else◌, Option, Some, None, option_map, unwrap_or, List, [], ◌∷◌}
+use Rattle.std.specs.Prelude.{◌++◌, map, filter, filter_map, slice_get}
+use Rattle.std.specs.Option.{option_map_or}
+use Rattle.std.specs.FinSet as set
+use Rattle.std.specs.Ordering.{nat_cmp}
 use Rattle.mda_header.specs.declared.entry.HeaderEntry.{HeaderEntry}
 use Rattle.mda_header.specs.declared.entry.HeaderEntry.TheVariants.{Ignored, Nothing, Text, Refused}
 use Rattle.mda_header.specs.declared.header.Locn.{Locn}
@@ -85,6 +88,25 @@ disk_with (disk ∷ disks) id = if has_header_id id disk then 0 else disk_with d
 -- those of the physical volumes of a group
 abbrev pub disks_of : Group → List Disk → List ℕ
 disks_of group disks = map (λ (pv : List ℕ × Pv). disk_with disks pv.1.id) group.pvs
+
+-- ---- old headers
+
+-- whether the header on a disk is of an older version than 2
+abbrev pub has_old_header : Disk → Bool
+has_old_header disk = unwrap_or (option_map (λ (header : PvHeader). nat_lt header.version 2) (header_on disk.contents)) false
+
+-- whether there is a disk with this number that has such a header
+abbrev pub is_old : List Disk → ℕ → Bool
+is_old disks number = option_map_or has_old_header (slice_get disks number) false
+
+-- those of these numbers at which there is one
+abbrev pub old_among : List Disk → List ℕ → List ℕ
+old_among disks numbers = filter (is_old disks) numbers
+
+-- the disks of a group's physical volumes that have such headers; none without a group
+abbrev pub old_of : Option Group → List Disk → set.FinSet nat_cmp
+old_of None disks = set.empty
+old_of (Some group) disks = set.from_list (old_among disks (disks_of group disks))
 
 -- ---- the disks by the ids of their headers
 

@@ -10,7 +10,7 @@ use Rattle.scan_rules.specs.Decision.{first_duplicate, first_misplaced, ids_from
 use Rattle.scan_rules.specs.Found.{missing_of}
 use Rattle.vg_found.specs.declared.disk.Disk.{Disk}
 use Rattle.vg_found.specs.declared.found.Found.{Found}
-use Rattle.vg_found.specs.Disks.{disks_of, held_areas, shapes}
+use Rattle.vg_found.specs.Disks.{disks_of, held_areas, old_of, shapes}
 
 -- what was found on a disk of so many sectors can stand there
 abbrev pub ContentsCanStand : ℕ → ℕ → Option PvFound → Type 0
@@ -44,6 +44,8 @@ pub record HasShape (found : Found) : Type 0 where
   -- where its physical volumes are, and which are missing
   pub disk_of : IfSome found.group (λ group. found.disk_of ≡ disks_of group found.disks)
   pub missing : IfSome found.group (λ group. found.missing ≡ missing_of (shapes found.disks) group.pvs)
+  -- and which of their disks have old headers
+  pub old : found.old ≡ old_of found.group found.disks
   -- each disk that is named is one of them
   pub stale : All (λ area. area.0 < length found.disks) found.stale
   pub strays : (pv : ℕ) → set.contains found.strays pv ≡ true → pv < length found.disks

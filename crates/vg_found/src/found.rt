@@ -31,6 +31,8 @@ pub struct Found {
     pub stale: AreaSet,
     /// The disks that hold something of a group, and aren't listed by the one in force.
     pub strays: PvSet,
+    /// The disks of the group whose headers are of an older version than 2.
+    pub old: PvSet,
     /// The physical volumes of the group that are on no disk, or were away when its text was written.
     pub missing: Ids,
     /// The disk of each physical volume of the group; of one that is on none the number of disks.

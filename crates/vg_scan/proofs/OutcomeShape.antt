@@ -21,12 +21,12 @@ use Rattle.scan_rules.specs.Found.{missing_of}
 use Rattle.scan_rules.proofs.SameShape.{find_same, ids_same}
 use Rattle.vg_found.specs.declared.disk.Disk.{Disk}
 use Rattle.vg_found.specs.declared.found.Found.{Found}
-use Rattle.vg_found.specs.Disks.{disks_of, held_areas, shapes}
+use Rattle.vg_found.specs.Disks.{disks_of, held_areas, old_among, old_of, shapes}
 use Rattle.vg_found.specs.Laws.{AreasAreShaped}
 use Rattle.vg_found.specs.Shape.{HasShape, IsUnread}
 use Rattle.vg_scan.specs.Scanned.{HaveShapes}
 use Rattle.vg_scan.specs.Scans.{IsFoundBy}
-use Rattle.vg_scan.specs.Outcome.{IsOutcome}
+use Rattle.vg_scan.specs.Outcome.{IsOutcome, listed_disks}
 use Rattle.vg_scan.proofs.Deciding.{HasPlaces, answer_places, no_duplicate}
 use Rattle.mda_ring.specs.Areas.{CanTake, LieApart}
 
@@ -158,12 +158,25 @@ weaker : (P Q : GroupCopy → Type 0) → ((copy : GroupCopy) → P copy → Q c
 weaker P Q each None some = tt
 weaker P Q each (Some copy) some = each copy some
 
+-- the disks of the group, and the old ones of them
+of_listed : (o : Option Group) (disks : List Disk) (numbers : List ℕ) → numbers ≡ listed_disks o disks
+    → IfSome o (λ group. numbers ≡ disks_of group disks)
+of_listed None disks numbers is = tt
+of_listed (Some group) disks numbers is = is
+
+old_listed : (o : Option Group) (disks : List Disk) → set.from_list (old_among disks (listed_disks o disks)) ≡ old_of o disks
+old_listed None disks = refl
+old_listed (Some group) disks = refl
+
 has_shape : (disks : List Disk) (unread : set.FinSet nat_cmp) (rs : List Reading) (a : ScanAnswer) (decided : Decided) (found : Found)
     → 1 ≤ length disks → length disks ≤ 64 → HaveShapes disks unread rs → AreasAreShaped → first_duplicate (ids_from 0 rs) ≡ None
     → HasPlaces rs a → IsDecided a decided → HasParts found decided
     → found.disks ≡ disks → found.unread ≡ unread → found.areas ≡ held_areas 0 disks
-    → IfSome decided.copy (λ (copy : GroupCopy). found.disk_of ≡ disks_of copy.group disks) → HasShape found
-has_shape disks unread rs a decided found some few have shaped single places is parts disks_are unread_are areas_are disk_of_is =
+    → found.disk_of ≡ listed_disks (option_map (λ (copy : GroupCopy). copy.group) decided.copy) disks
+    → found.old ≡ set.from_list (old_among disks found.disk_of) → HasShape found
+has_shape disks unread rs a decided found some few have shaped single places is parts disks_are unread_are areas_are disk_of_is old_is =
+    let listed : found.disk_of ≡ listed_disks found.group found.disks =
+    disk_of_is ∙ ap (λ (o : Option Group). listed_disks o disks) (sym parts.group) ∙ ap (listed_disks found.group) (sym disks_are) in
     let at : HasPlacesOf rs decided = places_of rs a decided is places in
     let count : length rs ≡ length found.disks =
     sym (headers_length (shapes disks) rs have.headers) ∙ shapes_length disks ∙ ap length (sym disks_are) in
@@ -185,10 +198,10 @@ has_shape disks unread rs a decided found some few have shaped single places is 
           (λ copy none. ap (λ (l : List Disk). first_misplaced copy.group (shapes l)) disks_are
           ∙ find_same copy.group 0 (shapes disks) rs have.headers ∙ none)
           decided.copy at.placed);
-      disk_of = of_copy (λ group. found.disk_of ≡ disks_of group found.disks) decided.copy found.group parts.group
-          (weaker (λ copy. found.disk_of ≡ disks_of copy.group disks) (λ copy. found.disk_of ≡ disks_of copy.group found.disks)
-          (λ copy same. same ∙ ap (disks_of copy.group) (sym disks_are))
-          decided.copy disk_of_is);
+      disk_of = of_listed found.group found.disks found.disk_of listed;
+      old =
+          old_is ∙ ap (λ (l : List Disk). set.from_list (old_among l found.disk_of)) (sym disks_are)
+          ∙ ap (λ (l : List ℕ). set.from_list (old_among found.disks l)) listed ∙ old_listed found.group found.disks;
       missing = of_copy (λ group. found.missing ≡ missing_of (shapes found.disks) group.pvs) decided.copy found.group parts.group
           (weaker (λ copy. decided.missing ≡ missing_of rs copy.group.pvs)
           (λ copy. found.missing ≡ missing_of (shapes found.disks) copy.group.pvs)
@@ -215,13 +228,14 @@ pub outcome_of : (disks : List Disk) (unread : set.FinSet nat_cmp) (rs : List Re
     → 1 ≤ length disks → length disks ≤ 64 → HaveShapes disks unread rs → AreasAreShaped → IsDecided (decide_scan rs) decided
     → HasParts found decided
     → found.disks ≡ disks → found.unread ≡ unread → found.areas ≡ held_areas 0 disks
-    → IfSome decided.copy (λ (copy : GroupCopy). found.disk_of ≡ disks_of copy.group disks) → IsOutcome disks unread rs found
-outcome_of disks unread rs decided found some few have shaped is parts disks_are unread_are areas_are disk_of_is = record {
+    → found.disk_of ≡ listed_disks (option_map (λ (copy : GroupCopy). copy.group) decided.copy) disks
+    → found.old ≡ set.from_list (old_among disks found.disk_of) → IsOutcome disks unread rs found
+outcome_of disks unread rs decided found some few have shaped is parts disks_are unread_are areas_are disk_of_is old_is = record {
   disks_are = disks_are;
   unread_are = unread_are;
   answer = found_by (decide_scan rs) decided found parts is;
   areas = areas_are;
   shape =
       has_shape disks unread rs (decide_scan rs) decided found some few have shaped (no_duplicate rs decided is) (answer_places rs) is parts
-      disks_are unread_are areas_are disk_of_is;
+      disks_are unread_are areas_are disk_of_is old_is;
 }

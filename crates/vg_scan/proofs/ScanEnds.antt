@@ -117,6 +117,7 @@ scan_found s0 s count disks unread readings found scanned all is = record {
         answer = is.answer;
         areas = is.areas ∙ ap (held_areas 0) (sym is.disks_are);
         disk_of = is.shape.disk_of;
+        old = is.shape.old;
       })
       scanned.now;
   faults = subst (λ (p : set.FinSet nat_cmp). FailedOn p s0 s) (sym is.unread_are) scanned.faults;

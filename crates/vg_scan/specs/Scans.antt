@@ -15,7 +15,7 @@ use Rattle.scan_rules.specs.declared.decision.ScanRefusal.{ScanRefusal}
 use Rattle.scan_rules.specs.declared.decision.ScanRefusal.TheVariants.{NoMemory}
 use Rattle.vg_found.specs.declared.disk.Disk.{Disk}
 use Rattle.vg_found.specs.declared.found.Found.{Found}
-use Rattle.vg_found.specs.Disks.{disks_of, held_areas}
+use Rattle.vg_found.specs.Disks.{disks_of, held_areas, old_of}
 use Rattle.vg_found.specs.Shape.{HasShape}
 use Rattle.vg_scan.specs.Readings.{AreReadings}
 
@@ -35,8 +35,9 @@ pub record IsScanOf (image : Image) (sizes : List ℕ) (found : Found) : Type 0 
   pub are : AreReadings image sizes found.unread found.disks readings
   pub answer : IsFoundBy (decide_scan readings) found
   pub areas : found.areas ≡ held_areas 0 found.disks
-  -- its physical volumes are on the disks whose headers have their ids
+  -- its physical volumes are on the disks whose headers have their ids, and these headers are old, or not
   pub disk_of : IfSome found.group (λ group. found.disk_of ≡ disks_of group found.disks)
+  pub old : found.old ≡ old_of found.group found.disks
 
 -- they are refused so, the unread ones taken as empty
 pub record IsRefusalOfScan (image : Image) (sizes : List ℕ) (unread : set.FinSet nat_cmp) (refusal : ScanRefusal) : Type 0 where

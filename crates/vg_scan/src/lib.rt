@@ -1,4 +1,4 @@
-//! The scan of disks: the group in force by the copies of its metadata that the disks hold, and what is stale, stray, missing
+//! The scan of disks: the group in force by the copies of its metadata that the disks hold, and what is stale, stray, old, missing
 //! or unread.
 //!
 //! What a scan finds is a function of the disks' sectors: how each metadata area reads, and the decision over all readings. A

@@ -1,9 +1,8 @@
 //! What the readings of all disks come to.
-ghost use Rattle.std.specs.Prelude.{◌≡◌, ◌≤◌, [], length, option_map, unwrap_or, IfOk, IfSome, MatchResult};
+ghost use Rattle.std.specs.Prelude.{◌≡◌, ◌≤◌, [], length, option_map, unwrap_or, IfOk, MatchResult};
 ghost use Rattle.scan_rules.specs.Answers.{IsRefusedBy};
 ghost use Rattle.scan_rules.specs.Decision.{decide_scan};
-ghost use Rattle.vg_found.specs.Disks.{disks_of};
-ghost use Rattle.vg_scan.specs.Outcome.{IsOutcome};
+ghost use Rattle.vg_scan.specs.Outcome.{IsOutcome, listed_disks};
 ghost use Rattle.vg_scan.specs.Scanned.{HaveShapes};
 
 use meta_read::Unknown;
@@ -11,7 +10,7 @@ use scan_rules::{Decided, GroupCopy, Readings, ScanRefusal, decide};
 use sector_base::{ItemList, PvDisks, PvSet, Text};
 use std::alloc::{AllocError, Global};
 use vg_check::Checked;
-use vg_found::{Disk, DiskTable, Found, disks_of, held_areas};
+use vg_found::{Disk, DiskTable, Found, disks_of, held_areas, old_disks};
 
 // What the readings of these disks come to, of which some are unread.
 pub(crate) fn found_of(
@@ -34,6 +33,7 @@ pub(crate) fn found_of(
         missing,
     } = decided;
     let disk_of = pv_disks(alloc, &copy, &disks)?;
+    let old = old_disks(&disks, disk_of.as_slice());
     let (group, text, unknown) = parts_of(alloc, copy);
     Ok(Found {
         group,
@@ -43,16 +43,17 @@ pub(crate) fn found_of(
         areas,
         stale,
         strays,
+        old,
         missing,
         disk_of,
         unread,
     })
 }
 
-// The disks of the physical volumes of the group whose copy was found.
+// The disks of the physical volumes of the group whose copy was found; without a copy there are none.
 fn pv_disks(alloc: Global, copy: &Option<GroupCopy>, disks: &[Disk]) -> Result<PvDisks, AllocError>
     requires { length disks.now ≤ 64 }
-    ensures { IfOk result (λ numbers. IfSome copy.now (λ found. numbers ≡ disks_of found.group disks.now)) }
+    ensures { IfOk result (λ numbers. numbers ≡ listed_disks (option_map (λ found. found.group) copy.now) disks.now) }
 {
     match copy {
         Some(copy) => disks_of(alloc, copy.group.group(), disks),

@@ -1,9 +1,12 @@
 -- What was decided, and what stands on the disks, is what was found.
-use Rattle.std.proofs.Common.{◌≡◌, List, refl, ap, subst, ◌∙◌}
-use Rattle.std.specs.Prelude.{IfSome}
+use Rattle.std.proofs.Common.{ℕ, List, refl, ap, ◌∙◌}
+use Rattle.std.specs.FinSet as set
+use Rattle.std.specs.Prelude.{option_map}
+use Rattle.scan_rules.specs.declared.readings.GroupCopy.{GroupCopy}
 use Rattle.vg_found.specs.declared.disk.Disk.{Disk}
-use Rattle.vg_found.specs.Disks.{disks_of, held_areas}
+use Rattle.vg_found.specs.Disks.{held_areas, old_among}
 use Rattle.vg_found.proofs.ShapedAreas.{areas_shaped}
+use Rattle.vg_scan.specs.Outcome.{listed_disks}
 use Rattle.vg_scan.proofs.OutcomeShape.{outcome_of}
 use Rattle.vg_scan.proofs.outcome.found_of.Goals as goal
 
@@ -19,6 +22,7 @@ returns c =
       areas = c.in_ok-areas.areas;
       stale = decided.stale;
       strays = decided.strays;
+      old = c.old_disks-old.result;
       missing = decided.missing;
       disk_of = c.in_ok-disk_of.disk_of;
       unread = c.args.unread;
@@ -33,5 +37,6 @@ returns c =
       missing = refl;
     })
     c.from_vec.ensures refl (c.in_ok-areas.ensures ∙ ap (held_areas 0) c.deref.ensures.value)
-    (subst (λ (l : List Disk). IfSome decided.copy (λ copy. c.in_ok-disk_of.disk_of ≡ disks_of copy.group l)) c.deref-2.ensures.value
-    c.in_ok-disk_of.ensures)
+    (c.in_ok-disk_of.ensures ∙ ap (listed_disks (option_map (λ (copy : GroupCopy). copy.group) decided.copy)) c.deref-2.ensures.value)
+    (c.old_disks-old.ensures ∙ ap (λ (l : List Disk). set.from_list (old_among l c.as_slice.result.now)) c.deref-3.ensures.value
+    ∙ ap (λ (l : List ℕ). set.from_list (old_among c.args.disks.items l)) c.as_slice.ensures)
