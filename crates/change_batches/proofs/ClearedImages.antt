@@ -1,5 +1,5 @@
 -- What every image keeps while disks are cleared, and what is found once they are.
-use Rattle.std.proofs.Common.{◌≡◌, ◌≤◌, ◌<◌, ◌⊎◌, ℕ, ◌+◌, ◌/◌, ◌^◌, List, [], ◌∷◌, ◌++◌, length, map, get_or, Option, None, inl, inr}
+use Rattle.std.proofs.Common.{◌≡◌, ◌≤◌, ◌<◌, ◌⊎◌, ℕ, ◌+◌, ◌/◌, ◌^◌, false, List, [], ◌∷◌, ◌++◌, length, map, get_or, Option, None, inl, inr}
 use Rattle.std.proofs.Common.{⊎_elim, sym, ap, subst, ◌∙◌, arith}
 use Rattle.std.specs.Prelude.{All, take as front_of}
 use Rattle.std.specs.Ordering.{nat_cmp}
@@ -7,8 +7,6 @@ use Rattle.std.specs.FinSet as set
 use Rattle.std.proofs.lemmas.Bool.{true≢false}
 use Rattle.std.proofs.lemmas.List.Elements.{All-append}
 use Rattle.disk_model.specs.Steps.{Image}
-use Rattle.pv_label.specs.Label.{IsLabel}
-use Rattle.pv_header.specs.PvHeader.{IsPvHeader}
 use Rattle.mda_header.specs.Header.{IsHeader}
 use Rattle.mda_header.specs.HeaderBytes.{header_bytes}
 use Rattle.mda_header.specs.declared.header.Locn.{Locn}
@@ -30,9 +28,9 @@ use Rattle.change_batches.specs.Laws.{AreCleared, ClearsImages, ClearsKeep, IsEm
 use Rattle.change_batches.specs.Sound.{FitsFields}
 use Rattle.change_batches.proofs.ClearBatch.{clear_there, clear_where}
 use Rattle.change_batches.proofs.ClearedAreas.{cleared_far, cleared_held}
-use Rattle.change_batches.proofs.LabelPuts.{all_if, if_either, label_where, labels_keep_far, labels_there, no_label, with_if}
-use Rattle.change_batches.proofs.LabelsRead.{empty_read, header_found, label_read}
-use Rattle.change_batches.proofs.UnusedLabels.{labels_can, labels_differ, labels_found}
+use Rattle.change_batches.proofs.LabelPuts.{all_if, if_either, labels_keep_apart, labels_keep_far, labels_there, with_if}
+use Rattle.change_batches.proofs.LabelsRead.{empty_read, has_label, header_found}
+use Rattle.change_batches.proofs.MarkedLabels.{labels_can, labels_differ, labels_found}
 
 module _ (disks : List Disk) (areas : List (Area × Option Locn)) (scanned : AreScanned disks areas) (cleared : set.FinSet nat_cmp) where
   abbrev labels : List NewLabel
@@ -51,14 +49,15 @@ module _ (disks : List Disk) (areas : List (Area × Option Locn)) (scanned : Are
 
   labels_keep : (pv sector : ℕ) → 4 ≤ sector → All (KeepsSector pv sector) label_batches
   labels_keep pv sector far =
-      all_if (KeepsSector pv sector) (map label_put labels) (labels_keep_far labels (labels_can disks areas scanned cleared) pv sector far)
+      all_if (KeepsSector pv sector) (map label_put labels)
+      (labels_keep_far labels (labels_can disks areas scanned false cleared) pv sector far)
 
   header_far : (k : ℕ) (d : Area × Option Locn) → k < length on → 4 ≤ (get_or on k d).0.start / 512
   header_far k d within =
       let begins : 2048 ≤ (get_or on k d).0.start = cleared_far disks areas scanned cleared k d within in omega (arith, begins)
 
   -- the empty headers leave the first four sectors
-  headers_keep : (pv sector : ℕ) → sector < 4 → All (KeepsSector pv sector) header_batches
+  pub headers_keep : (pv sector : ℕ) → sector < 4 → All (KeepsSector pv sector) header_batches
   headers_keep pv sector low =
       all_if (KeepsSector pv sector) (map clear_put on)
       (keeps_sector (map clear_put on) pv sector
@@ -73,10 +72,7 @@ module _ (disks : List Disk) (areas : List (Area × Option Locn)) (scanned : Are
       → All (KeepsSector pv sector) (clear_batches cleared disks areas)
   all_keep pv sector other =
       All-append (KeepsSector pv sector) label_batches header_batches
-      (all_if (KeepsSector pv sector) (map label_put labels)
-      (keeps_sector (map label_put labels) pv sector
-      (λ value by. let w = label_where labels no_label pv sector value by in ⊎_elim (λ disk. disk w.2) (λ at. at w.3)
-      (other.labels w.0 no_label w.1))))
+      (all_if (KeepsSector pv sector) (map label_put labels) (labels_keep_apart labels pv sector other.labels))
       (all_if (KeepsSector pv sector) (map clear_put on)
       (keeps_sector (map clear_put on) pv sector
       (λ value by. let w = clear_where on no_area pv sector value by in true≢false (sym w.2 ∙ other.headers w.0 no_area w.1))))
@@ -90,7 +86,7 @@ module _ (disks : List Disk) (areas : List (Area × Option Locn)) (scanned : Are
     label_first k d within =
         let label : NewLabel = get_or labels k d in
         ap (λ (i : Image). i label.disk label.sector) (with_if (map label_put labels) base)
-        ∙ labels_there labels base (labels_differ disks areas scanned cleared) k d within
+        ∙ labels_there labels base (labels_differ disks areas scanned false cleared) k d within
 
     header_first : (k : ℕ) (d : Area × Option Locn) → k < length on
         → first (get_or on k d).0.pv ((get_or on k d).0.start / 512) ≡ base (get_or on k d).0.pv ((get_or on k d).0.start / 512)
@@ -107,11 +103,11 @@ module _ (disks : List Disk) (areas : List (Area × Option Locn)) (scanned : Are
         (λ in_labels.
         ⊎_elim
         (λ old. inl old)
-        (λ new. inr (new ∙ labels_there labels base (labels_differ disks areas scanned cleared) k d within))
+        (λ new. inr (new ∙ labels_there labels base (labels_differ disks areas scanned false cleared) k d within))
         (if_either (map label_put labels) base image label.disk label.sector in_labels))
         (λ in_headers.
         inr (front_kept header_batches first image label.disk label.sector
-        (headers_keep label.disk label.sector (labels_can disks areas scanned cleared k d within).sector_below) in_headers
+        (headers_keep label.disk label.sector (labels_can disks areas scanned false cleared k d within).sector_below) in_headers
         ∙ label_first k d within))
         (first_or_more label_batches header_batches base image h)
 
@@ -170,7 +166,8 @@ module _ (disks : List Disk) (areas : List (Area × Option Locn)) (scanned : Are
     label_last k d within =
         let label : NewLabel = get_or labels k d in
         last_is label.disk label.sector ∙ batches_kept header_batches first label.disk label.sector
-        (headers_keep label.disk label.sector (labels_can disks areas scanned cleared k d within).sector_below) ∙ label_first k d within
+        (headers_keep label.disk label.sector (labels_can disks areas scanned false cleared k d within).sector_below)
+        ∙ label_first k d within
 
     header_last : (k : ℕ) (d : Area × Option Locn) → k < length on
         → last (get_or on k d).0.pv ((get_or on k d).0.start / 512) ≡ header_bytes (header_of (get_or on k d).0 None None)
@@ -191,17 +188,9 @@ module _ (disks : List Disk) (areas : List (Area × Option Locn)) (scanned : Are
 
     pub are_cleared : All FitsFields labels → AreCleared cleared disks areas last
     are_cleared fields = record {
-      labels = λ k d within.
-          let label : NewLabel = get_or labels k d in
-          record {
-            label =
-                subst (λ (sector : List ℕ). IsLabel sector label.sector) (sym (label_last k d within))
-                (label_read label (labels_can disks areas scanned cleared k d within));
-            header =
-                subst (λ (sector : List ℕ). IsPvHeader sector label.header []) (sym (label_last k d within))
-                (header_found label (labels_can disks areas scanned cleared k d within) (fields k d within)
-                (labels_found disks areas scanned cleared k d within));
-          };
+      labels =
+          λ k d within. has_label (get_or labels k d) last (labels_can disks areas scanned false cleared k d within) (fields k d within)
+          (labels_found disks areas scanned false cleared k d within) (label_last k d within);
       headers = header_empty;
     }
 
@@ -212,6 +201,6 @@ module _ (disks : List Disk) (areas : List (Area × Option Locn)) (scanned : Are
     uncleared = λ base image n less h. uncleared_by base on header_far image n less h;
     done = λ base. are_cleared base fields;
     read =
-        λ k d within. header_found (get_or labels k d) (labels_can disks areas scanned cleared k d within) (fields k d within)
-        (labels_found disks areas scanned cleared k d within);
+        λ k d within. header_found (get_or labels k d) (labels_can disks areas scanned false cleared k d within) (fields k d within)
+        (labels_found disks areas scanned false cleared k d within);
   }

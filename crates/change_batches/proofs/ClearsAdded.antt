@@ -1,6 +1,5 @@
 -- The batches that clear disks, behind others.
 use Rattle.std.proofs.Common.{◌≡◌, List, [], ◌++◌, Option, map, ap, subst, ◌∙◌}
-use Rattle.std.specs.Prelude.{All}
 use Rattle.std.specs.Ordering.{nat_cmp}
 use Rattle.std.specs.FinSet as set
 use Rattle.std.proofs.lemmas.List.{append_assoc}
@@ -12,33 +11,29 @@ use Rattle.disk_batch.specs.declared.batch.Batch.{Batch}
 use Rattle.vg_found.specs.declared.disk.Disk.{Disk}
 use Rattle.group_plan.specs.Cleared.{cleared_areas, unused_labels}
 use Rattle.change_batches.specs.Batches.{batch_if, clear_put, label_put}
-use Rattle.change_batches.specs.Building.{AreClearsAdded, AreScanned, IsAdded}
-use Rattle.change_batches.specs.Sound.{sizes_of, FitsFields}
+use Rattle.change_batches.specs.Building.{AreClearsAdded, AreLabelsAdded, AreScanned, IsAdded}
+use Rattle.change_batches.specs.Sound.{sizes_of}
 use Rattle.change_batches.proofs.Adding.{added_run, added_writes}
 use Rattle.change_batches.proofs.ClearBatch.{clear_batch}
 use Rattle.change_batches.proofs.ClearedAreas.{cleared_held, cleared_lie}
-use Rattle.change_batches.proofs.LabelBatch.{label_batch}
-use Rattle.change_batches.proofs.UnusedLabels.{labels_can, labels_differ, labels_lie}
 
 module _ (disks : List Disk) (areas : List (Area × Option Locn)) (scanned : AreScanned disks areas) (cleared : set.FinSet nat_cmp)
-    (old middle new : List Batch) (labels : IsAdded (map label_put (unused_labels cleared disks)) old middle)
+    (old middle new : List Batch) (labels : AreLabelsAdded (unused_labels cleared disks) (sizes_of disks) old middle)
     (headers : IsAdded (map clear_put (cleared_areas cleared areas)) middle new) where
-  pub clears_added : All FitsFields (unused_labels cleared disks) → AreClearsAdded cleared disks areas old new
-  clears_added fields = record {
+  pub clears_added : AreClearsAdded cleared disks areas old new
+  clears_added = record {
     writes =
         added_writes (map clear_put (cleared_areas cleared areas)) middle new headers
         ∙ ap (λ (l : List (List Put)). l ++ batch_if (map clear_put (cleared_areas cleared areas)))
-        (added_writes (map label_put (unused_labels cleared disks)) old middle labels)
+        labels.writes
         ∙ append_assoc (map writes_of old) (batch_if (map label_put (unused_labels cleared disks)))
         (batch_if (map clear_put (cleared_areas cleared areas)));
     run = λ all.
         added_run (sizes_of disks) (map clear_put (cleared_areas cleared areas)) middle new headers
         (clear_batch (sizes_of disks) (cleared_areas cleared areas) (cleared_held disks areas scanned cleared)
         (cleared_lie disks areas scanned cleared))
-        (added_run (sizes_of disks) (map label_put (unused_labels cleared disks)) old middle labels
-        (label_batch (sizes_of disks) (unused_labels cleared disks) (labels_can disks areas scanned cleared)
-        (labels_lie disks areas scanned cleared) (labels_differ disks areas scanned cleared)) all);
-    fields = fields;
+        (labels.run all);
+    fields = labels.fields;
   }
 
 -- the same disks and areas by other names, behind no batch

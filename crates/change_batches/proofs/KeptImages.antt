@@ -84,8 +84,10 @@ module _ (areas : List (Area × Option Locn)) (take : All CanTake areas) (far : 
         alike image k d within (λ sector far'. front_kept new_batches base image (get_or areas k d).0.pv sector
         (elsewhere (get_or areas k d).0.pv sector other) h)
 
-    before_new : All (λ (label : NewLabel). KeepsSector label.disk label.sector puts) change.labels
-    before_new k d within = near (get_or change.labels k d).disk (get_or change.labels k d).sector (inr (can k d within).sector_below)
+    before_new : All (λ (label : NewLabel). All (KeepsSector label.disk label.sector) (batch_if puts)) change.labels
+    before_new k d within =
+        let label : NewLabel = get_or change.labels k d in
+        all_if (KeepsSector label.disk label.sector) puts (near label.disk label.sector (inr (can k d within).sector_below))
 
     behind_none : All (λ (label : NewLabel). All (KeepsSector label.disk label.sector) []) change.labels
     behind_none k d within = All-nil (KeepsSector (get_or change.labels k d).disk (get_or change.labels k d).sector)
@@ -211,8 +213,8 @@ module _ (areas : List (Area × Option Locn)) (take : All CanTake areas) (far : 
         (λ out. out)
         (cases_Bool (covers (area_span a.0) pv sector))
 
-    before_none : All (λ (label : NewLabel). KeepsSector label.disk label.sector []) change.labels
-    before_none k d within = refl
+    before_none : All (λ (label : NewLabel). All (KeepsSector label.disk label.sector) []) change.labels
+    before_none k d within = All-nil (KeepsSector (get_or change.labels k d).disk (get_or change.labels k d).sector)
 
     behind_commit : All (λ (label : NewLabel). All (KeepsSector label.disk label.sector) commit) change.labels
     behind_commit k d within =
@@ -233,14 +235,13 @@ module _ (areas : List (Area × Option Locn)) (take : All CanTake areas) (far : 
     kept_by image None is h =
         let puts : List Put = flat_map area_puts change.labels in (
           kept_none puts (near is) image h,
-          labels_kept puts change.labels [] differ (before_new puts (near is)) (behind_none puts (near is))
-              base image h,
+          labels_kept (batch_if puts) change.labels [] differ (behind_none puts (near is)) base (before_new puts (near is)) image h,
         )
     kept_by image (Some group) is h =
         let text : List ℕ = printed (tree_of group now) in (
           kept_some text (fits group is) (read group is) image h,
           labels_kept [] change.labels (commit text (fits group is) (read group is)) differ
-              (before_none text (fits group is) (read group is)) (behind_commit text (fits group is) (read group is)) base image h,
+              (behind_commit text (fits group is) (read group is)) base (before_none text (fits group is) (read group is)) image h,
         )
 
     pub change_kept : (image : Image) → HasFirstBatches (batches change.group) base image
@@ -253,11 +254,11 @@ module _ (areas : List (Area × Option Locn)) (take : All CanTake areas) (far : 
         ≡ label_bytes (get_or change.labels k d)
     there_by None is =
         let puts : List Put = flat_map area_puts change.labels in
-        labels_after puts change.labels [] differ (before_new puts (near is)) (behind_none puts (near is)) base
+        labels_after (batch_if puts) change.labels [] differ (behind_none puts (near is)) base
     there_by (Some group) is =
         let text : List ℕ = printed (tree_of group now) in
         labels_after [] change.labels (commit text (fits group is) (read group is)) differ
-        (before_none text (fits group is) (read group is)) (behind_commit text (fits group is) (read group is)) base
+        (behind_commit text (fits group is) (read group is)) base
 
     pub labels_stand : (k : ℕ) (d : NewLabel) → k < length change.labels
         → with_batches (batches change.group) base (get_or change.labels k d).disk (get_or change.labels k d).sector

@@ -102,12 +102,18 @@ labels_keep_far labels can pv sector far =
     let low : (get_or labels w.0 no_label).sector < 4 = (can w.0 no_label w.1).sector_below in
     omega (arith, far, low, w.3))
 
+-- other sectors
+pub labels_keep_apart : (labels : List NewLabel) (pv sector : ℕ)
+    → All (λ (label : NewLabel). (label.disk ≢ pv) ⊎ (label.sector ≢ sector)) labels → KeepsSector pv sector (map label_put labels)
+labels_keep_apart labels pv sector other =
+    keeps_sector (map label_put labels) pv sector
+    (λ value by.
+    let w = label_where labels no_label pv sector value by in ⊎_elim (λ disk. disk w.2) (λ at. at w.3) (other w.0 no_label w.1))
+
 -- and other disks
 pub labels_keep_other : (labels : List NewLabel) (pv sector : ℕ) → All (λ (label : NewLabel). label.disk ≢ pv) labels
     → KeepsSector pv sector (map label_put labels)
-labels_keep_other labels pv sector other =
-    keeps_sector (map label_put labels) pv sector
-    (λ value by. let w = label_where labels no_label pv sector value by in other w.0 no_label w.1 w.2)
+labels_keep_other labels pv sector other = labels_keep_apart labels pv sector (λ k d within. inl (other k d within))
 
 -- ---- a batch where it isn't empty
 
@@ -126,55 +132,49 @@ if_either (put ∷ puts) base image pv sector h = one_front (put ∷ puts) base 
 
 -- ---- with others before and behind that leave the labels' sectors
 
-module _ (puts : List Put) (labels : List NewLabel) (more : List (List Put)) (differ : AreApart labels)
-    (before : All (λ (label : NewLabel). KeepsSector label.disk label.sector puts) labels)
+module _ (front : List (List Put)) (labels : List NewLabel) (more : List (List Put)) (differ : AreApart labels)
     (behind : All (λ (label : NewLabel). All (KeepsSector label.disk label.sector) more) labels) (base : Image) where
+  abbrev both : List (List Put)
+  both = front ++ batch_if (map label_put labels)
+
   abbrev all : List (List Put)
-  all = batch_if puts ++ batch_if (map label_put labels) ++ more
+  all = both ++ more
 
-  -- before the labels, and once they are written
-  first_there : (k : ℕ) (d : NewLabel) → k < length labels
-      → with_batches (batch_if puts) base (get_or labels k d).disk (get_or labels k d).sector
-      ≡ base (get_or labels k d).disk (get_or labels k d).sector
-  first_there k d within =
-      let label : NewLabel = get_or labels k d in
-      batches_kept (batch_if puts) base label.disk label.sector (all_if (KeepsSector label.disk label.sector) puts (before k d within))
+  abbrev first : Image
+  first = with_batches front base
 
+  -- once they are written
   both_there : (k : ℕ) (d : NewLabel) → k < length labels
-      → with_batches (batch_if puts ++ batch_if (map label_put labels)) base (get_or labels k d).disk (get_or labels k d).sector
-      ≡ label_bytes (get_or labels k d)
+      → with_batches both base (get_or labels k d).disk (get_or labels k d).sector ≡ label_bytes (get_or labels k d)
   both_there k d within =
       let label : NewLabel = get_or labels k d in
-      let first : Image = with_batches (batch_if puts) base in
       ap (λ (i : Image). i label.disk label.sector)
-      (batches_append (batch_if puts) (batch_if (map label_put labels)) base ∙ with_if (map label_put labels) first)
+      (batches_append front (batch_if (map label_put labels)) base ∙ with_if (map label_put labels) first)
       ∙ labels_there labels first differ k d within
 
   pub labels_after : (k : ℕ) (d : NewLabel) → k < length labels
       → with_batches all base (get_or labels k d).disk (get_or labels k d).sector ≡ label_bytes (get_or labels k d)
   labels_after k d within =
       let label : NewLabel = get_or labels k d in
-      let both : List (List Put) = batch_if puts ++ batch_if (map label_put labels) in
       ap (λ (i : Image). i label.disk label.sector) (batches_append both more base)
       ∙ batches_kept more (with_batches both base) label.disk label.sector (behind k d within)
       ∙ both_there k d within
 
-  pub labels_kept : (image : Image) → HasFirstBatches all base image → LabelsKept labels base image
-  labels_kept image h k d within =
+  -- and on the way
+  pub labels_kept : All (λ (label : NewLabel). All (KeepsSector label.disk label.sector) front) labels → (image : Image)
+      → HasFirstBatches all base image → LabelsKept labels base image
+  labels_kept before image h k d within =
       let label : NewLabel = get_or labels k d in
-      let both : List (List Put) = batch_if puts ++ batch_if (map label_put labels) in
-      let first : Image = with_batches (batch_if puts) base in
       ⊎_elim
       (λ in_both.
       ⊎_elim
-      (λ in_first. inl (front_kept (batch_if puts) base image label.disk label.sector
-      (all_if (KeepsSector label.disk label.sector) puts (before k d within)) in_first))
+      (λ in_first. inl (front_kept front base image label.disk label.sector (before k d within) in_first))
       (λ in_labels.
       ⊎_elim
-      (λ old. inl (old ∙ first_there k d within))
+      (λ old. inl (old ∙ batches_kept front base label.disk label.sector (before k d within)))
       (λ new. inr (new ∙ labels_there labels first differ k d within))
       (if_either (map label_put labels) first image label.disk label.sector in_labels))
-      (first_or_more (batch_if puts) (batch_if (map label_put labels)) base image in_both))
+      (first_or_more front (batch_if (map label_put labels)) base image in_both))
       (λ in_more. inr (front_kept more (with_batches both base) image label.disk label.sector (behind k d within) in_more
       ∙ both_there k d within))
       (first_or_more both more base image h)

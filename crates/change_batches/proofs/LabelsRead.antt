@@ -5,6 +5,7 @@ use Rattle.std.proofs.lemmas.List.{drop_at}
 use Rattle.sector_base.specs.Checksum.{checksum, lvm_crc_start}
 use Rattle.sector_base.specs.Fields.{little_bytes}
 use Rattle.lvm_id.specs.LvmId.{IsId}
+use Rattle.disk_model.specs.Steps.{Image}
 use Rattle.pv_label.specs.Label.{IsLabel}
 use Rattle.pv_label.specs.LabelBytes.{summed_bytes}
 use Rattle.pv_label.proofs.LabelBytes.{IsLabel-with_label}
@@ -18,6 +19,7 @@ use Rattle.mda_header.specs.HeaderBytes.{header_bytes as mda_bytes, summed_bytes
 use Rattle.mda_header.proofs.ReadAgain.{header_read}
 use Rattle.group_plan.specs.declared.state.NewLabel.{NewLabel}
 use Rattle.change_batches.specs.Batches.{empty_area, label_bytes}
+use Rattle.change_batches.specs.Laws.{HasLabel}
 use Rattle.change_batches.specs.Sound.{CanLabel, FitsFields}
 use Rattle.change_batches.proofs.ChecksumBound.{checksum_below}
 
@@ -56,6 +58,14 @@ module _ (label : NewLabel) where
       subst (λ (h : PvHeader). IsPvHeader (label_bytes label) h []) (same_version label.header found.version)
       (IsPvHeader-written (label_bytes label) front label.header refl parts found.id fits.device fits.flags can.fits found.data_fit
       found.areas_fit found.offsets)
+
+  -- so both are found in an image that has its bytes
+  pub has_label : (image : Image) → CanLabel label → FitsFields label → CanBeFound label.header
+      → image label.disk label.sector ≡ label_bytes label → HasLabel image label
+  has_label image can fits found there = record {
+    label = subst (λ (sector : List ℕ). IsLabel sector label.sector) (sym there) (label_read can);
+    header = subst (λ (sector : List ℕ). IsPvHeader sector label.header []) (sym there) (header_found can fits found);
+  }
 
 -- the header of an empty area of at most 2^63 bytes
 pub empty_read : (area : Extent) → area.offset < 2 ^ 63 → area.size < 2 ^ 63 → IsHeader (mda_bytes (empty_area area)) (empty_area area)

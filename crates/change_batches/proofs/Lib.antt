@@ -16,5 +16,5 @@ pub mod KeptImages
 mod LabelBatch
 pub mod LabelPuts
 pub mod LabelsRead
-pub mod UnusedLabels
+pub mod MarkedLabels
 pub mod ZeroBatch

@@ -18,7 +18,8 @@ use Rattle.vg_commit.specs.Preparing.{AreWithin}
 use Rattle.vg_commit.specs.Written.{area_span}
 use Rattle.group_plan.specs.Cleared.{unused_labels}
 use Rattle.group_plan.specs.Judging.{lies_on, set_of}
-use Rattle.change_batches.specs.Batches.{clear_batches, text_batches}
+use Rattle.group_plan.specs.declared.state.NewLabel.{NewLabel}
+use Rattle.change_batches.specs.Batches.{batch_if, clear_batches, label_put, text_batches}
 use Rattle.change_batches.specs.Sound.{sizes_of, FitsFields}
 
 -- the disks of the writes
@@ -65,6 +66,13 @@ pub record AreScanned (disks : List Disk) (areas : List (Area × Option Locn)) :
   pub few : length disks ≤ 64
   pub each : (pv : ℕ) (disk : Disk) → slice_get disks pv ≡ Some disk → IsDisk pv disk
   pub held : areas ≡ held_areas 0 disks
+
+-- the batch of these label sectors stands behind the others, if there is one of them, and can run where they can, on disks of these
+-- sizes; what is written of labels fits its fields
+pub record AreLabelsAdded (labels : List NewLabel) (sizes : List ℕ) (old new : List Batch) : Type 0 where
+  pub writes : map writes_of new ≡ map writes_of old ++ batch_if (map label_put labels)
+  pub run : All (CanRun sizes) old → All (CanRun sizes) new
+  pub fields : All FitsFields labels
 
 -- the batches that clear these disks stand behind the others, and can run on the disks; what is written of labels fits its fields
 pub record AreClearsAdded (cleared : set.FinSet nat_cmp) (disks : List Disk) (areas : List (Area × Option Locn))

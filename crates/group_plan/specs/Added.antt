@@ -1,7 +1,6 @@
 -- The physical volumes that a line adds to a group.
 use Rattle.std.specs.Prelude.{ℕ, ◌-◌, ◌/◌, ◌^◌, ◌<◌, ◌≤◌, List, filter_map, map, Option, None, Some, option_map, slice_get, true, false}
 use Rattle.std.specs.Option.{option_and_then}
-use Rattle.std.specs.Prelude.{bit_or}
 use Rattle.command_table.specs.Options.{number_named}
 use Rattle.pv_header.specs.declared.header.PvHeader.{PvHeader}
 use Rattle.pv_header.specs.DataSectors.{data_end_of, data_start_of}
@@ -9,6 +8,7 @@ use Rattle.meta_model.specs.declared.pv.Pv.{Pv}
 use Rattle.disk_contents.specs.declared.contents.PvFound.{PvFound}
 use Rattle.disk_contents.specs.declared.contents.PvFound.TheVariants.{NoLabel, NoHeader, Whole}
 use Rattle.vg_found.specs.declared.disk.Disk.{Disk}
+use Rattle.group_plan.specs.Marks.{used}
 use Rattle.group_plan.specs.declared.added.AddedPv.{AddedPv}
 use Rattle.group_plan.specs.declared.state.GroupState.{GroupState}
 use Rattle.group_plan.specs.declared.state.NewLabel.{NewLabel}
@@ -70,7 +70,6 @@ pv_of extent_size added = record {
   pe_count = (data_end added - data_start added) / extent_size;
 }
 
--- its label as it is written: with version 2, and the lowest flag, which says that a group uses it
+-- its label as it is written: with version 2, and the mark that a group uses it
 abbrev pub label_of : AddedPv → NewLabel
-label_of added =
-    record { disk = added.disk; sector = added.label; header = record added.header { version = 2; flags = bit_or added.header.flags 1 } }
+label_of added = record { disk = added.disk; sector = added.label; header = used added.header }

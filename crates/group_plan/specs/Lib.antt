@@ -4,6 +4,7 @@ pub mod Cleared
 pub mod Committing
 pub mod Ids
 pub mod Judging
+pub mod Marks
 pub mod Members
 pub mod NewGroup
 pub mod Plans

@@ -9,11 +9,11 @@ ghost use Rattle.group_plan.specs.NewGroup.{change_with, extended, text_row};
 ghost use Rattle.group_plan.specs.Plans.{Plans};
 
 use crate::judging::{judge_text, set_of};
+use crate::marks::marked;
 use crate::{AddedPv, Change, GroupState, Labels, NewLabel, PlanRefusal, Spans};
 use group_edits::joined_group;
 use meta_model::{Group, Pv};
 use meta_print::printed_len;
-use pv_header::PvHeader;
 use sector_base::{ItemList, PvDisks, PvSet};
 use std::alloc::{AllocError, Global};
 use vg_check::Checked;
@@ -121,24 +121,9 @@ fn label_of(added: AddedPv) -> NewLabel
         header,
         ..
     } = added;
-    let PvHeader {
-        id,
-        device_bytes,
-        data_areas,
-        areas,
-        flags,
-        ..
-    } = header;
     NewLabel {
         disk,
         sector: label,
-        header: PvHeader {
-            id,
-            device_bytes,
-            data_areas,
-            areas,
-            version: 2,
-            flags: flags | 1,
-        },
+        header: marked(header, true),
     }
 }

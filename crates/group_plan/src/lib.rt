@@ -12,6 +12,7 @@ mod copied;
 mod ids;
 mod joined_group;
 mod judging;
+mod marks;
 mod members;
 mod refusal;
 mod state;
@@ -27,6 +28,7 @@ pub use copied::{copied_bytes, copied_disks, copied_text, group_name, volume_nam
 pub use ids::has_id;
 pub use joined_group::{commit, disks_with};
 pub use judging::{judge_areas, judge_count, judge_sizes, judge_used, set_of, stands_on_disk};
+pub use marks::marked;
 pub use members::{judge_members, pv_named, pvs_named};
 pub use refusal::PlanRefusal;
 pub use state::{Change, GroupState, Labels, NewLabel, Spans};
