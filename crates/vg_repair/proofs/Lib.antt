@@ -2,7 +2,9 @@ pub mod Sublists
 mod AreaDisks
 pub mod HeldAreas
 mod TextBatches
-pub mod StrayLabels
+pub mod NewLabels
+pub mod RepairedHeaders
+pub mod RepairedOld
 mod RepairBatches
 pub mod Numbered
 pub mod RepairedShape

@@ -38,7 +38,7 @@ use Rattle.vg_repair.specs.Stale.{is_among, stale_areas, stale_in, stale_on, tex
 use Rattle.vg_repair.proofs.Flagged.{Either, WithMarked, each_of_all, each_of_marked, if_marked, marked, unmarked, unmarked_with}
 use Rattle.vg_repair.proofs.HeldAreas.{each_far, stale_held}
 use Rattle.vg_repair.proofs.RepairedShape.{held_on}
-use Rattle.vg_repair.proofs.StrayLabels.{labels_can}
+use Rattle.vg_repair.proofs.NewLabels.{labels_can}
 
 -- ---- the areas that are held, each with a mark where it is stale
 
@@ -148,22 +148,23 @@ module _ (stale : List (ℕ × ℕ)) where
         ap (cons_option (held_area pv (repaired_area stale strays text pv (number, found)))) (now_on pv (number + 1) founds)
         ∙ one_now pv number found (held_area pv found) refl (marks_on stale pv (number + 1) founds)
 
-    now_disk : (pv : ℕ) (contents : Option PvFound)
-        → filter_map (held_area pv) (areas_on (option_map (repaired_contents stale strays text pv) contents))
-        ≡ map now_of (marks_on stale pv 0 (areas_on contents))
-    now_disk pv None = refl
-    now_disk pv (Some (NoLabel refusal)) = refl
-    now_disk pv (Some (NoHeader label refusal)) = refl
-    now_disk pv (Some (Whole label header areas)) = now_on pv 0 areas
+    module _ (olds : set.FinSet nat_cmp) where
+      now_disk : (pv : ℕ) (contents : Option PvFound)
+          → filter_map (held_area pv) (areas_on (option_map (repaired_contents stale strays olds text pv) contents))
+          ≡ map now_of (marks_on stale pv 0 (areas_on contents))
+      now_disk pv None = refl
+      now_disk pv (Some (NoLabel refusal)) = refl
+      now_disk pv (Some (NoHeader label refusal)) = refl
+      now_disk pv (Some (Whole label header areas)) = now_on pv 0 areas
 
-    now_all : (pv : ℕ) (disks : List Disk) → held_areas pv (map (repaired_disk stale strays text) (enumerate_from pv disks))
-        ≡ map now_of (marks_of stale pv disks)
-    now_all pv [] = refl
-    now_all pv (disk ∷ disks) =
-        ap (λ (l : List (Area × Option Locn)). l
-        ++ held_areas (pv + 1) (map (repaired_disk stale strays text) (enumerate_from (pv + 1) disks))) (now_disk pv disk.contents)
-        ∙ ap (λ (l : List (Area × Option Locn)). map now_of (marks_on stale pv 0 (areas_on disk.contents)) ++ l) (now_all (pv + 1) disks)
-        ∙ sym (map-append now_of (marks_on stale pv 0 (areas_on disk.contents)) (marks_of stale (pv + 1) disks))
+      now_all : (pv : ℕ) (disks : List Disk) → held_areas pv (map (repaired_disk stale strays olds text) (enumerate_from pv disks))
+          ≡ map now_of (marks_of stale pv disks)
+      now_all pv [] = refl
+      now_all pv (disk ∷ disks) =
+          ap (λ (l : List (Area × Option Locn)). l
+          ++ held_areas (pv + 1) (map (repaired_disk stale strays olds text) (enumerate_from (pv + 1) disks))) (now_disk pv disk.contents)
+          ∙ ap (λ (l : List (Area × Option Locn)). map now_of (marks_on stale pv 0 (areas_on disk.contents)) ++ l) (now_all (pv + 1) disks)
+          ∙ sym (map-append now_of (marks_on stale pv 0 (areas_on disk.contents)) (marks_of stale (pv + 1) disks))
 
 -- ---- in the image
 
@@ -270,7 +271,7 @@ module _ (found : Found) (shape : HasShape found) (images : KeepsImages found) (
       each_of_marked (ShowsBy (new_reading (text_of found)) last) marks
       (subst (All (ShowsBy (new_reading (text_of found)) last)) (sym stale_are) right.stale) in
       let aparts = unmarked_with LieApart marks (subst (AllPairs LieApart) (sym areas_are) shape.apart) in
-      subst (All (IsNamed last)) (sym (now_all found.stale found.strays (text_of found) 0 found.disks))
+      subst (All (IsNamed last)) (sym (now_all found.stale found.strays (text_of found) found.old 0 found.disks))
       (All-map (IsNamed last) (now_of found.stale found.strays (text_of found)) marks
       (λ k d within.
       named (get_or marks k d) (goods k d within) (fars k d within) (names_all k d within) (empties k d within) (shows k d within)

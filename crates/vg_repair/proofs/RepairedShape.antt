@@ -39,18 +39,22 @@ use Rattle.vg_commit.specs.Written.{new_entry}
 use Rattle.vg_commit.proofs.AreaPuts.{entry_inside, is_placed}
 use Rattle.group_plan.specs.Added.{pv_in}
 use Rattle.group_plan.specs.declared.state.NewLabel.{NewLabel}
-use Rattle.group_plan.specs.Cleared.{unused, unused_label}
+use Rattle.group_plan.specs.Cleared.{marked_label, marked_labels}
+use Rattle.group_plan.specs.Marks.{marked}
 use Rattle.change_batches.specs.Batches.{label_bytes}
 use Rattle.change_batches.specs.Sound.{FitsFields}
 use Rattle.change_batches.proofs.LabelsRead.{header_found}
-use Rattle.change_batches.proofs.UnusedLabels.{IsLabelOf}
-use Rattle.vg_repair.specs.Batches.{stray_labels}
-use Rattle.vg_repair.specs.Repaired.{repaired_area, repaired_areas, repaired_contents, repaired_disk, repaired_disks, repaired_held}
-use Rattle.vg_repair.specs.Repaired.{repaired_of, with_entry}
+use Rattle.change_batches.proofs.MarkedLabels.{IsLabelOf}
+use Rattle.vg_repair.specs.Batches.{new_labels, old_labels, stray_labels}
+use Rattle.vg_repair.specs.Repaired.{repaired_area, repaired_areas, repaired_contents, repaired_disk, repaired_disks, repaired_header}
+use Rattle.vg_repair.specs.Repaired.{repaired_held, repaired_of, with_entry}
 use Rattle.vg_repair.specs.Stale.{is_among, stale_areas, stale_in, stale_on, text_of, too_large, too_large_among}
 use Rattle.vg_repair.proofs.HeldAreas.{stale_held}
 use Rattle.vg_repair.proofs.Numbered.{all_at, all_in, mapped_all, mapped_at, mapped_length, mapped_same}
-use Rattle.vg_repair.proofs.StrayLabels.{label_is}
+use Rattle.vg_repair.proofs.NewLabels.{label_is}
+use Rattle.vg_repair.proofs.RepairedHeaders.{by_header, same_areas}
+use Rattle.vg_repair.proofs.RepairedOld.{none_old}
+use Rattle.vg_repair.proofs.Sublists.{all_back, all_front}
 
 -- ---- room
 
@@ -124,35 +128,27 @@ module _ (stale : List (ℕ × ℕ)) (strays : set.FinSet nat_cmp) (text : List 
 
 -- ---- a disk
 
-module _ (stale : List (ℕ × ℕ)) (strays : set.FinSet nat_cmp) (text : List ℕ) where
+module _ (stale : List (ℕ × ℕ)) (strays old : set.FinSet nat_cmp) (text : List ℕ) where
   abbrev new_disk : ℕ × Disk → Disk
-  new_disk = repaired_disk stale strays text
+  new_disk = repaired_disk stale strays old text
 
   -- a scan judges it as before
-  shape_by : (sectors label : ℕ) (header : PvHeader) (areas : List AreaFound) (stray : Bool)
-      → disk_shape (record { sectors = sectors; contents = Some (Whole label (cond stray (unused header) header) areas) })
-      ≡ disk_shape (record { sectors = sectors; contents = Some (Whole label header areas) })
-  shape_by sectors label header areas true = refl
-  shape_by sectors label header areas false = refl
-
   shape_kept : (pv sectors : ℕ) (contents : Option PvFound)
       → disk_shape (new_disk (pv, record { sectors = sectors; contents = contents }))
       ≡ disk_shape (record { sectors = sectors; contents = contents })
   shape_kept pv sectors None = refl
   shape_kept pv sectors (Some (NoLabel refusal)) = refl
   shape_kept pv sectors (Some (NoHeader label refusal)) = refl
-  shape_kept pv sectors (Some (Whole label header areas)) = shape_by sectors label header areas (set.contains strays pv)
+  shape_kept pv sectors (Some (Whole label header areas)) =
+      by_header strays old pv header
+      (λ h. disk_shape (record { sectors = sectors; contents = Some (Whole label h areas) })
+      ≡ disk_shape (record { sectors = sectors; contents = Some (Whole label header areas) }))
+      (λ stray. refl) (λ stray was. refl) (λ stray was. refl)
 
-  pub shapes_kept : (disks : List Disk) → shapes (repaired_disks stale strays text disks) ≡ shapes disks
+  pub shapes_kept : (disks : List Disk) → shapes (repaired_disks stale strays old text disks) ≡ shapes disks
   shapes_kept disks = mapped_same new_disk disk_shape disk_shape (λ pv disk. shape_kept pv disk.sectors disk.contents) 0 disks
 
   -- its id stays
-  id_by : (id : List ℕ) (sectors label : ℕ) (header : PvHeader) (areas more : List AreaFound) (stray : Bool)
-      → has_header_id id (record { sectors = sectors; contents = Some (Whole label (cond stray (unused header) header) more) })
-      ≡ has_header_id id (record { sectors = sectors; contents = Some (Whole label header areas) })
-  id_by id sectors label header areas more true = refl
-  id_by id sectors label header areas more false = refl
-
   id_kept : (id : List ℕ) (pv sectors : ℕ) (contents : Option PvFound)
       → has_header_id id (new_disk (pv, record { sectors = sectors; contents = contents }))
       ≡ has_header_id id (record { sectors = sectors; contents = contents })
@@ -160,7 +156,10 @@ module _ (stale : List (ℕ × ℕ)) (strays : set.FinSet nat_cmp) (text : List 
   id_kept id pv sectors (Some (NoLabel refusal)) = refl
   id_kept id pv sectors (Some (NoHeader label refusal)) = refl
   id_kept id pv sectors (Some (Whole label header areas)) =
-      id_by id sectors label header areas (repaired_areas stale strays text pv areas) (set.contains strays pv)
+      by_header strays old pv header
+      (λ h. has_header_id id (record { sectors = sectors; contents = Some (Whole label h (repaired_areas stale strays text pv areas)) })
+      ≡ has_header_id id (record { sectors = sectors; contents = Some (Whole label header areas) }))
+      (λ stray. refl) (λ stray was. refl) (λ stray was. refl)
 
   with_kept : (id : List ℕ) (first : ℕ) (disks : List Disk) → disk_with (map new_disk (enumerate_from first disks)) id ≡ disk_with disks id
   with_kept id first [] = refl
@@ -169,29 +168,32 @@ module _ (stale : List (ℕ × ℕ)) (strays : set.FinSet nat_cmp) (text : List 
       (id_kept id first disk.sectors disk.contents)
       ∙ ap (λ (n : ℕ). cond (has_header_id id disk) 0 (n + 1)) (with_kept id (first + 1) disks)
 
-  pub disks_kept : (group : Group) (disks : List Disk) → disks_of group (repaired_disks stale strays text disks) ≡ disks_of group disks
+  pub disks_kept : (group : Group) (disks : List Disk) → disks_of group (repaired_disks stale strays old text disks) ≡ disks_of group disks
   disks_kept group disks = ap (λ (f : List ℕ → ℕ). map (λ (pv : List ℕ × Pv). f pv.1.id) group.pvs) (fun_ext (λ id. with_kept id 0 disks))
 
   -- and so are the numbers of the disks of a group that was found
   pub numbers_kept : (o : Option Group) (disk_of : List ℕ) (disks : List Disk) → IfSome o (λ group. disk_of ≡ disks_of group disks)
-      → IfSome o (λ group. disk_of ≡ disks_of group (repaired_disks stale strays text disks))
+      → IfSome o (λ group. disk_of ≡ disks_of group (repaired_disks stale strays old text disks))
   numbers_kept None disk_of disks is = tt
   numbers_kept (Some group) disk_of disks is = is ∙ sym (disks_kept group disks)
 
 -- ---- all of it
 
-module _ (found : Found) (shape : HasShape found) (fits : too_large found ≡ None) (fields : All FitsFields (stray_labels found)) where
+module _ (found : Found) (shape : HasShape found) (fits : too_large found ≡ None) (fields : All FitsFields (new_labels found)) where
   abbrev stale : List (ℕ × ℕ)
   stale = found.stale
 
   abbrev strays : set.FinSet nat_cmp
   strays = found.strays
 
+  abbrev old : set.FinSet nat_cmp
+  old = found.old
+
   abbrev text : List ℕ
   text = text_of found
 
   abbrev disks : List Disk
-  disks = repaired_disks stale strays text found.disks
+  disks = repaired_disks stale strays old text found.disks
 
   module _ (pv : ℕ) (disk : Disk) (there : slice_get found.disks pv ≡ Some disk) where
     -- a stale area has room for the text
@@ -206,55 +208,61 @@ module _ (found : Found) (shape : HasShape found) (fits : too_large found ≡ No
               (rooms text (stale_areas found) fits),
         )
 
-    -- a stray's header can be read where its label is written
-    stray_reads : (label : ℕ) (header : PvHeader) (areas : List AreaFound) → disk.contents ≡ Some (Whole label header areas)
-        → (stray : Bool) → set.contains strays pv ≡ stray
-        → (sector : List ℕ) × Reads sector (disk.sectors * 512) header
-        → (sector : List ℕ) × Reads sector (disk.sectors * 512) (cond stray (unused header) header)
-    stray_reads label header areas is false none reads = reads
-    stray_reads label header areas is true stray reads =
-        let new : NewLabel = record { disk = pv; sector = label; header = unused header } in
-        let labelled : unused_label strays (pv, disk) ≡ Some new =
-        ap (λ (b : Bool). cond b (option_map (λ (p : ℕ × PvHeader). record { disk = pv; sector = p.0; header = unused p.1 })
-        (option_and_then pv_in disk.contents)) None) stray
-        ∙ ap (λ (c : Option PvFound). option_map (λ (p : ℕ × PvHeader). record { disk = pv; sector = p.0; header = unused p.1 })
+    -- a header can be read where its label is written
+    marked_reads : (in_use : Bool) (among : set.FinSet nat_cmp) → All FitsFields (marked_labels in_use among found.disks)
+        → (label : ℕ) (header : PvHeader) (areas : List AreaFound) → disk.contents ≡ Some (Whole label header areas)
+        → set.contains among pv ≡ true → (sector : List ℕ) × Reads sector (disk.sectors * 512) header
+        → (sector : List ℕ) × Reads sector (disk.sectors * 512) (marked in_use header)
+    marked_reads in_use among all label header areas is on reads =
+        let new : NewLabel = record { disk = pv; sector = label; header = marked in_use header } in
+        let labelled : marked_label in_use among (pv, disk) ≡ Some new =
+        ap (λ (b : Bool). cond b (option_map (λ (p : ℕ × PvHeader). record { disk = pv; sector = p.0; header = marked in_use p.1 })
+        (option_and_then pv_in disk.contents)) None) on
+        ∙ ap (λ (c : Option PvFound). option_map (λ (p : ℕ × PvHeader). record { disk = pv; sector = p.0; header = marked in_use p.1 })
         (option_and_then pv_in c)) is
         in
-        let member : In (stray_labels found) new = kept_has (unused_label strays) found.disks new pv disk there labelled in
-        let holds : IsLabelOf _ pv new = label_is found shape pv disk there new labelled in (
+        let member : In (marked_labels in_use among found.disks) new =
+        kept_has (marked_label in_use among) found.disks new pv disk there labelled in
+        let holds : IsLabelOf _ pv new = label_is found shape in_use among pv disk there new labelled in (
           label_bytes new,
           record {
-            fields = header_found new holds.can (all_in FitsFields (stray_labels found) new member fields)
-                holds.found;
+            fields = header_found new holds.can (all_in FitsFields (marked_labels in_use among found.disks) new member all) holds.found;
             areas = reads.1.areas;
           },
         )
 
+    header_reads : (label : ℕ) (header : PvHeader) (areas : List AreaFound) → disk.contents ≡ Some (Whole label header areas)
+        → (sector : List ℕ) × Reads sector (disk.sectors * 512) header
+        → (sector : List ℕ) × Reads sector (disk.sectors * 512) (repaired_header strays old pv header)
+    header_reads label header areas is reads =
+        by_header strays old pv header (λ h. (sector : List ℕ) × Reads sector (disk.sectors * 512) h)
+        (λ stray. marked_reads false strays (all_back FitsFields (old_labels found) (stray_labels found) fields) label header areas is stray
+        reads)
+        (λ stray was. marked_reads true old (all_front FitsFields (old_labels found) (stray_labels found) fields) label header areas is was
+        reads)
+        (λ stray was. reads)
+
     contents_stand : (contents : Option PvFound) → disk.contents ≡ contents → ContentsCanStand pv disk.sectors contents
-        → ContentsCanStand pv disk.sectors (option_map (repaired_contents stale strays text pv) contents)
+        → ContentsCanStand pv disk.sectors (option_map (repaired_contents stale strays old text pv) contents)
     contents_stand None is stands = tt
     contents_stand (Some (NoLabel refusal)) is stands = tt
     contents_stand (Some (NoHeader label refusal)) is stands = stands
     contents_stand (Some (Whole label header areas)) is stands = (
       stands.0,
-      stray_reads label header areas is (set.contains strays pv) refl stands.1,
+      header_reads label header areas is stands.1,
       mapped_same (repaired_area stale strays text pv) (λ (found : AreaFound). found.area) (λ (found : AreaFound). found.area)
-          (λ number area. area_kept stale strays text pv number area) 0 areas ∙ stands.2 ∙ lists (set.contains strays pv),
+          (λ number area. area_kept stale strays text pv number area) 0 areas ∙ stands.2 ∙ same_areas strays old pv header,
       mapped_all (repaired_area stale strays text pv) (IsUsable pv disk.sectors) areas
           (λ number area at. area_usable stale strays text pv disk.sectors number area
           (all_at (IsUsable pv disk.sectors) areas number area at stands.3)
           (λ held old. has_room number area (ap (λ (c : Option PvFound). slice_get (areas_on c) number) is ∙ at) held old)),
     )
-      where
-        lists : (stray : Bool) → header.areas ≡ (cond stray (unused header) header).areas
-        lists true = refl
-        lists false = refl
 
-    disk_stands : IsDisk pv disk → IsDisk pv (repaired_disk stale strays text (pv, disk))
+    disk_stands : IsDisk pv disk → IsDisk pv (repaired_disk stale strays old text (pv, disk))
     disk_stands is = record { least = is.least; most = is.most; contents = contents_stand disk.contents refl is.contents }
 
     unread_by : (contents : Option PvFound) → (contents ≡ None) ↔ (set.contains found.unread pv ≡ true)
-        → (option_map (repaired_contents stale strays text pv) contents ≡ None) ↔ (set.contains found.unread pv ≡ true)
+        → (option_map (repaired_contents stale strays old text pv) contents ≡ None) ↔ (set.contains found.unread pv ≡ true)
     unread_by None is = is
     unread_by (Some contents) is = (λ none. absurd cc, λ unread. absurd (never (is.1 unread)))
       where
@@ -263,16 +271,16 @@ module _ (found : Found) (shape : HasShape found) (fits : too_large found ≡ No
 
   new_at : (pv : ℕ) (disk : Disk) → slice_get disks pv ≡ Some disk → IsDisk pv disk × IsUnread found.unread pv disk
   new_at pv disk is =
-      let w = mapped_at (repaired_disk stale strays text) found.disks pv disk is in
-      let old = shape.disks pv w.0 w.1 in
+      let w = mapped_at (repaired_disk stale strays old text) found.disks pv disk is in
+      let came = shape.disks pv w.0 w.1 in
       subst (λ (d : Disk). IsDisk pv d × IsUnread found.unread pv d) w.2
-      (disk_stands pv w.0 w.1 old.0, unread_by pv w.0 w.1 w.0.contents old.1)
+      (disk_stands pv w.0 w.1 came.0, unread_by pv w.0 w.1 w.0.contents came.1)
 
   same_length : length disks ≡ length found.disks
-  same_length = mapped_length (repaired_disk stale strays text) found.disks
+  same_length = mapped_length (repaired_disk stale strays old text) found.disks
 
   same_shapes : shapes found.disks ≡ shapes disks
-  same_shapes = sym (shapes_kept stale strays text found.disks)
+  same_shapes = sym (shapes_kept stale strays old text found.disks)
 
   pub repaired_shape : HasShape (repaired_of found)
   repaired_shape =
@@ -286,9 +294,11 @@ module _ (found : Found) (shape : HasShape found) (fits : too_large found ≡ No
         take = shaped.0;
         apart = shaped.1;
         placed = subst (λ (s : List Reading). IfSome found.group (λ group. first_misplaced group s ≡ None)) same_shapes shape.placed;
-        disk_of = numbers_kept found.stale found.strays (text_of found) found.group found.disk_of found.disks shape.disk_of;
+        disk_of = numbers_kept found.stale found.strays found.old (text_of found) found.group found.disk_of found.disks shape.disk_of;
         missing =
             subst (λ (s : List Reading). IfSome found.group (λ group. found.missing ≡ missing_of s group.pvs)) same_shapes shape.missing;
+        old =
+            none_old stale strays old text found.disks (λ group. disks_kept stale strays old text group found.disks) found.group shape.old;
         stale = All-nil (λ (area : ℕ × ℕ). area.0 < length disks);
         strays = λ pv is. absurd (true≢false (sym is ∙ set.contains-empty nat_cmp pv));
         unread = λ pv is. subst (λ (n : ℕ). pv < n) (sym same_length) (shape.unread pv is);
@@ -310,9 +320,9 @@ never_not_whole found (ReadFailed pv) is not = none_first (range_with_len 0 64) 
 never_not_whole found Partial is not = not.1 is.there
 
 -- what it is made of
-pub remade : (found : Found) (made : List Disk) (held : List (Area × Option Locn)) (old : List (ℕ × ℕ)) (left : set.FinSet nat_cmp)
-    → made ≡ repaired_disks found.stale found.strays (text_of found) found.disks
-    → held ≡ held_areas 0 (repaired_disks found.stale found.strays (text_of found) found.disks) → old ≡ [] → left ≡ set.empty
-    → record found { disks = made; areas = held; stale = old; strays = left } ≡ repaired_of found
-remade found made held old left same_made same_held none_old none_left =
-    λ i. record found { disks = same_made i; areas = same_held i; stale = none_old i; strays = none_left i }
+pub remade : (found : Found) (made : List Disk) (held : List (Area × Option Locn)) (stale : List (ℕ × ℕ)) (strays old : set.FinSet nat_cmp)
+    → made ≡ repaired_disks found.stale found.strays found.old (text_of found) found.disks
+    → held ≡ held_areas 0 (repaired_disks found.stale found.strays found.old (text_of found) found.disks) → stale ≡ [] → strays ≡ set.empty
+    → old ≡ set.empty → record found { disks = made; areas = held; stale = stale; strays = strays; old = old } ≡ repaired_of found
+remade found made held stale strays old same_made same_held no_stale no_stray no_old =
+    λ i. record found { disks = same_made i; areas = same_held i; stale = no_stale i; strays = no_stray i; old = no_old i }

@@ -9,8 +9,9 @@ use Rattle.vg_repair.proofs.Numbered.{mapped_length, mapped_same}
 
 pub repaired_sizes : (found : Found) → sizes_of (repaired_of found).disks ≡ sizes_of found.disks
 repaired_sizes found =
-    mapped_same (repaired_disk found.stale found.strays (text_of found)) (λ (disk : Disk). disk.sectors) (λ (disk : Disk). disk.sectors)
+    mapped_same (repaired_disk found.stale found.strays found.old (text_of found)) (λ (disk : Disk). disk.sectors)
+    (λ (disk : Disk). disk.sectors)
     (λ number disk. refl) 0 found.disks
 
 pub repaired_count : (found : Found) → length (repaired_of found).disks ≡ length found.disks
-repaired_count found = mapped_length (repaired_disk found.stale found.strays (text_of found)) found.disks
+repaired_count found = mapped_length (repaired_disk found.stale found.strays found.old (text_of found)) found.disks

@@ -60,4 +60,4 @@ module _ (strays : set.FinSet nat_cmp) where
 
 pub stale_elsewhere : (found : Found) → StraysAreOthers found
     → All (λ (area : Area × Option Locn). set.contains found.strays area.0.pv ≡ false) (stale_areas found)
-stale_elsewhere found others = on_disks found.strays found.stale others 0 found.disks
+stale_elsewhere found others = on_disks found.strays found.stale others.stale 0 found.disks

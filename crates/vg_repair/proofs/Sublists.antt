@@ -53,6 +53,16 @@ module _ {X : Type 0} (R : X → X → Type 0) where
       (some_pairs xs ys here.1 (pairs_later y ys pairs))
   some_pairs (x ∷ xs) (y ∷ ys) (inr later) pairs = some_pairs (x ∷ xs) ys later (pairs_later y ys pairs)
 
+-- what holds of all of two lists holds of all of each
+module _ {X : Type 0} (P : X → Type 0) where
+  pub all_front : (xs ys : List X) → All P (xs ++ ys) → All P xs
+  all_front [] ys all = All-nil P
+  all_front (x ∷ xs) ys all = All-cons P x xs (All-head P x (xs ++ ys) all) (all_front xs ys (All-tail P x (xs ++ ys) all))
+
+  pub all_back : (xs ys : List X) → All P (xs ++ ys) → All P ys
+  all_back [] ys all = all
+  all_back (x ∷ xs) ys all = all_back xs ys (All-tail P x (xs ++ ys) all)
+
 -- ---- areas
 
 one_some : (stale : Bool) (held : Option (Area × Option Locn)) (xs ys : List (Area × Option Locn)) → AreSomeOf xs ys

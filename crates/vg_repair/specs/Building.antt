@@ -9,7 +9,7 @@ use Rattle.vg_found.specs.declared.found.Found.{Found}
 use Rattle.vg_commit.specs.Plans.{HeadersRead}
 use Rattle.change_batches.specs.Building.{LiesIn}
 use Rattle.change_batches.specs.Sound.{sizes_of, FitsFields}
-use Rattle.vg_repair.specs.Batches.{repair_batches, stale_batches, stray_labels}
+use Rattle.vg_repair.specs.Batches.{new_labels, repair_batches, stale_batches}
 use Rattle.vg_repair.specs.Stale.{stale_areas, text_of, too_large, too_large_among}
 
 -- the three batches of a commit of the text to these areas, if there are any, stand behind the others; each area has room, and
@@ -27,4 +27,4 @@ pub record IsMade (found : Found) (batches : List Batch) : Type 0 where
   pub run : All (CanRun (sizes_of found.disks)) batches
   pub room : too_large found ≡ None
   pub read : All (HeadersRead (text_of found)) (stale_areas found)
-  pub fields : All FitsFields (stray_labels found)
+  pub fields : All FitsFields (new_labels found)

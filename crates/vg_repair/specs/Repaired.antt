@@ -15,7 +15,8 @@ use Rattle.vg_found.specs.Disks.{held_area, held_areas}
 use Rattle.vg_found.specs.declared.disk.Disk.{Disk}
 use Rattle.vg_found.specs.declared.found.Found.{Found}
 use Rattle.vg_commit.specs.Written.{new_entry}
-use Rattle.group_plan.specs.Cleared.{unused}
+use Rattle.group_plan.specs.Marks.{unused, used}
+use Rattle.pv_header.specs.declared.header.PvHeader.{PvHeader}
 use Rattle.vg_repair.specs.Stale.{is_among, text_of}
 
 -- what a header says in which this text is committed, or none
@@ -46,27 +47,33 @@ repaired_area stale strays text disk found = option_map_or (repaired_held stale 
 abbrev pub repaired_areas : List (ℕ × ℕ) → set.FinSet nat_cmp → List ℕ → ℕ → List AreaFound → List AreaFound
 repaired_areas stale strays text disk areas = map (repaired_area stale strays text disk) (enumerate_from 0 areas)
 
+-- the header of a disk as it is found then: a stray's is in use no more, an old one is brought up, and another is as it was
+abbrev pub repaired_header : set.FinSet nat_cmp → set.FinSet nat_cmp → ℕ → PvHeader → PvHeader
+repaired_header strays old disk header =
+    if set.contains strays disk then unused header else if set.contains old disk then used header else header
+
 -- what stands on a disk then
-abbrev pub repaired_contents : List (ℕ × ℕ) → set.FinSet nat_cmp → List ℕ → ℕ → PvFound → PvFound
-repaired_contents stale strays text disk (NoLabel refusal) = NoLabel refusal
-repaired_contents stale strays text disk (NoHeader label refusal) = NoHeader label refusal
-repaired_contents stale strays text disk (Whole label header areas) =
-    Whole label (if set.contains strays disk then unused header else header) (repaired_areas stale strays text disk areas)
+abbrev pub repaired_contents : List (ℕ × ℕ) → set.FinSet nat_cmp → set.FinSet nat_cmp → List ℕ → ℕ → PvFound → PvFound
+repaired_contents stale strays old text disk (NoLabel refusal) = NoLabel refusal
+repaired_contents stale strays old text disk (NoHeader label refusal) = NoHeader label refusal
+repaired_contents stale strays old text disk (Whole label header areas) =
+    Whole label (repaired_header strays old disk header) (repaired_areas stale strays text disk areas)
 
 -- a disk as it is found then, by its number
-abbrev pub repaired_disk : List (ℕ × ℕ) → set.FinSet nat_cmp → List ℕ → ℕ × Disk → Disk
-repaired_disk stale strays text disk =
-    record { sectors = disk.1.sectors; contents = option_map (repaired_contents stale strays text disk.0) disk.1.contents }
+abbrev pub repaired_disk : List (ℕ × ℕ) → set.FinSet nat_cmp → set.FinSet nat_cmp → List ℕ → ℕ × Disk → Disk
+repaired_disk stale strays old text disk =
+    record { sectors = disk.1.sectors; contents = option_map (repaired_contents stale strays old text disk.0) disk.1.contents }
 
 -- all disks as they are found then
-abbrev pub repaired_disks : List (ℕ × ℕ) → set.FinSet nat_cmp → List ℕ → List Disk → List Disk
-repaired_disks stale strays text disks = map (repaired_disk stale strays text) (enumerate_from 0 disks)
+abbrev pub repaired_disks : List (ℕ × ℕ) → set.FinSet nat_cmp → set.FinSet nat_cmp → List ℕ → List Disk → List Disk
+repaired_disks stale strays old text disks = map (repaired_disk stale strays old text) (enumerate_from 0 disks)
 
--- all that is found once a repair is done: nothing stale and no stray, and all else as it was
+-- all that is found once a repair is done: nothing stale, no stray and no old disk, and all else as it was
 abbrev pub repaired_of : Found → Found
 repaired_of found = record found {
-  disks = repaired_disks found.stale found.strays (text_of found) found.disks;
-  areas = held_areas 0 (repaired_disks found.stale found.strays (text_of found) found.disks);
+  disks = repaired_disks found.stale found.strays found.old (text_of found) found.disks;
+  areas = held_areas 0 (repaired_disks found.stale found.strays found.old (text_of found) found.disks);
   stale = [];
   strays = set.empty;
+  old = set.empty;
 }

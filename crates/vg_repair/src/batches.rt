@@ -8,7 +8,7 @@ ghost use Rattle.vg_repair.specs.Stale.{IsCause, stale_areas, text_of};
 
 use crate::RepairFault;
 use crate::areas::{have_room, stale_areas};
-use change_batches::{push_clears, push_text};
+use change_batches::{push_clears, push_labels, push_text};
 use disk_batch::Batch;
 use mda_ring::Areas;
 use sector_base::{PvSet, Text};
@@ -25,6 +25,7 @@ pub(crate) fn batches_of(alloc: Global, found: &Found) -> Result<Vec<Batch>, Rep
     let stale = stale_areas(alloc, found.disks.as_slice(), found.stale.as_slice())?;
     let none = Text::from_vec(Vec::new(alloc));
     push_rewrites(alloc, &stale, text_or(&found.text, &none), &mut batches)?;
+    push_labels(alloc, found.disks.as_slice(), found.old, true, &mut batches)?;
     push_clears(
         alloc,
         found.disks.as_slice(),

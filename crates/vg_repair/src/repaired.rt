@@ -10,26 +10,28 @@ ghost use Rattle.vg_found.specs.Shape.{ContentsCanStand, HasShape, IsDisk};
 ghost use Rattle.vg_found.specs.Whole.{IsWhole};
 ghost use Rattle.vg_commit.specs.Written.{new_entry, stored};
 ghost use Rattle.change_batches.specs.Sound.{FitsFields};
-ghost use Rattle.vg_repair.specs.Batches.{stray_labels};
+ghost use Rattle.vg_repair.specs.Batches.{new_labels};
 ghost use Rattle.vg_repair.specs.Putting.{AreaHasRoom, HasRoom, IsSummed, text_put};
-ghost use Rattle.vg_repair.specs.Repaired.{repaired_area, repaired_areas, repaired_contents, repaired_disk, repaired_disks, repaired_of, with_entry};
+ghost use Rattle.vg_repair.specs.Repaired.{repaired_area, repaired_areas, repaired_contents, repaired_disk, repaired_disks, repaired_header, repaired_of, with_entry};
 ghost use Rattle.vg_repair.specs.Stale.{too_large};
 
 use crate::stale_set::StaleSet;
-use change_batches::unused;
 use disk_contents::{AreaFound, AreasFound, PvFound};
+use group_plan::marked;
 use mda_header::{HeaderEntry, Locn, MdaHeader};
 use mda_ring::{Area, plan_next};
+use pv_header::PvHeader;
 use sector_base::{ItemList, LVM_CRC_START, PvSet, Text, crc};
 use std::alloc::{AllocError, Global};
 use vg_found::{Disk, DiskTable, Found, Whole, held_area, held_areas};
 
-// What is put right: the stale areas, which get the text that was found, and the strays. The checksum is that of the text
-// as it is stored.
+// What is put right: the stale areas, which get the text that was found, the strays, and the old disks. The checksum is that
+// of the text as it is stored.
 #[derive(Debug, Drop)]
 pub(crate) struct Repair<'a> {
     pub(crate) stale: StaleSet<'a>,
     pub(crate) strays: PvSet,
+    pub(crate) old: PvSet,
     pub(crate) text: Option<Text>,
     pub(crate) sum: u32,
 }
@@ -39,7 +41,7 @@ pub(crate) fn repaired(alloc: Global, found: Found) -> Result<Whole, AllocError>
     requires shape { HasShape found }
     requires whole { IsWhole found }
     requires room { too_large found ≡ None }
-    requires fields { All FitsFields (stray_labels found) }
+    requires fields { All FitsFields (new_labels found) }
     ensures { IfOk result (λ whole. whole ≡ repaired_of found) }
 {
     let Found {
@@ -50,6 +52,7 @@ pub(crate) fn repaired(alloc: Global, found: Found) -> Result<Whole, AllocError>
         areas: _,
         stale,
         strays,
+        old,
         missing,
         disk_of,
         unread,
@@ -59,6 +62,7 @@ pub(crate) fn repaired(alloc: Global, found: Found) -> Result<Whole, AllocError>
     let repair = Repair {
         stale: stale_set,
         strays,
+        old,
         text,
         sum,
     };
@@ -73,6 +77,7 @@ pub(crate) fn repaired(alloc: Global, found: Found) -> Result<Whole, AllocError>
         areas,
         stale: ItemList::from_vec(Vec::new(alloc)),
         strays: PvSet::new(),
+        old: PvSet::new(),
         missing,
         disk_of,
         unread,
@@ -112,7 +117,7 @@ fn repaired_disks(
     requires few { length disks.items ≤ 64 }
     requires each { (pv : ℕ) (disk : DiskOf) → slice_get disks.items pv ≡ Some disk → IsDisk pv disk × HasRoom repair.now pv (areas_on disk.contents) }
     requires sum { IsSummed repair.now }
-    ensures { IfOk result (λ all. all.items ≡ repaired_disks repair.now.stale repair.now.strays (text_put repair.now) disks.items) }
+    ensures { IfOk result (λ all. all.items ≡ repaired_disks repair.now.stale repair.now.strays repair.now.old (text_put repair.now) disks.items) }
 {
     let mut rest = disks;
     let mut done = Vec::with_capacity(alloc, rest.len())?;
@@ -133,7 +138,7 @@ fn repaired_disk(
     requires stands { ContentsCanStand pv disk.sectors disk.contents }
     requires room { HasRoom repair.now pv (areas_on disk.contents) }
     requires sum { IsSummed repair.now }
-    ensures { IfOk result (λ new. new ≡ repaired_disk repair.now.stale repair.now.strays (text_put repair.now) (pv, disk)) }
+    ensures { IfOk result (λ new. new ≡ repaired_disk repair.now.stale repair.now.strays repair.now.old (text_put repair.now) (pv, disk)) }
 {
     let Disk { sectors, contents } = disk;
     match contents {
@@ -159,7 +164,7 @@ fn repaired_contents(
     requires stands { CanStand pv sectors found }
     requires room { HasRoom repair.now pv (areas_in found) }
     requires sum { IsSummed repair.now }
-    ensures { IfOk result (λ new. new ≡ repaired_contents repair.now.stale repair.now.strays (text_put repair.now) pv found) }
+    ensures { IfOk result (λ new. new ≡ repaired_contents repair.now.stale repair.now.strays repair.now.old (text_put repair.now) pv found) }
 {
     match found {
         PvFound::Whole {
@@ -168,19 +173,27 @@ fn repaired_contents(
             areas,
         } => {
             let areas = repaired_areas(alloc, pv, sectors, areas.as_slice(), repair)?;
-            let header = if repair.strays.contains(pv) {
-                unused(header)
-            } else {
-                header
-            };
             Ok(PvFound::Whole {
                 label,
-                header,
+                header: repaired_header(pv, header, repair),
                 areas: AreasFound::from_vec(areas),
             })
         }
         PvFound::NoLabel(refusal) => Ok(PvFound::NoLabel(refusal)),
         PvFound::NoHeader { label, refusal } => Ok(PvFound::NoHeader { label, refusal }),
+    }
+}
+
+// Its header.
+fn repaired_header(pv: u32, header: PvHeader, repair: &Repair<'_>) -> PvHeader
+    ensures { result ≡ repaired_header repair.now.strays repair.now.old pv header }
+{
+    if repair.strays.contains(pv) {
+        marked(header, false)
+    } else if repair.old.contains(pv) {
+        marked(header, true)
+    } else {
+        header
     }
 }
 

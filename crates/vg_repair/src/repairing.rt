@@ -19,9 +19,9 @@ use disk_model::Shelf;
 use std::alloc::Global;
 use vg_found::Whole;
 
-/// Writes the text that was found, byte for byte, to each stale area, and clears each stray, on the disks that were scanned,
-/// where nothing else is in flight; and gives what is found then. All memory is taken before anything is written. Where
-/// nothing is stale and there is no stray, nothing is written.
+/// Writes the text that was found, byte for byte, to each stale area, brings up the header of each old disk, and clears each
+/// stray, on the disks that were scanned, where nothing else is in flight; and gives what is found then. All memory is taken
+/// before anything is written. Where nothing is stale, no disk is old and there is no stray, nothing is written.
 ///
 /// # Errors
 ///

@@ -19,6 +19,7 @@ pub loop-disk-preserved : goal.loop-disk-preserved
 loop-disk-preserved c =
     let stale = c.args.repair.now.stale in
     let strays = c.args.repair.now.strays in
+    let old = c.args.repair.now.old in
     let text = text_put c.args.repair.now in
     let number : c.len-in-Some.result ≡ length c.pop.new.self.items = omega (arith, c.pop.new.self.ok.0, c.len-in-Some.ensures) in
     record {
@@ -28,9 +29,9 @@ loop-disk-preserved c =
             c.in-Some.ensures.items c.loop-disk.invariant.front.1,
       );
       done =
-          one_taken (repaired_disk stale strays text) c.loop-disk.rest.items c.pop.new.self.items c.in-Some.disk c.loop-disk.done.items
-          c.push.new.self.items (repaired_disks stale strays text c.args.disks.items) c.in-Some.ensures.items
+          one_taken (repaired_disk stale strays old text) c.loop-disk.rest.items c.pop.new.self.items c.in-Some.disk c.loop-disk.done.items
+          c.push.new.self.items (repaired_disks stale strays old text c.args.disks.items) c.in-Some.ensures.items
           (c.in_ok-push.ensures.items ∙ ap (λ (d : Disk). c.loop-disk.done.items ++ d ∷ [])
-          (c.in_ok-repaired_disk.ensures ∙ ap (λ (n : ℕ). repaired_disk stale strays text (n, c.in-Some.disk)) number))
+          (c.in_ok-repaired_disk.ensures ∙ ap (λ (n : ℕ). repaired_disk stale strays old text (n, c.in-Some.disk)) number))
           c.loop-disk.invariant.done;
     }

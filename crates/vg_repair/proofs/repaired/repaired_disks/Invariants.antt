@@ -8,8 +8,8 @@ use Rattle.vg_repair.proofs.repaired.repaired_disks.Given as goal
 abbrev pub invariant-loop-disk : goal.invariant-loop-disk
 invariant-loop-disk l = record {
   front : (more : List Disk) × (l.rest.items ++ more ≡ l.fn.disks.items);
-  done : repaired_disks l.repair.stale l.repair.strays (text_put l.repair) l.rest.items ++ reverse l.done.items
-      ≡ repaired_disks l.repair.stale l.repair.strays (text_put l.repair) l.fn.disks.items;
+  done : repaired_disks l.repair.stale l.repair.strays l.repair.old (text_put l.repair) l.rest.items ++ reverse l.done.items
+      ≡ repaired_disks l.repair.stale l.repair.strays l.repair.old (text_put l.repair) l.fn.disks.items;
 }
 
 abbrev pub decreases-loop-disk : goal.decreases-loop-disk
