@@ -249,4 +249,5 @@ scan_kept base image sizes found shape same scan = record {
   answer = scan.answer;
   areas = scan.areas;
   disk_of = scan.disk_of;
+  old = scan.old;
 }

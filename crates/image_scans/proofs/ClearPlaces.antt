@@ -30,7 +30,7 @@ use Rattle.group_ops.specs.Planning.{change_of}
 use Rattle.change_batches.specs.Building.{AreScanned}
 use Rattle.change_batches.specs.Laws.{IsUncleared}
 use Rattle.change_batches.proofs.ClearedAreas.{each_takes, state_scanned}
-use Rattle.change_batches.proofs.UnusedLabels.{labels_can}
+use Rattle.change_batches.proofs.MarkedLabels.{labels_can}
 use Rattle.vg_change.specs.LineBatches.{clears_of}
 use Rattle.image_scans.specs.Laws.{CanCarryOut, ClearsKeepPlaces}
 use Rattle.image_scans.proofs.BesideAreas.{beside_areas}
@@ -78,7 +78,7 @@ module _ (base : Image) (sizes : List ℕ) (found : Found) (names : List (List �
         labels = λ k d within.
             inr (λ same.
             let low : (get_or (unused_labels cleared_of_line found.disks) k d).sector < 4 =
-            (labels_can found.disks found.areas scanned cleared_of_line k d within).sector_below in
+            (labels_can found.disks found.areas scanned false cleared_of_line k d within).sector_below in
             let behind : 8 ≤ at.sector = on.beside.behind in
             omega (arith, low, same, behind));
         headers =

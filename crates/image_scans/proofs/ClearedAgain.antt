@@ -9,8 +9,6 @@ use Rattle.std.proofs.lemmas.Bool.{false≢true, true≢false}
 use Rattle.std.proofs.lemmas.List.Elements.{All-filter, filter_passes, recursion_from_All}
 use Rattle.std.proofs.lemmas.Option.{same_Some}
 use Rattle.disk_model.specs.Steps.{Image}
-use Rattle.pv_label.specs.Label.{IsLabel}
-use Rattle.pv_header.specs.PvHeader.{IsPvHeader}
 use Rattle.pv_header.specs.declared.header.PvHeader.{PvHeader}
 use Rattle.mda_header.specs.declared.header.Locn.{Locn}
 use Rattle.mda_ring.specs.Areas.{CanTake}
@@ -34,25 +32,23 @@ use Rattle.group_plan.specs.Added.{pv_in}
 use Rattle.group_plan.specs.Cleared.{cleared_areas, unused_labels}
 use Rattle.group_plan.specs.Judging.{lies_on}
 use Rattle.group_plan.specs.declared.state.NewLabel.{NewLabel}
-use Rattle.change_batches.specs.Batches.{batch_if, clear_batches, clear_put, label_bytes, label_put}
+use Rattle.change_batches.specs.Batches.{batch_if, clear_batches, clear_put, label_put}
 use Rattle.change_batches.specs.Building.{AreScanned}
 use Rattle.change_batches.specs.Laws.{ClearsImages, ShowsEntries, text_in}
-use Rattle.change_batches.specs.Sound.{CanLabel}
 use Rattle.change_batches.proofs.BaseShows.{base_shows, base_sized, shows_alike}
 use Rattle.change_batches.proofs.ClearedAreas.{cleared_far, cleared_held, each_takes}
 use Rattle.change_batches.proofs.LabelPuts.{label_where, no_label}
-use Rattle.change_batches.proofs.LabelsRead.{label_read}
-use Rattle.change_batches.proofs.UnusedLabels.{labels_can}
+use Rattle.change_batches.proofs.MarkedLabels.{labels_among, labels_can}
 use Rattle.image_scans.proofs.Again.{AreasAgain, GivesAgain, PvAgain}
 use Rattle.image_scans.proofs.AreaAgain.{IsCleared, IsKnown, MayBeRefused}
 use Rattle.image_scans.proofs.ClearWrites.{IsClearWrite, clear_write}
-use Rattle.image_scans.proofs.ClearedLabels.{IsLabelOn, labels_on}
 use Rattle.image_scans.proofs.CommitOnTheWay.{header_read}
 use Rattle.image_scans.proofs.DiskAgain.{DiskAgain, LabelStands, PvMayBeRefused, disk_again, disk_same}
 use Rattle.image_scans.proofs.FoundAreas.{IsHeldOn, IsPlaced, all_held, entry_kept, of_held}
 use Rattle.image_scans.proofs.Front.{AnyWrites, any_append, any_if, front_or}
 use Rattle.image_scans.proofs.AreaReadings.{AreasGive, GivenHas}
-use Rattle.image_scans.proofs.Labels.{IsSameHeader}
+use Rattle.image_scans.proofs.LabelsAgain.{label_stands, none_written}
+use Rattle.image_scans.proofs.MarkedLabels.{labels_on}
 use Rattle.image_scans.proofs.MetAreas.{all_placed, area_met}
 
 -- ---- what may hold nothing later
@@ -150,7 +146,7 @@ module _ (disks : List Disk) (areas : List (Area × Option Locn)) (scanned : Are
         (front_or (clear_batches cleared disks areas) mid image pv sector h)
 
     label_low : (k : ℕ) → k < length labels → (get_or labels k no_label).sector < 4
-    label_low k within = (labels_can disks areas scanned cleared k no_label within).sector_below
+    label_low k within = (labels_can disks areas scanned false cleared k no_label within).sector_below
 
     clear_far : (pv sector : ℕ) (value : List ℕ) → IsClearWrite on pv sector value → 4 ≤ sector
     clear_far pv sector value w =
@@ -169,8 +165,7 @@ module _ (disks : List Disk) (areas : List (Area × Option Locn)) (scanned : Are
         ⊎_elim
         (λ label.
         let w = label_where labels no_label pv sector (image pv sector) label in
-        let l : IsLabelOn cleared disks (get_or labels w.0 no_label) = labels_on cleared disks w.0 no_label w.1 in
-        absurd (true≢false (sym l.5 ∙ ap (set.contains cleared) w.2 ∙ other)))
+        absurd (true≢false (sym (labels_among false cleared disks w.0 no_label w.1) ∙ ap (set.contains cleared) w.2 ∙ other)))
         (λ clear. absurd (true≢false (sym (filter_passes (lies_on cleared) areas clear.number no_area clear.among)
         ∙ ap (set.contains cleared) clear.disk ∙ other)))
         by)
@@ -191,11 +186,7 @@ module _ (disks : List Disk) (areas : List (Area × Option Locn)) (scanned : Are
           (λ by.
           ⊎_elim
           (λ label.
-          let w = label_where labels no_label pv sector (image pv sector) label in
-          let l : IsLabelOn cleared disks (get_or labels w.0 no_label) = labels_on cleared disks w.0 no_label w.1 in
-          let own : disk ≡ l.0 = same_Some disk l.0 (sym there ∙ ap (slice_get disks) (sym w.2) ∙ l.2) in
-          absurd (let e : ◌≡◌ {A = Option (ℕ × PvHeader)} None (Some ((get_or labels w.0 no_label).sector, l.1)) = sym nothing.0
-          ∙ ap (λ (d : Disk). option_and_then pv_in d.contents) own ∙ l.3 in cc))
+          absurd (none_written disks labels (labels_on false cleared disks) pv disk there nothing.0 sector (image pv sector) label))
           (λ clear.
           let o : IsHeldOn disks (get_or on clear.number no_area) = cleared_on clear.number no_area clear.among in
           let own : disk ≡ o.disk = same_Some disk o.disk (sym there ∙ ap (slice_get disks) (sym clear.disk) ∙ o.there) in
@@ -206,51 +197,19 @@ module _ (disks : List Disk) (areas : List (Area × Option Locn)) (scanned : Are
 
       module _ (label : ℕ) (header : PvHeader) (found : List AreaFound) (is : disk.contents ≡ Some (Whole label header found))
           (low : label < 4) where
-        of_label : (sector : ℕ) (value : List ℕ) → IsWrittenBy (map label_put labels) pv sector value
-            → (new : NewLabel) × (label ≡ sector) × (value ≡ label_bytes new) × IsSameHeader header new.header × (new.sector ≡ label)
-            × CanLabel new × IsPvHeader (label_bytes new) new.header []
-        of_label sector value by =
-            let w = label_where labels no_label pv sector value by in
-            let new : NewLabel = get_or labels w.0 no_label in
-            let l : IsLabelOn cleared disks new = labels_on cleared disks w.0 no_label w.1 in
-            let own : disk ≡ l.0 = same_Some disk l.0 (sym there ∙ ap (slice_get disks) (sym w.2) ∙ l.2) in
-            let both : ◌≡◌ {A = Option (ℕ × PvHeader)} (Some (label, header)) (Some (new.sector, l.1)) =
-            sym (ap (option_and_then pv_in) is) ∙ ap (λ (d : Disk). option_and_then pv_in d.contents) own ∙ l.3 in
-            let pair : (label, header) ≡ (new.sector, l.1) = same_Some (label, header) (new.sector, l.1) both in
-            let at : label ≡ new.sector = ap (λ (x : ℕ × PvHeader). x.0) pair in (
-              new,
-              at ∙ w.3,
-              w.4,
-              subst (λ (old : PvHeader). IsSameHeader old new.header) (sym (ap (λ (x : ℕ × PvHeader). x.1) pair)) l.4,
-              sym at,
-              labels_can disks areas scanned cleared w.0 no_label w.1,
-              clears.read w.0 no_label w.1,
-            )
+        near : (sector : ℕ) → sector < 4 → (image pv sector ≡ base pv sector)
+            ⊎ IsWrittenBy (map label_put labels) pv sector (image pv sector)
+        near sector below =
+            ⊎_elim
+            (λ same. inl (same ∙ same_base sector))
+            (λ by. ⊎_elim (λ own. inr own)
+            (λ clear. absurd (omega (arith, below, clear_far pv sector (image pv sector) clear))) by)
+            (sector_in pv sector)
 
-        label_stands : LabelStands (base pv) (image pv) label header
-        label_stands = record {
-          before = λ k less.
-              ⊎_elim
-              (λ same. same ∙ same_base k)
-              (λ by. ⊎_elim (λ own. absurd (omega (arith, less, (of_label k (image pv k) own).1)))
-              (λ clear. absurd (omega (arith, less, low, clear_far pv k (image pv k) clear))) by)
-              (sector_in pv k);
-          is =
-              ⊎_elim
-              (λ same. inl (same ∙ same_base label))
-              (λ by.
-              ⊎_elim
-              (λ own.
-              let w = of_label label (image pv label) own in
-              inr (
-                w.0.header,
-                w.3,
-                subst (λ (s : List ℕ). IsLabel s label) (sym w.2) (subst (λ (n : ℕ). IsLabel (label_bytes w.0) n) w.4 (label_read w.0 w.5)),
-                subst (λ (s : List ℕ). IsPvHeader s w.0.header []) (sym w.2) w.6,
-              ))
-              (λ clear. absurd (omega (arith, low, clear_far pv label (image pv label) clear))) by)
-              (sector_in pv label);
-        }
+        own_stands : LabelStands (base pv) (image pv) label header
+        own_stands =
+            label_stands disks labels (labels_on false cleared disks) pv disk there (labels_can disks areas scanned false cleared)
+            clears.read base image near label header found is low
 
         -- ---- an area there
 
@@ -362,7 +321,7 @@ module _ (disks : List Disk) (areas : List (Area × Option Locn)) (scanned : Are
           (sym read.sectors_is)
           (disk_again text group passed copy may bare pv base image disk.sectors disk.contents reading.pv read.contents read.pv_is given w.0
           header w.1 w.2
-          (label_stands w.0 header w.1 w.2 stands.0)
+          (own_stands w.0 header w.1 w.2 stands.0)
           (recursion_from_All (IsKnown text pv base image (may header.id) (bare header.id)) w.1
           (λ k d within. known w.0 header w.1 w.2 stands.0 k d within)))
 

@@ -4,12 +4,10 @@ use Rattle.std.proofs.Common.{Some, None, inl, inr, ⊎_elim, refl, sym, ap, sub
 use Rattle.std.specs.Prelude.{All, slice_get}
 use Rattle.std.specs.FinSet as set
 use Rattle.std.specs.List.{AllByRecursion as Each}
-use Rattle.std.specs.Option.{option_and_then}
 use Rattle.std.proofs.lemmas.Bool.{cases_Bool, true≢false}
 use Rattle.std.proofs.lemmas.List.Elements.{All-cons, All-filter, All-map, All-nil, filter_passes, recursion_from_All}
 use Rattle.std.proofs.lemmas.Option.{same_Some}
 use Rattle.disk_model.specs.Steps.{Image}
-use Rattle.pv_label.specs.Label.{IsLabel}
 use Rattle.pv_header.specs.PvHeader.{IsPvHeader}
 use Rattle.pv_header.specs.declared.header.PvHeader.{PvHeader}
 use Rattle.mda_header.specs.declared.header.Locn.{Locn}
@@ -34,7 +32,7 @@ use Rattle.vg_commit.specs.Written.{area_writes, headers_of, publish_of, texts_o
 use Rattle.vg_commit.proofs.AreasCommit.{rooms}
 use Rattle.group_plan.proofs.Passed.{absent}
 use Rattle.group_plan.proofs.StateFacts.{areas_take}
-use Rattle.group_plan.specs.Added.{disks_added, label_of, pv_in}
+use Rattle.group_plan.specs.Added.{disks_added, label_of}
 use Rattle.group_plan.specs.Judging.{lies_on, set_of}
 use Rattle.group_plan.specs.State.{IsState}
 use Rattle.group_plan.specs.declared.added.AddedPv.{AddedPv}
@@ -46,14 +44,13 @@ use Rattle.change_batches.specs.Laws.{HasLabel, IsKeptOrNew}
 use Rattle.change_batches.specs.Sound.{CanLabel, CanTakeText}
 use Rattle.change_batches.proofs.DiskSets.{of_set}
 use Rattle.change_batches.proofs.FarAreas.{IsFar, areas_far}
-use Rattle.change_batches.proofs.LabelPuts.{AreApart, label_where, labels_there, with_if}
-use Rattle.change_batches.proofs.LabelsRead.{label_read}
+use Rattle.change_batches.proofs.LabelPuts.{AreApart, label_where, labels_there, no_label, with_if}
 use Rattle.image_scans.proofs.AreaAgain.{HasHeader, IsKeptOrMade, IsKnown, IsOnTheWay, kept_or_made}
 use Rattle.image_scans.proofs.CommitWrites.{IsAreaWrite, commit_writes}
 use Rattle.image_scans.proofs.DiskAgain.{DiskAgain, LabelStands, PvMayBeRefused, disk_again, disk_same}
 use Rattle.image_scans.proofs.FoundAreas.{IsHeldOn, IsPlaced, all_held, areas_placed, entry_kept, of_held}
 use Rattle.image_scans.proofs.Front.{AnyWrites, any_append, any_if, batches_or, front_or}
-use Rattle.image_scans.proofs.Labels.{IsSameHeader}
+use Rattle.image_scans.proofs.LabelsAgain.{IsLabelOn, label_stands}
 use Rattle.image_scans.proofs.CommittedGroup.{IsAddedOn, IsListedOn, MakesGroup}
 use Rattle.image_scans.proofs.MetAreas.{header_met}
 
@@ -75,11 +72,6 @@ pub header_read : (contents : Option PvFound) (header : PvHeader) → header_on 
     → (label : ℕ) × (areas : List AreaFound) × (contents ≡ Some (Whole label header areas))
 header_read None header is = absurd cc
 header_read (Some contents) header is = let w = header_whole contents header is in (w.0, w.1, ap (λ (c : PvFound). Some c) w.2)
-
--- some label, where a list has none
-some_label : NewLabel
-some_label =
-    record { disk = 0; sector = 0; header = record { id = []; device_bytes = 0; data_areas = []; areas = []; version = 0; flags = 0 } }
 
 -- ---- the change
 
@@ -125,30 +117,12 @@ module _ (state : GroupState) (is_state : IsState state) (change : Change) (grou
       (any_append (batch_if [] ++ batch_if label_puts) commit pv sector value by)
 
   -- each label is that of the physical volume that was found on its disk
-  abbrev IsLabelOn : NewLabel → Type 0
-  IsLabelOn label =
-      (disk : Disk) × (old : PvHeader) × (slice_get state.disks label.disk ≡ Some disk)
-      × (option_and_then pv_in disk.contents ≡ Some (label.sector, old)) × IsSameHeader old label.header
-
-  labels_on : All IsLabelOn change.labels
+  labels_on : All (IsLabelOn state.disks) change.labels
   labels_on =
-      subst (All IsLabelOn) (sym makes.labels_is)
-      (All-map IsLabelOn label_of makes.all (λ k d within.
+      subst (All (IsLabelOn state.disks)) (sym makes.labels_is)
+      (All-map (IsLabelOn state.disks) label_of makes.all (λ k d within.
       let on : IsAddedOn state.disks (get_or makes.all k d) = makes.on k d within in
       (on.disk, (get_or makes.all k d).header, on.there, on.found, record { id = refl; held = refl; areas = refl })))
-
-  -- a label's sector that is written has its label
-  record WritesLabel (pv sector : ℕ) (value : List ℕ) : Type 0 where
-    number : ℕ
-    among : number < length change.labels
-    label : NewLabel
-    label_is : get_or change.labels number some_label ≡ label
-    disk : label.disk ≡ pv
-    at : label.sector ≡ sector
-    is : value ≡ label_bytes label
-    can_label : CanLabel label
-    on : IsLabelOn label
-    stands : with_batches batches base label.disk label.sector ≡ label_bytes label
 
   -- it stays until all is written
   near_kept : (pv sector : ℕ) → sector < 4 → (value : List ℕ) → IsAreaWrite text own pv sector value → ⊥
@@ -172,22 +146,6 @@ module _ (state : GroupState) (is_state : IsState state) (change : Change) (grou
       by)))
       (batches_or commit first label.disk label.sector)
 
-  label_written : (pv sector : ℕ) (value : List ℕ) → IsWrittenBy label_puts pv sector value → WritesLabel pv sector value
-  label_written pv sector value by =
-      let w = label_where change.labels some_label pv sector value by in
-      record {
-        number = w.0;
-        among = w.1;
-        label = get_or change.labels w.0 some_label;
-        label_is = refl;
-        disk = w.2;
-        at = w.3;
-        is = w.4;
-        can_label = can w.0 some_label w.1;
-        on = labels_on w.0 some_label w.1;
-        stands = label_stays w.0 some_label w.1;
-      }
-
   -- ---- an image on the way
 
   module _ (ends : All (HasLabel (with_batches batches base)) change.labels) (image : Image) (h : HasFirstBatches batches base image) where
@@ -199,7 +157,7 @@ module _ (state : GroupState) (is_state : IsState state) (change : Change) (grou
         (λ by.
         ⊎_elim
         (λ label.
-        let w = label_where change.labels some_label pv sector (image pv sector) label in
+        let w = label_where change.labels no_label pv sector (image pv sector) label in
         let others : Each (λ n. n ≢ pv) (disks_added makes.all) =
         each_back (λ n. n ≢ pv) makes.first (disks_added makes.all)
         (subst (Each (λ n. n ≢ pv)) makes.disk_of_is (absent set.empty change.disk_of pv off).1)
@@ -208,7 +166,7 @@ module _ (state : GroupState) (is_state : IsState state) (change : Change) (grou
         subst (All (λ (l : NewLabel). l.disk ≢ pv)) (sym makes.labels_is)
         (All-map (λ (l : NewLabel). l.disk ≢ pv) label_of makes.all (added_apart pv makes.all others))
         in
-        absurd (apart w.0 some_label w.1 w.2))
+        absurd (apart w.0 no_label w.1 w.2))
         (λ area.
         let on : set.contains (set_of change.disk_of) (get_or own area.number no_area).0.pv ≡ true =
         filter_passes (lies_on (set_of change.disk_of)) state.areas area.number no_area area.among in
@@ -223,47 +181,19 @@ module _ (state : GroupState) (is_state : IsState state) (change : Change) (grou
     -- a disk of the group, with its header
     module _ (pv : ℕ) (disk : Disk) (there : slice_get state.disks pv ≡ Some disk) (label : ℕ) (header : PvHeader) (areas : List AreaFound)
         (is : disk.contents ≡ Some (Whole label header areas)) (low : label < 4) where
-      of_label : (sector : ℕ) (value : List ℕ) → (w : WritesLabel pv sector value) → (label ≡ sector) × (header ≡ w.on.1)
-      of_label sector value w =
-          let same : disk ≡ w.on.0 = same_Some disk w.on.0 (sym there ∙ ap (slice_get state.disks) (sym w.disk) ∙ w.on.2) in
-          let both : ◌≡◌ {A = Option (ℕ × PvHeader)} (Some (label, header)) (Some (w.label.sector, w.on.1)) =
-          sym (ap (option_and_then pv_in) is) ∙ ap (λ (d : Disk). option_and_then pv_in d.contents) same ∙ w.on.3
-          in
-          let pair : (label, header) ≡ (w.label.sector, w.on.1) = same_Some (label, header) (w.label.sector, w.on.1) both in
-          (ap (λ (p : ℕ × PvHeader). p.0) pair ∙ w.at, ap (λ (p : ℕ × PvHeader). p.1) pair)
+      near : (sector : ℕ) → sector < 4 → (image pv sector ≡ base pv sector) ⊎ IsWrittenBy label_puts pv sector (image pv sector)
+      near sector below =
+          ⊎_elim
+          (λ same. inl same)
+          (λ by. ⊎_elim (λ at. inr at) (λ area. absurd (near_kept pv sector below (image pv sector) area))
+          (writes pv sector (image pv sector) by))
+          (front_or batches base image pv sector h)
 
-      label_stands : LabelStands (base pv) (image pv) label header
-      label_stands = record {
-        before = λ k less.
-            ⊎_elim
-            (λ same. same)
-            (λ by.
-            ⊎_elim
-            (λ at. let w = label_written pv k (image pv k) at in absurd (omega (arith, less, (of_label k (image pv k) w).0)))
-            (λ area. absurd (near_kept pv k (omega (arith, less, low)) (image pv k) area))
-            (writes pv k (image pv k) by))
-            (front_or batches base image pv k h);
-        is =
-            ⊎_elim
-            (λ same. inl same)
-            (λ by.
-            ⊎_elim
-            (λ at.
-            let w : WritesLabel pv label (image pv label) = label_written pv label (image pv label) at in
-            let same : header ≡ w.on.1 = (of_label label (image pv label) w).1 in
-            let has : HasLabel (with_batches batches base) w.label =
-            subst (HasLabel (with_batches batches base)) w.label_is (ends w.number some_label w.among) in
-            inr (
-              w.label.header,
-              subst (λ (old : PvHeader). IsSameHeader old w.label.header) (sym same) w.on.4,
-              subst (λ (s : List ℕ). IsLabel s label) (sym w.is)
-                  (subst (λ (n : ℕ). IsLabel (label_bytes w.label) n) w.at (label_read w.label w.can_label)),
-              subst (λ (s : List ℕ). IsPvHeader s w.label.header []) (w.stands ∙ sym w.is) has.header,
-            ))
-            (λ area. absurd (near_kept pv label low (image pv label) area))
-            (writes pv label (image pv label) by))
-            (front_or batches base image pv label h);
-      }
+      own_stands : LabelStands (base pv) (image pv) label header
+      own_stands =
+          label_stands state.disks change.labels labels_on pv disk there can
+          (λ k d within. subst (λ (s : List ℕ). IsPvHeader s (get_or change.labels k d).header []) (label_stays k d within)
+          (ends k d within).header) base image near label header areas is low
 
       headers : All (HasHeader text pv base image) areas
       headers k d within =
@@ -276,8 +206,9 @@ module _ (state : GroupState) (is_state : IsState state) (change : Change) (grou
           (λ same. inl same)
           (λ by.
           ⊎_elim
-          (λ at. let w : WritesLabel pv sector (image pv sector) = label_written pv sector (image pv sector) at in absurd
-          (omega (arith, w.can_label.sector_below, w.at, (placed k d within).far)))
+          (λ at.
+          let w = label_where change.labels no_label pv sector (image pv sector) at in
+          absurd (omega (arith, (can w.0 no_label w.1).sector_below, w.3, (placed k d within).far)))
           (λ area. inr (header_met state.disks is_state.disks text own own_held own_rooms pv disk there label header areas is k d within
           (image pv sector) area))
           (writes pv sector (image pv sector) by))
@@ -327,7 +258,7 @@ module _ (state : GroupState) (is_state : IsState state) (change : Change) (grou
           (sym read.sectors_is)
           (disk_again text group passed copy may (λ id r. false) pv base image disk.sectors disk.contents reading.pv read.contents
           read.pv_is given w.0 listed.header w.1 w.2
-          (label_stands pv disk there w.0 listed.header w.1 w.2 stands.0)
+          (own_stands pv disk there w.0 listed.header w.1 w.2 stands.0)
           (recursion_from_All (IsKnown text pv base image (may listed.header.id) (λ r. false)) w.1
           (known pv disk there w.0 listed.header w.1 w.2 stands.0 (may listed.header.id) (kept listed.header.id listed.listed) on)))
 

@@ -16,7 +16,7 @@ use Rattle.scan_rules.specs.Found.{is_missing, missing_of}
 use Rattle.scan_rules.proofs.SameShape.{same_shape}
 use Rattle.vg_found.specs.declared.disk.Disk.{Disk}
 use Rattle.vg_found.specs.declared.found.Found.{Found}
-use Rattle.vg_found.specs.Disks.{disk_with, disks_of, held_areas, shapes}
+use Rattle.vg_found.specs.Disks.{disk_with, disks_of, held_areas, old_of, shapes}
 use Rattle.vg_found.specs.Shape.{HasShape}
 use Rattle.vg_found.specs.Whole.{IsWhole}
 use Rattle.vg_scan.specs.Readings.{AreDiskReadings}
@@ -39,6 +39,7 @@ found_on found disks =
       disks = disks;
       areas = held_areas 0 disks;
       disk_of = option_map_or (λ (group : Group). disks_of group disks) found.group [];
+      old = old_of found.group disks;
     }
 
 -- an answer that was found is found of other disks too
@@ -80,6 +81,7 @@ same_version image sizes found whole readings by there read sizes_are are same i
         subst (λ (answer : ScanAnswer). IsFoundBy answer (found_on found there)) (sym same) (moved (decide_scan readings) found there by);
     areas = refl;
     disk_of = own_disks found.group;
+    old = refl;
   };
   left = λ pv within. none_unread found whole pv;
   whole = whole.there;
@@ -160,6 +162,7 @@ module _ (image : Image) (sizes : List ℕ) (found : Found) (shape : HasShape fo
     areas = held_areas 0 again.there;
     stale = f.stale;
     strays = set.from_list f.strays;
+    old = old_of (Some f.held.group) again.there;
     missing = f.missing;
     disk_of = disks_of f.held.group again.there;
     unread = found.unread;
@@ -178,6 +181,7 @@ module _ (image : Image) (sizes : List ℕ) (found : Found) (shape : HasShape fo
           answer = subst (λ (answer : ScanAnswer). IsFoundBy answer (found_anew f)) (sym f.is) (refl, refl, refl, refl, refl, refl);
           areas = refl;
           disk_of = refl;
+          old = refl;
         };
         left = λ pv within. none_unread found whole pv;
         whole = sym parts.missing_are ∙ ap (λ (g : Group). missing_of again.read g.pvs) f.group_is ∙ none_away;

@@ -35,7 +35,8 @@ mod BesideScan
 pub mod Zeroes
 pub mod NoLater
 pub mod MetAreas
-pub mod ClearedLabels
+pub mod LabelsAgain
+pub mod MarkedLabels
 pub mod ClearWrites
 pub mod ClearedAgain
 pub mod ClearedApart

@@ -13,7 +13,7 @@ use Rattle.scan_rules.specs.Decision.{first_duplicate, ids_from}
 use Rattle.scan_rules.specs.Found.{missing_of}
 use Rattle.vg_found.specs.declared.disk.Disk.{Disk}
 use Rattle.vg_found.specs.declared.found.Found.{Found}
-use Rattle.vg_found.specs.Disks.{disk_with, disks_of, held_areas}
+use Rattle.vg_found.specs.Disks.{disk_with, disks_of, held_areas, old_of}
 use Rattle.vg_scan.specs.Readings.{AreDiskReadings}
 use Rattle.vg_scan.specs.Scans.{IsFoundBy}
 use Rattle.image_scans.specs.Versions.{FindsVersion, Version, version_in}
@@ -49,6 +49,10 @@ module _ (image : Image) (sizes : List ℕ) (found : Found) (none_missing : foun
     (sizes_are : map (λ (d : Disk). d.sectors) there ≡ sizes) (are : AreDiskReadings image unread 0 there read)
     (quiet : ButQuiet found.group readings read) (apart : first_duplicate (ids_from 0 read) ≡ None)
     (same : SameDisks found.group found.disks there) where
+  -- what was found, of these disks
+  abbrev found_there : Found
+  found_there = record found { disks = there; areas = held_areas 0 there; unread = unread; old = old_of found.group there }
+
   -- no group
   of_none : HasNothing readings → found.group ≡ None → DisksGive (λ disk. IsNone) readings
       → FindsVersion sizes image left_out (version_in found)
@@ -57,15 +61,15 @@ module _ (image : Image) (sizes : List ℕ) (found : Found) (none_missing : foun
       let now : HasNothing read = record { apart = apart; no_copies = copies_none read all; no_refusals = refusals_none read all } in
       let answer : decide_scan read ≡ decide_scan readings = nothing_found read now ∙ sym (nothing_found readings nothing) in
       record {
-        found = record found { disks = there; areas = held_areas 0 there; unread = unread };
+        found = found_there;
         scan = record {
           readings = read;
           are = record { sizes_is = sizes_are; each = are };
           answer =
-              subst (λ (a : ScanAnswer). IsFoundBy a (record found { disks = there; areas = held_areas 0 there; unread = unread }))
-              (sym answer) (moved_to (decide_scan readings) by);
+              subst (λ (a : ScanAnswer). IsFoundBy a found_there) (sym answer) (moved_to (decide_scan readings) by);
           areas = refl;
           disk_of = subst (λ (o : Option Group). IfSome o (λ group. found.disk_of ≡ disks_of group there)) (sym none) tt;
+          old = refl;
         };
         left = left;
         whole = none_missing;
@@ -76,7 +80,7 @@ module _ (image : Image) (sizes : List ℕ) (found : Found) (none_missing : foun
       }
     where
       moved_to : (answer : ScanAnswer) → IsFoundBy answer found
-          → IsFoundBy answer (record found { disks = there; areas = held_areas 0 there; unread = unread })
+          → IsFoundBy answer found_there
       moved_to (FoundGroup held stale strays missing) b = b
       moved_to NoGroup b = b
       moved_to (DuplicatePv x y) b = absurd b
@@ -100,6 +104,7 @@ module _ (image : Image) (sizes : List ℕ) (found : Found) (none_missing : foun
       areas = held_areas 0 there;
       stale = f.stale;
       strays = set.from_list f.strays;
+      old = old_of (Some f.held.group) there;
       missing = f.missing;
       disk_of = disks_of f.held.group there;
       unread = unread;
@@ -119,6 +124,7 @@ module _ (image : Image) (sizes : List ℕ) (found : Found) (none_missing : foun
             answer = subst (λ (a : ScanAnswer). IsFoundBy a (found_anew f)) (sym f.is) (refl, refl, refl, refl, refl, refl);
             areas = refl;
             disk_of = refl;
+            old = refl;
           };
           left = left;
           whole =

@@ -25,7 +25,7 @@ use Rattle.scan_rules.proofs.SameShape.{same_shape}
 use Rattle.disk_batch.specs.InTurn.{HasFirstBatches, with_batches}
 use Rattle.vg_found.specs.declared.disk.Disk.{Disk}
 use Rattle.vg_found.specs.declared.found.Found.{Found}
-use Rattle.vg_found.specs.Disks.{disk_with, disks_of, held_areas, shapes}
+use Rattle.vg_found.specs.Disks.{disk_with, disks_of, held_areas, old_of, shapes}
 use Rattle.vg_found.specs.Shape.{HasShape}
 use Rattle.vg_found.specs.Whole.{IsWhole}
 use Rattle.vg_scan.specs.Scans.{IsFoundBy, IsScanOf}
@@ -153,6 +153,7 @@ module _ (base : Image) (sizes : List ℕ) (found : Found) (shape : HasShape fou
     areas = held_areas 0 there;
     stale = [];
     strays = set.empty;
+    old = set.empty;
     missing = [];
     disk_of = [];
     unread = found.unread;
@@ -209,6 +210,7 @@ module _ (base : Image) (sizes : List ℕ) (found : Found) (shape : HasShape fou
             areas = held_areas 0 again.there;
             stale = f.stale;
             strays = set.from_list f.strays;
+            old = old_of (Some f.held.group) again.there;
             missing = f.missing;
             disk_of = disks_of f.held.group again.there;
             unread = found.unread;
@@ -221,6 +223,7 @@ module _ (base : Image) (sizes : List ℕ) (found : Found) (shape : HasShape fou
               answer = subst (λ (answer : ScanAnswer). IsFoundBy answer anew) (sym f.is) (refl, refl, refl, refl, refl, refl);
               areas = refl;
               disk_of = refl;
+              old = refl;
             };
             left = λ pv within. none_unread found whole pv;
             whole =
@@ -255,6 +258,7 @@ module _ (base : Image) (sizes : List ℕ) (found : Found) (shape : HasShape fou
                   (refl, refl, refl, refl, refl, refl);
               areas = refl;
               disk_of = tt;
+              old = refl;
             };
             left = λ pv within. none_unread found whole pv;
             whole = refl;

@@ -1,9 +1,11 @@
 -- The header of a stale area once a repair is done: it publishes the text.
-use Rattle.std.proofs.Common.{◌≡◌, ◌≤◌, ◌<◌, ℕ, zero, suc, ◌/◌, true, List, [], ◌∷◌, ◌++◌, length, map, get_or, Option, inl, inr, ⊎_elim}
-use Rattle.std.proofs.Common.{sym, ap, ◌∙◌, arith}
+use Rattle.std.proofs.Common.{◌≡◌, ◌≤◌, ◌<◌, ℕ, zero, suc, ◌/◌, Bool, true, false, List, [], ◌∷◌, ◌++◌, length, map, get_or, Option, inl}
+use Rattle.std.proofs.Common.{inr, ⊎_elim, sym, ap, ◌∙◌, arith}
 use Rattle.std.proofs.lemmas.Bool.{or_left, or_right, true≢false}
 use Rattle.std.proofs.lemmas.List.Elements.{filter_passes}
+use Rattle.std.specs.FinSet as set
 use Rattle.std.specs.FinSet.{contains}
+use Rattle.std.specs.Ordering.{nat_cmp}
 use Rattle.sector_base.specs.Spans.{covers}
 use Rattle.disk_model.specs.Steps.{Image}
 use Rattle.disk_model.specs.Submitting.{writes_at}
@@ -12,25 +14,28 @@ use Rattle.mda_header.specs.declared.header.Locn.{Locn}
 use Rattle.mda_ring.specs.declared.area.Area.{Area}
 use Rattle.disk_batch.specs.InTurn.{Put, with_batches, with_writes}
 use Rattle.disk_batch.specs.Writes.{IsWrittenBy, write_work}
+use Rattle.disk_batch.proofs.FrontBatches.{KeepsSector, batches_kept}
 use Rattle.disk_batch.proofs.InTurn.{batches_append}
 use Rattle.disk_batch.proofs.WritesOnImages.{written_or_kept}
 use Rattle.vg_found.specs.declared.found.Found.{Found}
 use Rattle.vg_commit.proofs.Disks.{no_area}
 use Rattle.vg_commit.specs.Written.{area_writes, header_after, header_span, headers_of, publish_of, texts_of}
 use Rattle.vg_commit.proofs.AreasCommit.{header_covers, one_area}
+use Rattle.group_plan.specs.Cleared.{marked_labels}
 use Rattle.group_plan.specs.Judging.{lies_on}
+use Rattle.group_plan.specs.declared.state.NewLabel.{NewLabel}
 use Rattle.change_batches.specs.Batches.{batch_if, clear_put, label_put}
-use Rattle.change_batches.proofs.LabelPuts.{label_where, one_covers, one_tells, one_value}
+use Rattle.change_batches.proofs.LabelPuts.{all_if, labels_keep_far, one_covers, one_tells, one_value}
 use Rattle.change_batches.specs.Building.{AreHeld}
-use Rattle.vg_repair.specs.Batches.{repair_batches, stale_batches, stray_areas, stray_labels}
+use Rattle.vg_repair.specs.Batches.{old_labels, repair_batches, stale_batches, stray_areas, stray_labels}
 use Rattle.vg_repair.specs.Stale.{stale_areas, text_of}
 use Rattle.vg_repair.proofs.HeldAreas.{stale_held}
 use Rattle.vg_repair.proofs.StaleOthers.{stale_elsewhere}
-use Rattle.vg_repair.proofs.StrayLabels.{labels_can}
+use Rattle.vg_repair.proofs.NewLabels.{some_can}
 use Rattle.image_scans.proofs.Front.{any_if, batches_or}
 use Rattle.image_scans.proofs.ClearWrites.{IsClearWrite, clear_write}
 use Rattle.repair_scans.specs.Laws.{CanRepair}
-use Rattle.repair_scans.proofs.RepairOnTheWay.{some_label, stale_far}
+use Rattle.repair_scans.proofs.RepairOnTheWay.{stale_far}
 use Rattle.repair_scans.proofs.StraysApart.{strays_apart}
 
 -- ---- the third batch of a commit
@@ -98,11 +103,23 @@ module _ (base : Image) (sizes : List ℕ) (found : Found) (p : CanRepair base s
   abbrev texts : Image
   texts = with_batches (stale_batches (text_of found) stale) base
 
-  abbrev label_batches : List (List Put)
-  label_batches = batch_if (map label_put (stray_labels found))
+  abbrev olds : List (List Put)
+  olds = batch_if (map label_put (old_labels found))
+
+  abbrev strays : List (List Put)
+  strays = batch_if (map label_put (stray_labels found))
 
   abbrev clears : List (List Put)
   clears = batch_if (map clear_put (stray_areas found))
+
+  -- labels are written to the first four sectors
+  labels_kept : (in_use : Bool) (among : set.FinSet nat_cmp) (image : Image) (pv sector : ℕ) → 4 ≤ sector
+      → with_batches (batch_if (map label_put (marked_labels in_use among found.disks))) image pv sector ≡ image pv sector
+  labels_kept in_use among image pv sector far =
+      let labels : List NewLabel = marked_labels in_use among found.disks in
+      batches_kept (batch_if (map label_put labels)) image pv sector
+      (all_if (KeepsSector pv sector) (map label_put labels)
+      (labels_keep_far labels (some_can found p.shape in_use among) pv sector far))
 
   -- the batches behind those of the text write another sector
   texts_kept : (k : ℕ) (d : Area × Option Locn) → k < length stale
@@ -111,33 +128,25 @@ module _ (base : Image) (sizes : List ℕ) (found : Found) (p : CanRepair base s
   texts_kept k d within =
       let pv : ℕ = (get_or stale k d).0.pv in
       let sector : ℕ = (get_or stale k d).0.start / 512 in
-      let far : 2048 ≤ (get_or stale k d).0.start = stale_far base sizes found p k d within in
-      let second : Image = with_batches label_batches texts in
-      let cleared : with_batches clears second pv sector ≡ second pv sector =
+      let begins : 2048 ≤ (get_or stale k d).0.start = stale_far base sizes found p k d within in
+      let far : 4 ≤ sector = omega (arith, begins) in
+      let second : Image = with_batches (stale_batches (text_of found) stale ++ olds) base in
+      let third : Image = with_batches strays second in
+      let cleared : with_batches clears third pv sector ≡ third pv sector =
       ⊎_elim
       (λ same. same)
       (λ by.
-      let value : List ℕ = with_batches clears second pv sector in
+      let value : List ℕ = with_batches clears third pv sector in
       let w : IsClearWrite (stray_areas found) pv sector value =
       clear_write (stray_areas found) pv sector value (any_if (map clear_put (stray_areas found)) pv sector value by) in
       absurd (true≢false (sym (filter_passes (lies_on found.strays) found.areas w.number no_area w.among)
       ∙ ap (contains found.strays) w.disk ∙ stale_elsewhere found (strays_apart base sizes found p.scan) k d within)))
-      (batches_or clears second pv sector)
+      (batches_or clears third pv sector)
       in
-      let labelled : with_batches label_batches texts pv sector ≡ texts pv sector =
-      ⊎_elim
-      (λ same. same)
-      (λ by.
-      let w =
-      label_where (stray_labels found) (some_label base sizes found p) pv sector (with_batches label_batches texts pv sector)
-      (any_if (map label_put (stray_labels found)) pv sector (with_batches label_batches texts pv sector) by) in
-      let low : (get_or (stray_labels found) w.0 (some_label base sizes found p)).sector < 4 =
-      (labels_can found p.shape w.0 (some_label base sizes found p) w.1).sector_below in
-      absurd (omega (arith, far, low, w.3)))
-      (batches_or label_batches texts pv sector)
-      in
-      ap (λ (i : Image). i pv sector) (batches_append (stale_batches (text_of found) stale) (label_batches ++ clears) base
-      ∙ batches_append label_batches clears texts) ∙ cleared ∙ labelled
+      ap (λ (i : Image). i pv sector) (batches_append (stale_batches (text_of found) stale ++ olds) (strays ++ clears) base
+      ∙ batches_append strays clears second) ∙ cleared ∙ labels_kept false found.strays second pv sector far
+      ∙ ap (λ (i : Image). i pv sector) (batches_append (stale_batches (text_of found) stale) olds base)
+      ∙ labels_kept true found.old texts pv sector far
 
   -- the header of each stale area is as it publishes the text
   pub header_published : (k : ℕ) (d : Area × Option Locn) → k < length stale

@@ -1,5 +1,5 @@
 -- What a scan finds once a repair is done: what the repair hands on.
-use Rattle.std.proofs.Common.{◌≡◌, ◌↔◌, ℕ, true, List, [], Some, refl, sym, ap, subst, ◌∙◌}
+use Rattle.std.proofs.Common.{◌≡◌, ◌↔◌, ℕ, true, List, [], Option, Some, refl, sym, ap, subst, ◌∙◌}
 use Rattle.std.specs.FinSet as set
 use Rattle.std.specs.List.{Contains}
 use Rattle.std.specs.Ordering.{nat_cmp}
@@ -15,6 +15,7 @@ use Rattle.scan_rules.specs.Found.{missing_of}
 use Rattle.scan_rules.specs.Laws.{IsStale, IsStray}
 use Rattle.scan_rules.proofs.Repairs.{stale_exact, strays_exact}
 use Rattle.scan_rules.proofs.Scanning.{same_bytes_to}
+use Rattle.vg_found.specs.Disks.{old_of}
 use Rattle.vg_found.specs.declared.disk.Disk.{Disk}
 use Rattle.vg_found.specs.declared.found.Found.{Found}
 use Rattle.vg_scan.specs.Readings.{AreReadings}
@@ -24,7 +25,8 @@ use Rattle.vg_repair.specs.Batches.{repair_batches}
 use Rattle.vg_repair.specs.Repaired.{repaired_of}
 use Rattle.vg_repair.specs.Stale.{text_of}
 use Rattle.vg_repair.proofs.Nothing.{leaves_all}
-use Rattle.vg_repair.proofs.RepairedShape.{numbers_kept}
+use Rattle.vg_repair.proofs.RepairedOld.{none_old}
+use Rattle.vg_repair.proofs.RepairedShape.{disks_kept, numbers_kept}
 use Rattle.repair_scans.specs.Laws.{CanRepair}
 use Rattle.image_scans.proofs.Again.{Finds}
 use Rattle.image_scans.proofs.CommitLine.{all_written}
@@ -32,10 +34,11 @@ use Rattle.image_scans.proofs.Decided.{IsFoundWith, found_parts}
 use Rattle.image_scans.proofs.DiskAgain.{AllAgain}
 use Rattle.image_scans.proofs.AreaReadings.{best_copy_has}
 use Rattle.image_scans.proofs.SettledBase.{IsItsCopy, copies_are}
-use Rattle.repair_scans.proofs.RepairFound.{again, copy, finds, none_away, text_is, unlisted}
+use Rattle.repair_scans.proofs.RepairFound.{again, copy, finds, none_away, text_is}
 use Rattle.repair_scans.proofs.RepairOnTheWay.{may_be_lost}
 use Rattle.repair_scans.proofs.RepairedDisks.{disks_repaired}
 use Rattle.repair_scans.proofs.RepairedReadings.{no_member, none_stale, none_stray, readings_after}
+use Rattle.repair_scans.proofs.StraysApart.{unlisted}
 
 -- disks are read in one way
 abbrev pub OneReading : Type 0
@@ -81,7 +84,9 @@ module _ (one_reading : OneReading) (base : Image) (sizes : List ℕ) (found : F
     answer = finds base sizes found p held stale strays missing is by last whole
 
     are : AreReadings last sizes found.unread (repaired_of found).disks after
-    are = disks_repaired base sizes found p held.group held.passed own_copy (unlisted base sizes found p held stale strays missing is by.4)
+    are =
+        disks_repaired base sizes found p held.group held.passed own_copy
+        (unlisted base sizes found p.scan held stale strays missing is by.4)
 
     same_readings : there.read ≡ after
     same_readings =
@@ -151,14 +156,17 @@ module _ (one_reading : OneReading) (base : Image) (sizes : List ℕ) (found : F
             p.whole.there ∙ sym missing_none,
           );
       areas = refl;
-      disk_of = numbers_kept found.stale found.strays (text_of found) found.group found.disk_of found.disks p.scan.disk_of;
+      disk_of = numbers_kept found.stale found.strays found.old (text_of found) found.group found.disk_of found.disks p.scan.disk_of;
+      old =
+          none_old found.stale found.strays found.old (text_of found) found.disks
+          (λ group. disks_kept found.stale found.strays found.old (text_of found) group found.disks) found.group p.scan.old;
     }
 
   -- ---- no group was found, and nothing is written
 
   of_none : IsFoundBy NoGroup found → IsScanOf last sizes (repaired_of found)
   of_none by =
-      let nothing = leaves_all found p.shape by.3 by.4 in
+      let nothing = leaves_all found p.shape by.3 by.4 (p.scan.old ∙ ap (λ (o : Option Group). old_of o found.disks) by.0) in
       subst (λ (batches : List (List Put)). IsScanOf (with_batches batches base) sizes (repaired_of found)) (sym nothing.0)
       (subst (λ (f : Found). IsScanOf base sizes f) (sym nothing.1) p.scan)
 

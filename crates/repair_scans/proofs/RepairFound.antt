@@ -1,30 +1,23 @@
 -- What a scan finds on the way of a repair.
-use Rattle.std.proofs.Common.{◌≡◌, ℕ, zero, suc, ◌+◌, Bool, true, false, not, ◌&&◌, List, [], ◌∷◌, Option, Some, None, inl, inr, ⊎_elim}
+use Rattle.std.proofs.Common.{◌≡◌, ℕ, ◌+◌, Bool, true, false, not, ◌&&◌, List, [], ◌∷◌, Option, Some, None, inl, inr, ⊎_elim}
 use Rattle.std.proofs.Common.{refl, sym, ap, subst, ◌∙◌, arith}
-use Rattle.std.specs.Prelude.{filter_map, option_map, slice_get, unwrap_or}
+use Rattle.std.specs.Prelude.{filter_map, option_map, unwrap_or}
 use Rattle.std.specs.FinSet as set
-use Rattle.std.specs.List.{Contains, cons_option, list_any}
-use Rattle.std.specs.Option.{option_and_then}
-use Rattle.std.specs.Ordering.{nat_cmp}
-use Rattle.std.proofs.lemmas.Option.{same_Some}
+use Rattle.std.specs.List.{cons_option, list_any}
 use Rattle.std.proofs.lemmas.Bool.{and_parts, false≢true, or_cases, or_left, or_right, true≢false}
 use Rattle.disk_batch.specs.InTurn.{HasFirstBatches, Put}
 use Rattle.disk_batch.proofs.FrontBatches.{none_front}
 use Rattle.disk_model.specs.Steps.{Image, IsSame}
 use Rattle.meta_model.specs.declared.group.Group.{Group}
-use Rattle.pv_header.specs.declared.header.PvHeader.{PvHeader}
 use Rattle.scan_rules.specs.Decision.{Area, AreaReading, Conflict, Copy, DuplicatePv, Found as PvOf, FoundGroup, GivesNoLater}
-use Rattle.scan_rules.specs.Decision.{HasShape as IsShaped, Held, NoCopy, NoGroup, PvShape, Reading, SamePv, ScanAnswer, TwoGroups}
+use Rattle.scan_rules.specs.Decision.{HasShape as IsShaped, Held, NoCopy, NoGroup, PvShape, Reading, ScanAnswer, TwoGroups}
 use Rattle.scan_rules.specs.Decision.{Unsupported, decide_scan, gives, holds, is_held, is_listed, lists}
 use Rattle.scan_rules.specs.Found.{missing_of}
-use Rattle.scan_rules.specs.Laws.{IsStray}
-use Rattle.scan_rules.proofs.Repairs.{strays_exact}
 use Rattle.scan_rules.proofs.Scanning.{same_bytes_to}
 use Rattle.scan_rules.proofs.SameShape.{same_shape}
-use Rattle.vg_found.specs.declared.disk.Disk.{Disk}
 use Rattle.vg_found.specs.declared.found.Found.{Found}
-use Rattle.vg_found.specs.Disks.{disks_of, header_on, held_areas, pv_shape}
-use Rattle.vg_scan.specs.Readings.{AreDiskReadings, IsDiskReading}
+use Rattle.vg_found.specs.Disks.{disks_of, held_areas, old_of}
+use Rattle.vg_scan.specs.Readings.{IsDiskReading}
 use Rattle.vg_scan.specs.Scans.{IsFoundBy}
 use Rattle.vg_scan.specs.Texts.{IsCopyOf}
 use Rattle.vg_repair.specs.Batches.{repair_batches}
@@ -39,10 +32,9 @@ use Rattle.image_scans.proofs.Decided.{IsFoundWith, found_parts}
 use Rattle.image_scans.proofs.DiskAgain.{AllAgain, DiskAgain, all_again}
 use Rattle.image_scans.proofs.AreaReadings.{CopyHas, DisksGive, best_copy_has}
 use Rattle.image_scans.proofs.NoLater.{none_later_given}
-use Rattle.image_scans.proofs.ReadingShapes.{pv_shaped}
 use Rattle.image_scans.proofs.SettledBase.{IsItsCopy, copies_are}
 use Rattle.repair_scans.proofs.RepairOnTheWay.{each_again, may_be_lost}
-use Rattle.repair_scans.proofs.StraysApart.{in_set}
+use Rattle.repair_scans.proofs.StraysApart.{unlisted}
 
 -- ---- a listed disk that gives the text goes on giving it
 
@@ -107,50 +99,11 @@ module _ (group : Group) (text : List ℕ) (passed : List (List ℕ)) where
       (λ later. or_right (is_listed group b && holds text b) (is_held group text bs) (held_still as' bs again.2 later))
       (or_cases (is_listed group a && holds text a) (is_held group text as') any)
 
--- ---- strays
-
-reading_at : (image : Image) (unread : set.FinSet nat_cmp) (first : ℕ) (disks : List Disk) (readings : List Reading)
-    → AreDiskReadings image unread first disks readings → (k : ℕ) (disk : Disk) → slice_get disks k ≡ Some disk
-    → (reading : Reading) × (slice_get readings k ≡ Some reading) × IsDiskReading (first + k) (image (first + k)) disk reading
-reading_at image unread first [] readings are k disk there = absurd cc
-reading_at image unread first (d ∷ disks) [] are k disk there = absurd are
-reading_at image unread first (d ∷ disks) (reading ∷ readings) are zero disk there = (
-  reading,
-  refl,
-  subst (λ (n : ℕ). IsDiskReading n (image n) disk reading) (omega arith)
-      (subst (λ (x : Disk). IsDiskReading first (image first) x reading) (same_Some d disk there) are.1),
-)
-reading_at image unread first (d ∷ disks) (reading ∷ readings) are (suc k) disk there =
-    let r = reading_at image unread (first + 1) disks readings are.2 k disk there in
-    (r.0, r.1, subst (λ (n : ℕ). IsDiskReading n (image n) disk r.0) (omega arith) r.2)
-
-same_id : (header : PvHeader) (o : Option PvHeader) (own : PvOf) (read : Option PvOf) → o ≡ Some header → read ≡ Some own
-    → SamePv (option_map pv_shape o) read → own.id ≡ header.id
-same_id header None own read is has same = absurd cc
-same_id header (Some other) own None is has same = absurd same
-same_id header (Some other) own (Some pv) is has same =
-    ap (λ (x : PvOf). x.id) (sym (same_Some pv own has)) ∙ sym same.0 ∙ ap (λ (x : PvHeader). x.id) (same_Some other header is)
+-- ---- the repair
 
 module _ (base : Image) (sizes : List ℕ) (found : Found) (p : CanRepair base sizes found) where
   abbrev readings : List Reading
   readings = p.scan.readings
-
-  -- a stray's header isn't listed
-  pub unlisted : (held : Held) (stale : List (ℕ × ℕ)) (strays : List ℕ) (missing : List (List ℕ))
-      → decide_scan readings ≡ FoundGroup held stale strays missing → found.strays ≡ set.from_list strays
-      → (pv : ℕ) (disk : Disk) (header : PvHeader) → slice_get found.disks pv ≡ Some disk → header_on disk.contents ≡ Some header
-      → set.contains found.strays pv ≡ true → lists held.group header.id ≡ false
-  unlisted held stale strays missing is are pv disk header there has stray =
-      let among : Contains strays pv =
-      in_set strays pv (ap (λ (s : set.FinSet nat_cmp). set.contains s pv) (sym are) ∙ stray) in
-      let s : IsStray held.group readings pv = (strays_exact readings held stale strays missing is pv).0 among in
-      let r = reading_at base found.unread 0 found.disks readings p.scan.are.each pv disk there in
-      let read : IsDiskReading pv (base pv) disk r.0 = subst (λ (n : ℕ). IsDiskReading n (base n) disk r.0) (omega arith) r.2 in
-      let own : r.0.pv ≡ Some s.pv = sym (ap (λ (o : Option Reading). option_and_then (λ (x : Reading). x.pv) o) r.1) ∙ s.on_disk in
-      let id : s.pv.id ≡ header.id =
-      same_id header (header_on disk.contents) s.pv r.0.pv has own
-      (pv_shaped pv disk.sectors (base pv) disk.contents r.0.pv read.contents read.pv_is) in
-      ap (lists held.group) (sym id) ∙ s.is_unlisted
 
   -- ---- a group was found
 
@@ -186,7 +139,8 @@ module _ (base : Image) (sizes : List ℕ) (found : Found) (p : CanRepair base s
         (λ k disk reading at_disk at_reading read.
         let plain : 0 + k ≡ k = omega arith in
         subst (λ (n : ℕ). DiskAgain n (image n) (λ id. true) (may_be_lost held.group text) made disk reading) (sym plain)
-        (each_again base sizes found p held.group (unlisted held stale strays missing is by.4) image h k disk at_disk held.passed copy
+        (each_again base sizes found p held.group (unlisted base sizes found p.scan held stale strays missing is by.4) image h
+        k disk at_disk held.passed copy
         reading (subst (λ (n : ℕ). IsDiskReading n (base n) disk reading) plain read)))
 
     given : DisksGive (λ disk. GivesNoLater held.group held.text) again.read
@@ -220,6 +174,7 @@ module _ (base : Image) (sizes : List ℕ) (found : Found) (p : CanRepair base s
       areas = held_areas 0 again.there;
       stale = finds.stale;
       strays = set.from_list finds.strays;
+      old = old_of (Some finds.held.group) again.there;
       missing = finds.missing;
       disk_of = disks_of finds.held.group again.there;
       unread = found.unread;
@@ -246,6 +201,7 @@ module _ (base : Image) (sizes : List ℕ) (found : Found) (p : CanRepair base s
               answer = subst (λ (answer : ScanAnswer). IsFoundBy answer found_again) (sym finds.is) (refl, refl, refl, refl, refl, refl);
               areas = refl;
               disk_of = refl;
+              old = refl;
             };
             left = λ pv within. none_unread found p.whole pv;
             whole = sym own.missing_are ∙ ap (λ (g : Group). missing_of again.read g.pvs) finds.group_is ∙ none_away;
@@ -263,7 +219,8 @@ module _ (base : Image) (sizes : List ℕ) (found : Found) (p : CanRepair base s
 
   of_none : IsFoundBy NoGroup found → (image : Image) → HasFirstBatches (repair_batches found) base image → FindsAgain sizes image found
   of_none by image h =
-      let nothing : repair_batches found ≡ [] = (leaves_all found p.shape by.3 by.4).0 in
+      let none_old : found.old ≡ set.empty = p.scan.old ∙ ap (λ (o : Option Group). old_of o found.disks) by.0 in
+      let nothing : repair_batches found ≡ [] = (leaves_all found p.shape by.3 by.4 none_old).0 in
       let same : IsSame image base = none_front base image (subst (λ (l : List (List Put)). HasFirstBatches l base image) nothing h) in
       subst (λ (i : Image). FindsAgain sizes i found) (λ i pv sector. sym (same pv sector) i)
       (record {

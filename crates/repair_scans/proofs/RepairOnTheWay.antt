@@ -1,15 +1,16 @@
 -- An image on the way of a repair: each disk reads again, but for areas that give the text that was found, or nothing.
 use Rattle.std.proofs.Common.{◌≡◌, ◌≤◌, ◌<◌, ◌⊎◌, ℕ, zero, suc, ◌+◌, ◌*◌, ◌/◌, ◌==◌, ◌&&◌, ◌||◌, not, Bool, true, false, List, [], ◌∷◌}
-use Rattle.std.proofs.Common.{length, get_or, map, Option, Some, None, inl, inr, ⊎_elim, refl, sym, ap, subst, ◌∙◌, arith}
+use Rattle.std.proofs.Common.{◌++◌, length, get_or, map, Option, Some, None, inl, inr, ⊎_elim, refl, sym, ap, subst, ◌∙◌, arith}
 use Rattle.std.specs.Prelude.{All, slice_get}
 use Rattle.std.specs.FinSet as set
 use Rattle.std.specs.List.{list_any}
 use Rattle.std.specs.Option.{option_and_then}
 use Rattle.std.proofs.lemmas.Bool.{and_from, and_parts, cases_Bool, cases_lt, eq-eqb, eqb-true, or_cases, or_left, true≢false}
-use Rattle.std.proofs.lemmas.List.Elements.{All-filter, filter_passes, recursion_from_All}
+use Rattle.std.proofs.lemmas.List.{map-append}
+use Rattle.std.proofs.lemmas.List.Elements.{All-append, All-filter, filter_passes, recursion_from_All}
 use Rattle.std.proofs.lemmas.Option.{same_Some}
 use Rattle.disk_model.specs.Steps.{Image}
-use Rattle.pv_label.specs.Label.{IsFirstLabel, IsLabel, IsLabelRefusal}
+use Rattle.pv_label.specs.Label.{IsFirstLabel, IsLabelRefusal}
 use Rattle.pv_header.specs.PvHeader.{IsPvHeader}
 use Rattle.pv_header.specs.declared.header.PvHeader.{PvHeader}
 use Rattle.pv_header.specs.PvRefusal.{Refuses}
@@ -19,9 +20,9 @@ use Rattle.mda_ring.specs.Areas.{CanTake}
 use Rattle.mda_ring.specs.Ring.{need, room}
 use Rattle.meta_model.specs.declared.group.Group.{Group}
 use Rattle.scan_rules.specs.Decision.{Area as AreaOf, AreaReading, Copy, Found as PvOf, HoldsNone, Reading, Refused, gives, lists}
-use Rattle.disk_batch.specs.InTurn.{HasFirstBatches, with_batches}
+use Rattle.disk_batch.specs.InTurn.{HasFirstBatches, Put, with_batches}
 use Rattle.disk_batch.specs.Writes.{IsWrittenBy}
-use Rattle.disk_batch.proofs.InTurn.{batches_append}
+use Rattle.disk_batch.proofs.WrittenBy.{written_left, written_right}
 use Rattle.disk_contents.specs.declared.contents.AreaFound.{AreaFound}
 use Rattle.disk_contents.specs.declared.contents.PvFound.{PvFound}
 use Rattle.disk_contents.specs.declared.contents.PvFound.TheVariants.{NoLabel, NoHeader, Whole}
@@ -39,30 +40,30 @@ use Rattle.group_plan.specs.Added.{pv_in}
 use Rattle.group_plan.specs.Judging.{lies_on}
 use Rattle.group_plan.specs.declared.state.NewLabel.{NewLabel}
 use Rattle.change_batches.specs.Batches.{batch_if, clear_batches, clear_put, label_bytes, label_put}
-use Rattle.change_batches.specs.Laws.{HasLabel, IsKeptOrNew, ShowsEntries, text_in}
-use Rattle.change_batches.specs.Sound.{CanLabel}
+use Rattle.change_batches.specs.Laws.{IsKeptOrNew, ShowsEntries, text_in}
 use Rattle.change_batches.proofs.BaseShows.{base_shows, base_sized, shows_alike}
 use Rattle.change_batches.proofs.FarAreas.{IsFar}
-use Rattle.change_batches.proofs.LabelPuts.{label_where, labels_there, with_if}
-use Rattle.change_batches.proofs.LabelsRead.{label_read}
-use Rattle.vg_repair.specs.Batches.{repair_batches, stale_batches, stray_areas, stray_labels}
+use Rattle.change_batches.proofs.LabelPuts.{label_where, no_label}
+use Rattle.vg_repair.specs.Batches.{new_labels, old_labels, repair_batches, stale_batches, stray_areas, stray_labels}
 use Rattle.vg_repair.specs.Laws.{IsKept}
 use Rattle.vg_repair.specs.Stale.{stale_areas, text_of}
 use Rattle.vg_repair.proofs.HeldAreas.{each_far, stale_all, stale_held}
 use Rattle.vg_repair.proofs.RepairedShape.{rooms}
-use Rattle.vg_repair.proofs.StrayLabels.{labels_can, labels_differ}
+use Rattle.vg_repair.proofs.NewLabels.{labels_can, labels_last}
 use Rattle.image_scans.proofs.AreaAgain.{HasHeader, IsCleared, IsKnown, IsOnTheWay, MayBeRefused, kept_or_made}
 use Rattle.image_scans.proofs.BaseEntries.{entries_shown}
 use Rattle.image_scans.proofs.CommitWrites.{IsAreaWrite, commit_writes}
 use Rattle.image_scans.proofs.DiskAgain.{DiskAgain, LabelStands, PvMayBeRefused, disk_again, pv_same}
 use Rattle.image_scans.proofs.FoundAreas.{IsHeldOn, IsPlaced, all_held, entry_kept, of_held}
-use Rattle.image_scans.proofs.Front.{AnyWrites, any_append, any_if, batches_or, front_or}
+use Rattle.image_scans.proofs.Front.{AnyWrites, any_append, any_if, front_or}
 use Rattle.image_scans.proofs.AreaReadings.{AreasGive, GivenHas}
-use Rattle.image_scans.proofs.Labels.{IsSameHeader, four_same}
+use Rattle.image_scans.proofs.Labels.{four_same}
+use Rattle.image_scans.proofs.LabelsAgain.{IsLabelOn, label_stands, none_written}
 use Rattle.image_scans.proofs.MetAreas.{all_placed, area_met, header_met}
 use Rattle.image_scans.proofs.ClearWrites.{IsClearWrite, clear_write}
-use Rattle.image_scans.proofs.ClearedLabels.{IsLabelOn, labels_on as labels_stand_on}
+use Rattle.image_scans.proofs.MarkedLabels.{labels_on as labels_stand_on}
 use Rattle.repair_scans.specs.Laws.{CanRepair}
+use Rattle.repair_scans.proofs.StraysApart.{strays_apart}
 
 -- ---- an area among others
 
@@ -151,10 +152,13 @@ module _ (base : Image) (sizes : List ℕ) (found : Found) (p : CanRepair base s
   stale = stale_areas found
 
   abbrev labels : List NewLabel
-  labels = stray_labels found
+  labels = new_labels found
 
   abbrev cleared : List (Area × Option Locn)
   cleared = stray_areas found
+
+  abbrev olds : List (List Put)
+  olds = batch_if (map label_put (old_labels found))
 
   pub shown : ShowsEntries found.areas base
   shown =
@@ -186,8 +190,10 @@ module _ (base : Image) (sizes : List ℕ) (found : Found) (p : CanRepair base s
   pub stale_rooms : All (λ (a : Area × Option Locn). need (length text + 1) ≤ room a.0.size a.1) stale
   stale_rooms = rooms text stale p.fits
 
-  labels_on : All (IsLabelOn found.strays found.disks) labels
-  labels_on = labels_stand_on found.strays found.disks
+  labels_on : All (IsLabelOn found.disks) labels
+  labels_on =
+      All-append (IsLabelOn found.disks) (old_labels found) (stray_labels found) (labels_stand_on true found.old found.disks)
+      (labels_stand_on false found.strays found.disks)
 
   -- ---- what is written
 
@@ -203,13 +209,23 @@ module _ (base : Image) (sizes : List ℕ) (found : Found) (p : CanRepair base s
       → IsAreaWrite text stale pv sector value ⊎ (IsWrittenBy (map label_put labels) pv sector value ⊎ IsClearWrite cleared pv sector value)
   writes pv sector value by =
       ⊎_elim
+      (λ front.
+      ⊎_elim
       (λ texts. inl (texts_write stale (stale_held found p.shape).take stale_rooms pv sector value texts))
+      (λ label. inr (inl (subst (λ (l : List Put). IsWrittenBy l pv sector value)
+      (sym (map-append label_put (old_labels found) (stray_labels found)))
+      (written_left (map label_put (old_labels found)) (map label_put (stray_labels found)) pv sector value
+      (any_if (map label_put (old_labels found)) pv sector value label)))))
+      (any_append (stale_batches text stale) olds pv sector value front))
       (λ clears.
       ⊎_elim
-      (λ label. inr (inl (any_if (map label_put labels) pv sector value label)))
+      (λ label. inr (inl (subst (λ (l : List Put). IsWrittenBy l pv sector value)
+      (sym (map-append label_put (old_labels found) (stray_labels found)))
+      (written_right (map label_put (old_labels found)) (map label_put (stray_labels found)) pv sector value
+      (any_if (map label_put (stray_labels found)) pv sector value label)))))
       (λ last. inr (inr (clear_write cleared pv sector value (any_if (map clear_put cleared) pv sector value last))))
-      (any_append (batch_if (map label_put labels)) (batch_if (map clear_put cleared)) pv sector value clears))
-      (any_append (stale_batches text stale) (clear_batches found.strays found.disks found.areas) pv sector value by)
+      (any_append (batch_if (map label_put (stray_labels found))) (batch_if (map clear_put cleared)) pv sector value clears))
+      (any_append (stale_batches text stale ++ olds) (clear_batches found.strays found.disks found.areas) pv sector value by)
 
   -- near sectors are those of labels
   text_far : (pv sector : ℕ) (value : List ℕ) → IsAreaWrite text stale pv sector value → 4 ≤ sector
@@ -220,34 +236,10 @@ module _ (base : Image) (sizes : List ℕ) (found : Found) (p : CanRepair base s
   clear_far pv sector value w =
       let begins : 2048 ≤ (get_or cleared w.number no_area).0.start = cleared_far w.number no_area w.among in omega (arith, begins, w.at)
 
-  -- some label, where a list has none
-  pub some_label : NewLabel
-  some_label =
-      record { disk = 0; sector = 0; header = record { id = []; device_bytes = 0; data_areas = []; areas = []; version = 0; flags = 0 } }
-
   -- a label stays until all is written
   label_stays : (k : ℕ) (d : NewLabel) → k < length labels
       → with_batches (repair_batches found) base (get_or labels k d).disk (get_or labels k d).sector ≡ label_bytes (get_or labels k d)
-  label_stays k d within =
-      let label : NewLabel = get_or labels k d in
-      let low : label.sector < 4 = (labels_can found p.shape k d within).sector_below in
-      let texts : Image = with_batches (stale_batches text stale) base in
-      let first : Image = with_batches (batch_if (map label_put labels)) texts in
-      let there : first label.disk label.sector ≡ label_bytes label =
-      ap (λ (i : Image). i label.disk label.sector) (with_if (map label_put labels) texts)
-      ∙ labels_there labels texts (labels_differ found p.shape) k d within
-      in
-      ap (λ (i : Image). i label.disk label.sector)
-      (batches_append (stale_batches text stale) (clear_batches found.strays found.disks found.areas) base
-      ∙ batches_append (batch_if (map label_put labels)) (batch_if (map clear_put cleared)) texts)
-      ∙ ⊎_elim
-      (λ same. same ∙ there)
-      (λ by.
-      let value : List ℕ = with_batches (batch_if (map clear_put cleared)) first label.disk label.sector in
-      let w : IsClearWrite cleared label.disk label.sector value =
-      clear_write cleared label.disk label.sector value (any_if (map clear_put cleared) label.disk label.sector value by) in
-      absurd (omega (arith, low, clear_far label.disk label.sector value w)))
-      (batches_or (batch_if (map clear_put cleared)) first label.disk label.sector)
+  label_stays = labels_last found p.shape (strays_apart base sizes found p.scan) base
 
   -- ---- an image on the way
 
@@ -275,63 +267,19 @@ module _ (base : Image) (sizes : List ℕ) (found : Found) (p : CanRepair base s
 
     module _ (pv : ℕ) (disk : Disk) (there : slice_get found.disks pv ≡ Some disk) where
       -- a label on this disk is where the label was found
-      no_label : (option_and_then pv_in disk.contents ≡ None) → (sector : ℕ) → sector < 4 → image pv sector ≡ base pv sector
-      no_label none sector low =
-          ⊎_elim
-          (λ same. same)
-          (λ by.
-          let w = label_where labels some_label pv sector (image pv sector) by in
-          let on : IsLabelOn found.strays found.disks (get_or labels w.0 some_label) = labels_on w.0 some_label w.1 in
-          let same : disk ≡ on.0 = same_Some disk on.0 (sym there ∙ ap (slice_get found.disks) (sym w.2) ∙ on.2) in
-          absurd (let e : ◌≡◌ {A = Option (ℕ × PvHeader)} None (Some ((get_or labels w.0 some_label).sector, on.1)) = sym none
-          ∙ ap (λ (d : Disk). option_and_then pv_in d.contents) same ∙ on.3 in cc))
-          (near pv sector low)
+      unlabelled : (option_and_then pv_in disk.contents ≡ None) → (sector : ℕ) → sector < 4 → image pv sector ≡ base pv sector
+      unlabelled none sector low =
+          ⊎_elim (λ same. same)
+          (λ by. absurd (none_written found.disks labels labels_on pv disk there none sector (image pv sector) by)) (near pv sector low)
 
       module _ (label : ℕ) (header : PvHeader) (areas : List AreaFound) (is : disk.contents ≡ Some (Whole label header areas))
           (low : label < 4) where
-        of_label : (sector : ℕ) (value : List ℕ) → IsWrittenBy (map label_put labels) pv sector value
-            → (new : NewLabel) × (label ≡ sector) × (value ≡ label_bytes new) × IsSameHeader header new.header × (new.sector ≡ label)
-            × CanLabel new
-            × (with_batches (repair_batches found) base new.disk new.sector ≡ label_bytes new)
-            × HasLabel (with_batches (repair_batches found) base) new
-        of_label sector value by =
-            let w = label_where labels some_label pv sector value by in
-            let new : NewLabel = get_or labels w.0 some_label in
-            let on : IsLabelOn found.strays found.disks new = labels_on w.0 some_label w.1 in
-            let same : disk ≡ on.0 = same_Some disk on.0 (sym there ∙ ap (slice_get found.disks) (sym w.2) ∙ on.2) in
-            let both : ◌≡◌ {A = Option (ℕ × PvHeader)} (Some (label, header)) (Some (new.sector, on.1)) =
-            sym (ap (option_and_then pv_in) is) ∙ ap (λ (d : Disk). option_and_then pv_in d.contents) same ∙ on.3 in
-            let pair : (label, header) ≡ (new.sector, on.1) = same_Some (label, header) (new.sector, on.1) both in
-            let at : label ≡ new.sector = ap (λ (x : ℕ × PvHeader). x.0) pair in (
-              new,
-              at ∙ w.3,
-              w.4,
-              subst (λ (old : PvHeader). IsSameHeader old new.header) (sym (ap (λ (x : ℕ × PvHeader). x.1) pair)) on.4,
-              sym at,
-              labels_can found p.shape w.0 some_label w.1,
-              label_stays w.0 some_label w.1,
-              (p.keeps.right base shown).labels w.0 some_label w.1,
-            )
-
         -- the label reads again, with the same id and areas
-        pub label_stands : LabelStands (base pv) (image pv) label header
-        label_stands = record {
-          before =
-              λ k less. ⊎_elim (λ same. same) (λ by. absurd (omega (arith, less, (of_label k (image pv k) by).1)))
-              (near pv k (omega (arith, less, low)));
-          is =
-              ⊎_elim
-              (λ same. inl same)
-              (λ by.
-              let w = of_label label (image pv label) by in
-              inr (
-                w.0.header,
-                w.3,
-                subst (λ (s : List ℕ). IsLabel s label) (sym w.2) (subst (λ (n : ℕ). IsLabel (label_bytes w.0) n) w.4 (label_read w.0 w.5)),
-                subst (λ (s : List ℕ). IsPvHeader s w.0.header []) (w.6 ∙ sym w.2) w.7.header,
-              ))
-              (near pv label low);
-        }
+        pub own_stands : LabelStands (base pv) (image pv) label header
+        own_stands =
+            label_stands found.disks labels labels_on pv disk there (labels_can found p.shape)
+            (λ k d within. subst (λ (s : List ℕ). IsPvHeader s (get_or labels k d).header []) (label_stays k d within)
+            ((p.keeps.right base shown).labels k d within).header) base image (near pv) label header areas is low
 
         -- ---- an area that was found
 
@@ -370,8 +318,8 @@ module _ (base : Image) (sizes : List ℕ) (found : Found) (p : CanRepair base s
               (λ other.
               ⊎_elim
               (λ at.
-              let w = label_where labels some_label pv sector (image pv sector) at in
-              let low' : (get_or labels w.0 some_label).sector < 4 = (labels_can found p.shape w.0 some_label w.1).sector_below in
+              let w = label_where labels no_label pv sector (image pv sector) at in
+              let low' : (get_or labels w.0 no_label).sector < 4 = (labels_can found p.shape w.0 no_label w.1).sector_below in
               absurd (omega (arith, low', w.3, placed.far)))
               (λ clear. inl (is_cleared clear))
               other)
@@ -402,8 +350,8 @@ module _ (base : Image) (sizes : List ℕ) (found : Found) (p : CanRepair base s
               (λ other.
               ⊎_elim
               (λ at.
-              let w = label_where labels some_label pv sector (image pv sector) at in
-              let low' : (get_or labels w.0 some_label).sector < 4 = (labels_can found p.shape w.0 some_label w.1).sector_below in
+              let w = label_where labels no_label pv sector (image pv sector) at in
+              let low' : (get_or labels w.0 no_label).sector < 4 = (labels_can found p.shape w.0 no_label w.1).sector_below in
               absurd (omega (arith, low', w.3, placed.far, from, starts)))
               (λ clear.
               let c : Area × Option Locn = get_or cleared clear.number no_area in
@@ -439,8 +387,8 @@ module _ (base : Image) (sizes : List ℕ) (found : Found) (p : CanRepair base s
               (λ other.
               ⊎_elim
               (λ at.
-              let w = label_where labels some_label pv sector (image pv sector) at in
-              let low' : (get_or labels w.0 some_label).sector < 4 = (labels_can found p.shape w.0 some_label w.1).sector_below in
+              let w = label_where labels no_label pv sector (image pv sector) at in
+              let low' : (get_or labels w.0 no_label).sector < 4 = (labels_can found p.shape w.0 no_label w.1).sector_below in
               absurd (omega (arith, low', w.3, placed.far)))
               (λ clear. inl (is_cleared clear))
               other)
@@ -539,7 +487,7 @@ module _ (base : Image) (sizes : List ℕ) (found : Found) (p : CanRepair base s
             subst (λ (n : ℕ). DiskAgain pv (image pv) (λ id. true) lost (Copy group text passed) disk
             (record { sectors = n; pv = reading.pv })) (sym read.sectors_is)
             (disk_again text group passed copy (λ id. true) lost pv base image disk.sectors disk.contents reading.pv read.contents
-            read.pv_is (fine_pv group text reading.pv) label header areas is label_stands
+            read.pv_is (fine_pv group text reading.pv) label header areas is own_stands
             (recursion_from_All (IsKnown text pv base image true (lost header.id)) areas (λ k d within. known k d within)))
 
       -- without a header nothing of the disk's first sectors is written
@@ -558,7 +506,7 @@ module _ (base : Image) (sizes : List ℕ) (found : Found) (p : CanRepair base s
       pub without_header : (contents : Option PvFound) → disk.contents ≡ contents → option_and_then pv_in contents ≡ None
           → (reading : Reading) → IsContents (base pv) disk.sectors contents → IsContents (image pv) disk.sectors contents
       without_header None is none reading c = tt
-      without_header (Some contents) is none reading c = bare_contents contents none (no_label (ap (option_and_then pv_in) is ∙ none)) c
+      without_header (Some contents) is none reading c = bare_contents contents none (unlabelled (ap (option_and_then pv_in) is ∙ none)) c
 
       bare_pv : (contents : Option PvFound) → option_and_then pv_in contents ≡ None → (read : Option PvOf)
           → IsPvReading pv (base pv) contents read → IsPvReading pv (image pv) contents read

@@ -22,10 +22,10 @@ use Rattle.vg_found.specs.Disks.{disks_of, shapes}
 use Rattle.vg_found.specs.Shape.{IsDisk}
 use Rattle.vg_commit.specs.Written.{area_span, header_span}
 use Rattle.group_plan.specs.Judging.{lies_on}
-use Rattle.vg_repair.specs.Batches.{repair_batches, stray_labels}
+use Rattle.vg_repair.specs.Batches.{new_labels, repair_batches}
 use Rattle.vg_repair.specs.Laws.{IsOther}
 use Rattle.vg_repair.proofs.HeldAreas.{stale_all}
-use Rattle.vg_repair.proofs.StrayLabels.{labels_can}
+use Rattle.vg_repair.proofs.NewLabels.{labels_can}
 use Rattle.image_scans.proofs.FoundAreas.{IsHeldOn, all_held}
 use Rattle.image_scans.proofs.Placed.{IsPlaceOn, place_beside}
 use Rattle.image_scans.proofs.BesideAreas.{beside_areas}
@@ -78,7 +78,7 @@ module _ (base : Image) (sizes : List ℕ) (found : Found) (p : CanRepair base s
           stale_all found p.shape (λ (a : Area × Option Locn). covers (area_span a.0) number at.sector ≡ false)
           (λ k d within. outside (get_or found.areas k d) (held k d within));
       labels =
-          λ k d within. inr (λ same. let low : (get_or (stray_labels found) k d).sector
+          λ k d within. inr (λ same. let low : (get_or (new_labels found) k d).sector
           < 4 = (labels_can found p.shape k d within).sector_below in let behind : 8
           ≤ at.sector = on.beside.behind in omega (arith, low, same, behind));
       headers =

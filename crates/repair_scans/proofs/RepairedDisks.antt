@@ -1,5 +1,5 @@
 -- The disks once a repair is done: they stand and read as the repair hands them on.
-use Rattle.std.proofs.Common.{◌≡◌, ◌↔◌, ℕ, suc, ◌+◌, Bool, true, false, cond, List, [], ◌∷◌, get_or, map, Option, Some, None, refl, sym, ap}
+use Rattle.std.proofs.Common.{◌≡◌, ◌↔◌, ℕ, suc, ◌+◌, true, false, List, [], ◌∷◌, get_or, map, Option, Some, None, refl, sym, ap}
 use Rattle.std.proofs.Common.{subst, ◌∙◌, arith}
 use Rattle.std.specs.Prelude.{option_map, slice_get}
 use Rattle.std.specs.FinSet as set
@@ -22,11 +22,11 @@ use Rattle.vg_found.specs.Disks.{header_on}
 use Rattle.vg_scan.specs.Readings.{AreAreaReadings, AreDiskReadings, AreReadings, IsAreaReading, IsContents, IsDiskReading, IsPvReading}
 use Rattle.vg_scan.specs.Texts.{IsCopyOf}
 use Rattle.group_plan.specs.Added.{pv_in}
-use Rattle.group_plan.specs.Cleared.{unused}
 use Rattle.vg_repair.specs.Batches.{repair_batches}
 use Rattle.vg_repair.specs.Repaired.{repaired_area, repaired_areas, repaired_contents, repaired_disk, repaired_disks}
 use Rattle.vg_repair.specs.Stale.{text_of}
 use Rattle.vg_repair.proofs.Numbered.{mapped_same}
+use Rattle.vg_repair.proofs.RepairedHeaders.{same_areas, same_id}
 use Rattle.vg_repair.proofs.RepairedShape.{area_kept}
 use Rattle.image_scans.proofs.CommitLine.{all_written}
 use Rattle.repair_scans.specs.Laws.{CanRepair}
@@ -46,10 +46,10 @@ module _ (base : Image) (sizes : List ℕ) (found : Found) (p : CanRepair base s
   new = Copy group (text_of found) passed
 
   abbrev contents_then : ℕ → PvFound → PvFound
-  contents_then = repaired_contents found.stale found.strays (text_of found)
+  contents_then = repaired_contents found.stale found.strays found.old (text_of found)
 
   abbrev disk_then : ℕ × Disk → Disk
-  disk_then = repaired_disk found.stale found.strays (text_of found)
+  disk_then = repaired_disk found.stale found.strays found.old (text_of found)
 
   abbrev read_then : ℕ × Reading → Reading
   read_then = reading_after found.stale found.strays new
@@ -97,14 +97,6 @@ module _ (base : Image) (sizes : List ℕ) (found : Found) (p : CanRepair base s
             (slice_get_within areas n area at) one (subst (IsAreaFound (base pv)) (sym same) stands)
             (subst (λ (a : AreaFound). IsAreaReading pv (base pv) a one) (sym same) read))
 
-        same_areas : (stray : Bool) → header.areas ≡ (cond stray (unused header) header).areas
-        same_areas true = refl
-        same_areas false = refl
-
-        same_id : (stray : Bool) → header.id ≡ (cond stray (unused header) header).id
-        same_id true = refl
-        same_id false = refl
-
         abbrev list : List AreaFound
         list = repaired_areas found.stale found.strays (text_of found) pv areas
 
@@ -126,11 +118,11 @@ module _ (base : Image) (sizes : List ℕ) (found : Found) (p : CanRepair base s
                 labelled.0,
                 labelled.1,
                 record {
-                  in_order = order ∙ stood.2.in_order ∙ same_areas (set.contains found.strays pv);
+                  in_order = order ∙ stood.2.in_order ∙ same_areas found.strays found.old pv header;
                   each = All-from_recursion (IsAreaFound (last pv)) list both.0;
                 },
               ),
-              (id_is ∙ same_id (set.contains found.strays pv), both.1),
+              (id_is ∙ same_id found.strays found.old pv header, both.1),
             )
 
       -- ---- any disk
@@ -185,7 +177,7 @@ module _ (base : Image) (sizes : List ℕ) (found : Found) (p : CanRepair base s
   )
 
   -- they read so
-  pub disks_repaired : AreReadings last sizes found.unread (repaired_disks found.stale found.strays (text_of found) found.disks)
+  pub disks_repaired : AreReadings last sizes found.unread (repaired_disks found.stale found.strays found.old (text_of found) found.disks)
       (readings_after found.stale found.strays new p.scan.readings)
   disks_repaired = record {
     sizes_is =

@@ -15,12 +15,12 @@ abbrev version_on : List Disk → Group → Version
 version_on disks group = record { group = group; disk_of = disks_of group disks }
 
 by_group : (found : Found) (o : Option Group)
-    → option_map (version_on (repaired_disks found.stale found.strays (text_of found) found.disks)) o
+    → option_map (version_on (repaired_disks found.stale found.strays found.old (text_of found) found.disks)) o
     ≡ option_map (version_on found.disks) o
 by_group found None = refl
 by_group found (Some group) =
     ap (λ (l : List ℕ). Some (record { group = group; disk_of = l }))
-    (disks_kept found.stale found.strays (text_of found) group found.disks)
+    (disks_kept found.stale found.strays found.old (text_of found) group found.disks)
 
 pub version_kept : (found : Found) → version_in (repaired_of found) ≡ version_in found
 version_kept found = by_group found found.group

@@ -19,16 +19,16 @@ use Rattle.vg_found.specs.declared.found.Found.{Found}
 use Rattle.vg_found.specs.Disks.{areas_on, held_area}
 use Rattle.vg_commit.proofs.Disks.{no_area}
 use Rattle.group_plan.specs.Judging.{lies_on}
-use Rattle.change_batches.proofs.LabelPuts.{label_where}
-use Rattle.vg_repair.specs.Batches.{repair_batches, stray_areas, stray_labels}
+use Rattle.change_batches.proofs.LabelPuts.{label_where, no_label}
+use Rattle.vg_repair.specs.Batches.{new_labels, repair_batches, stray_areas}
 use Rattle.vg_repair.specs.Stale.{is_among, stale_areas}
-use Rattle.vg_repair.proofs.StrayLabels.{labels_can}
+use Rattle.vg_repair.proofs.NewLabels.{labels_can}
 use Rattle.image_scans.proofs.FoundAreas.{IsPlaced}
 use Rattle.image_scans.proofs.Front.{batches_or}
 use Rattle.image_scans.proofs.MetAreas.{all_placed, area_met}
 use Rattle.repair_scans.specs.Laws.{CanRepair}
 use Rattle.repair_scans.proofs.NumberedAreas.{stale_number}
-use Rattle.repair_scans.proofs.RepairOnTheWay.{are_disks, cleared_on_disks, some_label, stale_on_disks, writes}
+use Rattle.repair_scans.proofs.RepairOnTheWay.{are_disks, cleared_on_disks, stale_on_disks, writes}
 use Rattle.repair_scans.proofs.StraysApart.{in_at}
 
 module _ (base : Image) (sizes : List ℕ) (found : Found) (p : CanRepair base sizes found) (pv : ℕ) (disk : Disk)
@@ -71,9 +71,9 @@ module _ (base : Image) (sizes : List ℕ) (found : Found) (p : CanRepair base s
       (λ other.
       ⊎_elim
       (λ at.
-      let w = label_where (stray_labels found) (some_label base sizes found p) pv sector (last pv sector) at in
-      let low : (get_or (stray_labels found) w.0 (some_label base sizes found p)).sector < 4 =
-      (labels_can found p.shape w.0 (some_label base sizes found p) w.1).sector_below in
+      let w = label_where (new_labels found) no_label pv sector (last pv sector) at in
+      let low : (get_or (new_labels found) w.0 no_label).sector < 4 =
+      (labels_can found p.shape w.0 no_label w.1).sector_below in
       absurd (omega (arith, low, w.3, placed.far, from)))
       (λ clear.
       let c : Area × Option Locn = get_or (stray_areas found) clear.number no_area in

@@ -31,7 +31,7 @@ pub record FindsAgain (sizes : List ℕ) (image : Image) (found : Found) : Type 
   pub finds : FindsVersion sizes image none_out (version_in found)
   pub text : finds.found.text ≡ found.text
 
--- a scan finds no area stale on a stray
+-- a scan finds no area stale on a stray, and no old disk that is one
 abbrev pub ScansFindStraysApart : Type 0
 ScansFindStraysApart = (base : Image) (sizes : List ℕ) (found : Found) → IsScanOf base sizes found → StraysAreOthers found
 

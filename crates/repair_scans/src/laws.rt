@@ -4,8 +4,8 @@ ghost use Rattle.repair_scans.specs.Laws.{RepairKeepsPlaces, RepairKeepsVersion,
 use vg_scan::one_reading;
 
 /// A scan of an image on the way of a repair finds the version of the group that was found before, with the same text and
-/// with each of its physical volumes. What a scan finds to be stale is on no stray, as a repair asks. Once all is written, a
-/// scan finds what the repair hands on.
+/// with each of its physical volumes. What a scan finds to be stale or old is on no stray, as a repair asks. Once all is
+/// written, a scan finds what the repair hands on.
 pub fn repair_scans()
     ensures on_the_way { RepairsScan }
     ensures apart { ScansFindStraysApart }
