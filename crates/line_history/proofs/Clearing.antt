@@ -1,5 +1,5 @@
 -- What every image shows while disks are cleared behind a line's batches.
-use Rattle.std.proofs.Common.{◌≡◌, ◌≤◌, ℕ, ◌-◌, Bool, true, false, List, [], ◌∷◌, ◌++◌, length, take, Some, refl, sym, ap, subst, ◌∙◌}
+use Rattle.std.proofs.Common.{◌≡◌, ◌≤◌, ℕ, ◌-◌, Bool, true, false, List, [], ◌∷◌, ◌++◌, length, map, take, Some, refl, sym, ap, subst, ◌∙◌}
 use Rattle.std.proofs.Common.{append-nil}
 use Rattle.std.specs.FinSet as set
 use Rattle.std.specs.Ordering.{nat_cmp}
@@ -19,9 +19,9 @@ use Rattle.disk_batch.proofs.InTurn.{of_submitted, turns_both}
 use Rattle.disk_batch.specs.InTurn.{HasFirstBatches, Put, WritesInTurn, with_batches}
 use Rattle.group_ops.proofs.NoClears.{clears, none_cleared}
 use Rattle.group_ops.specs.Laws.{state_in}
-use Rattle.change_batches.specs.Batches.{clear_batches}
+use Rattle.change_batches.specs.Batches.{batch_if, clear_batches, label_put}
 use Rattle.vg_repair.proofs.Nothing.{leaves_all}
-use Rattle.vg_repair.specs.Batches.{stale_batches}
+use Rattle.vg_repair.specs.Batches.{old_labels, stale_batches}
 use Rattle.vg_repair.specs.Repaired.{repaired_of}
 use Rattle.vg_repair.specs.Stale.{stale_areas, text_of}
 use Rattle.image_scans.proofs.ClearPlaces.{clears_keep_places}
@@ -136,8 +136,8 @@ module _ (scans : RepairedScans) (g : Given) (well : Bool) (start ended : Record
         let found = repaired_of g.found in
         ap (λ (s : set.FinSet nat_cmp). clear_batches s found.disks found.areas)
         (none_cleared (state_in found g.names g.backup) g.line.number g.line.id g.line.command g.clock g.given c.line.given.planned other)
-        ∙ none_behind (stale_batches (text_of found) (stale_areas found)) (clear_batches set.empty found.disks found.areas)
-        (leaves_all found (c.line.repaired_shape refl) refl refl).0
+        ∙ none_behind (stale_batches (text_of found) (stale_areas found) ++ batch_if (map label_put (old_labels found)))
+        (clear_batches set.empty found.disks found.areas) (leaves_all found (c.line.repaired_shape refl) refl refl refl).0
 
     -- each sector has one possible value, that once its batches were written
     pub base_stays : (m : ℕ) → length c.made.steps ≤ m → m ≤ length ended.steps → IsBase (at_moment m ended) made_image

@@ -27,7 +27,7 @@ use Rattle.group_ops.specs.Laws.{state_in}
 use Rattle.group_ops.specs.Planning.{change_of}
 use Rattle.change_batches.specs.Batches.{areas_of}
 use Rattle.vg_change.specs.LineBatches.{batches_of, clears_of, zeros_of}
-use Rattle.vg_repair.specs.Batches.{repair_batches, stray_areas, stray_labels}
+use Rattle.vg_repair.specs.Batches.{old_labels, repair_batches, stray_areas, stray_labels}
 use Rattle.vg_repair.specs.Stale.{stale_areas}
 use Rattle.image_scans.specs.Laws.{CanCarryOut, IsFree}
 use Rattle.repair_scans.specs.Laws.{CanRepair}
@@ -64,6 +64,8 @@ pub data IsLinePlace (change : Change) (areas : List (Area × Option Locn)) (pv 
 pub data IsRepairPlace (found : Found) (pv sector : ℕ) : Type 0 where
   -- a stale area
   InStale : IsTrue (in_areas (stale_areas found) pv sector) → IsRepairPlace found pv sector
+  -- the label sector of an old physical volume
+  AtOld : IsTrue (in_labels (old_labels found) pv sector) → IsRepairPlace found pv sector
   -- the label sector of a stray
   AtStray : IsTrue (in_labels (stray_labels found) pv sector) → IsRepairPlace found pv sector
   -- the header of a metadata area of a stray

@@ -52,6 +52,7 @@ use Rattle.vg_repair.proofs.RepairedEntries.{repaired_entries}
 use Rattle.image_scans.proofs.CommitLine.{all_written}
 use Rattle.image_scans.proofs.Zeroes.{IsPlannedOn, zeroes_show}
 use Rattle.repair_scans.proofs.FoundGroup.{found_group}
+use Rattle.repair_scans.proofs.StraysApart.{strays_apart}
 use Rattle.line_history.proofs.Seen.{record_before}
 use Rattle.lvm_run.specs.Changing.{GoesOn, IsCarriedOut, IsChanged, IsWholeAgain, changing, ending_of, line_in, outcome_of}
 use Rattle.lvm_run.specs.CommandSpec.{Context, Finds, Inputs, no_inputs}
@@ -65,7 +66,6 @@ use Rattle.lvm_run.specs.declared.outcome.Outcome.TheVariants.{Ended, Answered}
 use Rattle.lvm_run.proofs.ChangedDisks.{looks, none_begun, none_in_turn, unpassed, untrue, unwritten}
 use Rattle.lvm_run.proofs.FlushedAndScanned.{same_image}
 use Rattle.lvm_run.proofs.ScannedEntries.{scan_names}
-use Rattle.lvm_run.proofs.StraysApart.{strays_are_others}
 
 module _ (names : List Word) (command : Command) (id : Option (List ℕ)) (time : ℕ) (old : State) where
   abbrev context : Context
@@ -242,7 +242,7 @@ module _ (names : List Word) (command : Command) (id : Option (List ℕ)) (time 
         entries_start =
             subst (λ (image : Image). ShowsEntries (repaired_of found).areas image) (sym now_start)
             (repaired_entries found opened.shape (images_kept
-            (strays_are_others (now_after before.opened before.steps) old.sizes found (held_now before is).0))
+            (strays_apart (now_after before.opened before.steps) old.sizes found (held_now before is).0))
             (now_after before.opened before.steps) (entries_now before is))
 
       module _ (again_line : IsIdleAgain done new) (record_new : (told : Record) → new.told ≡ Some told → IsRecord told.steps) where

@@ -18,6 +18,5 @@ mod Refusals
 mod Reporting
 mod ScannedEntries
 mod SourcedLines
-mod StraysApart
 mod Undone
 mod ValuesWritten

@@ -1,4 +1,4 @@
--- A command that changes something: the disks are flushed and scanned, what is stale or a stray is repaired, the line is judged
+-- A command that changes something: the disks are flushed and scanned, what is stale, old or a stray is repaired, the line is judged
 -- by what stands there then, its zeros and then its other batches are written, and disks are cleared that the group lets go.
 use Rattle.std.specs.Prelude.{◌≡◌, ℕ, true, List, [], length, Option, Some, None, Result, Ok, Err, MatchResult}
 use Rattle.command_table.specs.declared.command.Command.{Command}

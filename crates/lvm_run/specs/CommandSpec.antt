@@ -60,7 +60,7 @@ pub record CommandSpec : Type 1 where
   -- its first refusal, where one holds, by what the scan finds and, where it changes something, once that is repaired, and by what
   -- it takes
   pub refusal : Context → Option Found → Inputs → Option OpRefusal
-  -- where it changes something, the batches of writes that repair what the scan finds to be stale or a stray, and of the first
+  -- where it changes something, the batches of writes that repair what the scan finds to be stale, old or a stray, and of the first
   -- stale area in which the group's text has no room its disk, how many sectors it needs and how many there are
   pub repairs : Option Found → List (List Put)
   pub stuck : Option Found → Option (ℕ × ℕ × ℕ)

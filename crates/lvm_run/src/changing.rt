@@ -28,7 +28,7 @@ use vg_change::{ChangeFault, carry_out};
 use vg_found::{Found, Whole};
 use vg_repair::{RepairFault, repair};
 
-/// Flushes and scans the disks, repairs what is stale or a stray, and carries the line out on what is found then, at this
+/// Flushes and scans the disks, repairs what is stale, old or a stray, and carries the line out on what is found then, at this
 /// time. All memory for a repair, and then for the line, is taken before anything of it is written.
 pub fn run_change<S: Shelf>(
     alloc: Global,
