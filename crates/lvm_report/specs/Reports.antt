@@ -88,11 +88,12 @@ disk_lines word names disks test = flat_map (λ pv. if test pv then word ++ name
 abbrev pub has_stale : Found → ℕ → Bool
 has_stale found pv = list_any (λ (area : ℕ × ℕ). area.0 == pv) found.stale
 
--- disks with a stale area, strays, missing physical volumes, keys that are passed over, and unread disks
+-- disks with a stale area, strays, disks with an old header, missing physical volumes, keys that are passed over, and unread disks
 abbrev pub faults_text : Found → List Word → List ℕ
 faults_text found names =
     disk_lines (codes "stale ") names (length found.disks) (has_stale found)
     ++ disk_lines (codes "stray ") names (length found.disks) (set.contains found.strays)
+    ++ disk_lines (codes "old ") names (length found.disks) (set.contains found.old)
     ++ flat_map (λ id. codes "missing " ++ hyphen_form id ++ codes "\n") found.missing
     ++ flat_map (λ path. codes "unknown key " ++ path ++ codes "\n") found.unknown
     ++ disk_lines (codes "unreadable ") names (length found.disks) (set.contains found.unread)

@@ -65,8 +65,9 @@ pub fn lvs(alloc: Global, found: &Found) -> Result<Text, AllocError>
 }
 
 /// The report of vgck(8): `stale PV` for each disk of the group with an area that holds anything else than its copy,
-/// `stray PV`, `missing ID`, `unknown key PATH` and `unreadable PV`, each on a line of its own and each kind in that order; or
-/// `ok` where there is none. The disks have these names.
+/// `stray PV`, `old PV` for each of its disks whose header is of an older version than 2, `missing ID`, `unknown key PATH` and
+/// `unreadable PV`, each on a line of its own and each kind in that order; or `ok` where there is none. The disks have these
+/// names.
 ///
 /// # Errors
 ///

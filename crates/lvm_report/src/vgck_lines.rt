@@ -12,8 +12,8 @@ use sector_base::{PvSet, Text};
 use std::alloc::AllocError;
 use vg_found::{Found, stale_disks};
 
-/// Appends a line for each disk with a stale area, each stray, each missing physical volume, each key that is passed over and
-/// each disk that is unread.
+/// Appends a line for each disk with a stale area, each stray, each disk with an old header, each missing physical volume, each
+/// key that is passed over and each disk that is unread.
 pub fn put_faults(text: &mut Vec<u8>, found: &Found, names: &DiskNames) -> Result<(), AllocError>
     requires { HasShape found.now }
     ensures { IfOk result (λ _. text.new.items ≡ text.old.items ++ faults_text found.now names.now) }
@@ -21,6 +21,7 @@ pub fn put_faults(text: &mut Vec<u8>, found: &Found, names: &DiskNames) -> Resul
     let stale = stale_disks(found.stale.as_slice());
     put_set(text, b"stale ", found.disks.len(), &stale, names)?;
     put_set(text, b"stray ", found.disks.len(), &found.strays, names)?;
+    put_set(text, b"old ", found.disks.len(), &found.old, names)?;
     put_missing(text, found.missing.as_slice())?;
     put_unknown(text, &found.unknown)?;
     put_set(

@@ -1,4 +1,4 @@
--- Five kinds of lines.
+-- Six kinds of lines.
 use Rattle.std.proofs.Common.{◌≡◌, ◌<◌, ◌++◌, ℕ, Bool, List, sym, ap, ◌∙◌, length, subst, arith}
 use Rattle.std.specs.Prelude.{All, IfOk, codes}
 use Rattle.std.proofs.Math.Path.{fun_ext}
@@ -40,10 +40,12 @@ returns c =
     let disks : ℕ = length found.disks in
     let one : List ℕ = c.put_set.new.text.items in
     let two : List ℕ = c.put_set-2.new.text.items in
-    let three : List ℕ = c.put_missing.new.text.items in
-    let four : List ℕ = c.put_unknown.new.text.items in
+    let three : List ℕ = c.put_set-3.new.text.items in
+    let four : List ℕ = c.put_missing.new.text.items in
+    let five : List ℕ = c.put_unknown.new.text.items in
     let stale : List ℕ = stale_lines names disks found.stale in
     let strays : List ℕ = disk_lines (codes "stray ") names disks (set.contains found.strays) in
+    let old : List ℕ = disk_lines (codes "old ") names disks (set.contains found.old) in
     let missing : List ℕ = missing_lines found.missing in
     let unknown : List ℕ = unknown_lines found.unknown in
     let marked : set.contains c.stale_disks-stale.result ≡ λ (pv : ℕ). list_any (is_on pv) found.stale =
@@ -58,14 +60,18 @@ returns c =
     part text one stale two strays first (c.in_ok-put_set-2.ensures
     ∙ ap (λ (n : ℕ). one ++ disk_lines (codes "stray ") names n (set.contains found.strays)) c.len-2.ensures)
     in
-    let third : three ≡ text ++ (stale ++ strays ++ missing) =
-    part text two (stale ++ strays) three missing second
-    (c.in_ok-put_missing.ensures ∙ ap (λ (ids : List (List ℕ)). two ++ missing_lines ids) c.as_slice-2.ensures)
+    let third : three ≡ text ++ (stale ++ strays ++ old) =
+    part text two (stale ++ strays) three old second (c.in_ok-put_set-3.ensures
+    ∙ ap (λ (n : ℕ). two ++ disk_lines (codes "old ") names n (set.contains found.old)) c.len-3.ensures)
     in
-    let fourth : four ≡ text ++ (stale ++ strays ++ missing ++ unknown) =
-    part text three (stale ++ strays ++ missing) four unknown third c.in_ok-put_unknown.ensures in
-    last_put c.put_set-3.result text four (stale ++ strays ++ missing ++ unknown) c.put_set-3.new.text.items
-    (disk_lines (codes "unreadable ") names disks (set.contains found.unread)) fourth
-    (subst (λ (n : ℕ). IfOk c.put_set-3.result
-    (λ _. c.put_set-3.new.text.items ≡ four ++ disk_lines (codes "unreadable ") names n (set.contains found.unread))) c.len-3.ensures
-    c.put_set-3.ensures)
+    let fourth : four ≡ text ++ (stale ++ strays ++ old ++ missing) =
+    part text three (stale ++ strays ++ old) four missing third
+    (c.in_ok-put_missing.ensures ∙ ap (λ (ids : List (List ℕ)). three ++ missing_lines ids) c.as_slice-2.ensures)
+    in
+    let fifth : five ≡ text ++ (stale ++ strays ++ old ++ missing ++ unknown) =
+    part text four (stale ++ strays ++ old ++ missing) five unknown fourth c.in_ok-put_unknown.ensures in
+    last_put c.put_set-4.result text five (stale ++ strays ++ old ++ missing ++ unknown) c.put_set-4.new.text.items
+    (disk_lines (codes "unreadable ") names disks (set.contains found.unread)) fifth
+    (subst (λ (n : ℕ). IfOk c.put_set-4.result
+    (λ _. c.put_set-4.new.text.items ≡ five ++ disk_lines (codes "unreadable ") names n (set.contains found.unread))) c.len-4.ensures
+    c.put_set-4.ensures)
