@@ -12,7 +12,7 @@ use Rattle.scan_rules.specs.Decision.{Found as PvOf, first_duplicate, first_misp
 use Rattle.scan_rules.specs.Found.{missing_of}
 use Rattle.vg_found.specs.declared.disk.Disk.{Disk}
 use Rattle.vg_found.specs.declared.found.Found.{Found}
-use Rattle.vg_found.specs.Disks.{areas_on, disks_of, header_on, held_area, held_areas, pv_shape, shapes}
+use Rattle.vg_found.specs.Disks.{areas_on, disks_of, header_on, held_area, held_areas, old_of, pv_shape, shapes}
 use Rattle.vg_found.specs.Shape.{HasShape, IsDisk, IsUnread}
 use Rattle.vg_found.proofs.ShapedAreas.{areas_shaped}
 use Rattle.mda_ring.specs.Areas.{CanTake, LieApart}
@@ -36,8 +36,8 @@ no_ids n (disk ∷ disks) all =
 pub bare_shape : (found : Found) (disks : List Disk) → found.disks ≡ disks → 1 ≤ length disks → length disks ≤ 64
     → ((pv : ℕ) (disk : Disk) → slice_get disks pv ≡ Some disk → IsDisk pv disk × IsUnread found.unread pv disk)
     → All IsBare disks → ((pv : ℕ) → set.contains found.unread pv ≡ true → pv < length disks) → found.group ≡ None → found.areas ≡ []
-    → found.stale ≡ [] → found.strays ≡ set.empty → HasShape found
-bare_shape found disks are some few each bare below no_group no_areas no_stale no_strays =
+    → found.stale ≡ [] → found.strays ≡ set.empty → found.old ≡ set.empty → HasShape found
+bare_shape found disks are some few each bare below no_group no_areas no_stale no_strays no_old =
     let held : held_areas 0 found.disks ≡ [] = ap (held_areas 0) are ∙ none_held 0 disks bare in
     let shaped = areas_shaped found.disks (λ pv disk there. (each pv disk (ap (λ (l : List Disk). slice_get l pv) (sym are) ∙ there)).0) in
     let same : found.areas ≡ held_areas 0 found.disks = no_areas ∙ sym held in
@@ -53,6 +53,7 @@ bare_shape found disks are some few each bare below no_group no_areas no_stale n
       disk_of = subst (λ (o : Option Group). IfSome o (λ group. found.disk_of ≡ disks_of group found.disks)) (sym no_group) tt;
       missing =
           subst (λ (o : Option Group). IfSome o (λ group. found.missing ≡ missing_of (shapes found.disks) group.pvs)) (sym no_group) tt;
+      old = no_old ∙ sym (ap (λ (o : Option Group). old_of o found.disks) no_group);
       stale =
           subst (All (λ (area : ℕ × ℕ). area.0 < length found.disks)) (sym no_stale)
           (All-nil (λ (area : ℕ × ℕ). area.0 < length found.disks));

@@ -28,7 +28,7 @@ use Rattle.group_edits.specs.RestoredGroup.{restored_group}
 use Rattle.group_plan.specs.Added.{added_named}
 use Rattle.group_plan.specs.declared.backup.Backup.{Backup}
 use Rattle.group_plan.specs.declared.backup.Backup.TheVariants.{Broken, Sound, Unread}
-use Rattle.group_plan.specs.Cleared.{unused}
+use Rattle.group_plan.specs.Marks.{unused, used}
 use Rattle.group_plan.specs.Judging.{area_row, first_refusal, set_of, unknown_row}
 use Rattle.group_plan.specs.Members.{pv_named}
 use Rattle.group_plan.specs.Committing.{no_change}
@@ -178,9 +178,12 @@ row_none = refl
 row_all_cleared : vgremove_change (state plain) ≡ record (no_change (state plain)) { cleared = set_of (0 ∷ 1 ∷ []); disk_of = [] }
 row_all_cleared = refl
 
--- a label that was let go has no flag
+-- a label that was let go has no flag, and one of an old header has it, with version 2
 row_unused : unused (header 2) ≡ record (header 2) { flags = 0 }
 row_unused = refl
+
+row_used : used (record (header 2) { version = 0; flags = 4 }) ≡ record (header 2) { flags = 5 }
+row_used = refl
 
 -- ---- vgcfgrestore
 

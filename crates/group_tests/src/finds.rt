@@ -37,6 +37,7 @@ fn without_group(alloc: Global, disks: Vec<Disk>, unread: PvSet, missing: Ids) -
         areas: Areas::from_vec(Vec::new(alloc)),
         stale: ItemList::from_vec(Vec::new(alloc)),
         strays: PvSet::new(),
+        old: PvSet::new(),
         missing,
         disk_of: PvDisks::from_vec(Vec::new(alloc)),
         unread,
