@@ -18,7 +18,7 @@ pub same_itself : (w : Write) → same_write w w ≡ true
 same_itself w = and_from (nat_eq w.number w.number) (nat_eq w.pv w.pv) (eq-eqb w.number w.number refl) (eq-eqb w.pv w.pv refl)
 
 -- what is the same as another is told apart as that is
-same_told : (w x y : Write) → same_write w x ≡ true → same_write y x ≡ same_write y w
+pub same_told : (w x y : Write) → same_write w x ≡ true → same_write y x ≡ same_write y w
 same_told w x y same =
     let parts = and_parts (nat_eq w.number x.number) (nat_eq w.pv x.pv) same in
     let number : w.number ≡ x.number = eqb-true w.number x.number parts.0 in

@@ -1,4 +1,5 @@
-mod Orderly
-mod Flights
+pub mod Orderly
+pub mod Flights
+mod Forgotten
 mod Stable
 mod Rows

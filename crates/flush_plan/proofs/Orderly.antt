@@ -19,9 +19,10 @@ orderly_new disks = record {
   flushes = All-nil (λ (f : Flush). f.after ≤ 0);
 }
 
--- spare writes are no matter
-pub orderly_by_reserve : (plan : Plan) (spare : ℕ) → IsOrderly plan → IsOrderly (record plan { spare = spare })
-orderly_by_reserve plan spare o = record { last = o.last; marks = o.marks; flushes = o.flushes }
+-- spare writes and flushes are no matter
+pub orderly_by_reserve : (plan : Plan) (spare flushes : ℕ) → IsOrderly plan
+    → IsOrderly (record plan { spare = spare; spare_flushes = flushes })
+orderly_by_reserve plan spare flushes o = record { last = o.last; marks = o.marks; flushes = o.flushes }
 
 -- the marks of any disk are within
 pub marks_within : (plan : Plan) → IsOrderly plan → (pv : ℕ) → IsWithin plan.held (marks_of plan pv)

@@ -2,12 +2,12 @@
 -- when flush 10 is: two flushes serve all.
 use Rattle.std.specs.Prelude.{◌≡◌, true, false, List, [], ◌∷◌}
 use Rattle.std.proofs.Common.{refl}
-use Rattle.flush_plan.specs.History.{Event, Flushed, Lost, Reserved, Submitted, Wrote, is_flushed_after, plan_after}
-use Rattle.flush_plan.specs.Plans.{is_stable, is_wanted}
+use Rattle.flush_plan.specs.History.{Event, Flushed, Forgot, Lost, Reserved, Submitted, Wrote, is_ended_after, is_flushed_after, plan_after}
+use Rattle.flush_plan.specs.Plans.{is_ended, is_stable, is_wanted}
 
 -- the first write completed
 abbrev first_written : List Event
-first_written = Wrote 0 0 ∷ Reserved 8 ∷ []
+first_written = Wrote 0 0 ∷ Reserved 8 8 ∷ []
 
 -- the other seven did while its flush is in flight
 abbrev all_written : List Event
@@ -65,9 +65,29 @@ lost_makes_nothing_stable = refl
 lost_is_not_wanted_again : is_wanted (plan_after 1 second_lost) 0 ≡ false
 lost_is_not_wanted_again = refl
 
+-- but it has ended for them
+lost_has_ended : is_ended (plan_after 1 second_lost) 7 0 ≡ true
+lost_has_ended = refl
+
+lost_ended_after : is_ended_after 7 0 second_lost ≡ true
+lost_ended_after = refl
+
+second_has_not_ended : is_ended (plan_after 1 first_flushed) 1 0 ≡ false
+second_has_not_ended = refl
+
+-- a write that is forgotten isn't held, and the others are as stable as before
+forgotten_is_not_held : is_stable (plan_after 1 (Forgot 0 0 ∷ all_flushed)) 0 0 ≡ false
+forgotten_is_not_held = refl
+
+forgotten_was_forgotten : is_flushed_after 0 0 (Forgot 0 0 ∷ all_flushed) ≡ false
+forgotten_was_forgotten = refl
+
+last_is_stable_still : is_stable (plan_after 1 (Forgot 0 0 ∷ all_flushed)) 7 0 ≡ true
+last_is_stable_still = refl
+
 -- a second write of one number isn't stable with the first
-again_is_not_stable : is_stable (plan_after 1 (Wrote 0 0 ∷ Reserved 1 ∷ first_flushed)) 0 0 ≡ false
+again_is_not_stable : is_stable (plan_after 1 (Wrote 0 0 ∷ Reserved 1 1 ∷ first_flushed)) 0 0 ≡ false
 again_is_not_stable = refl
 
-again_was_not_flushed_after : is_flushed_after 0 0 (Wrote 0 0 ∷ Reserved 1 ∷ first_flushed) ≡ false
+again_was_not_flushed_after : is_flushed_after 0 0 (Wrote 0 0 ∷ Reserved 1 1 ∷ first_flushed) ≡ false
 again_was_not_flushed_after = refl

@@ -6,7 +6,8 @@
 //! all writes that completed before it was submitted; one that failed isn't wanted again for the same writes.
 //!
 //! All completed writes have one order, and a disk's marks are places in it. So no call takes longer with more writes held;
-//! `wants`, `flushed` and `lost` take longer with more flushes in flight.
+//! `wants`, `flushed` and `lost` take longer with more flushes in flight. A write that nobody asks for any more, as one that
+//! is stable, is forgotten by a call, so what the plan keeps doesn't grow with what was written.
 #![tactic(auto)]
 
 mod laws;

@@ -1,8 +1,8 @@
 //! The plan: writes that completed, flushes in flight, and what they made stable.
 ghost use Rattle.std.specs.Prelude.{◌≡◌, ◌<◌, ◌==◌, IsTrue, IsFalse, OnErr, OnOk, IfOk, length, max, position};
 ghost use Rattle.std.specs.List.{position_or_len, list_any};
-ghost use Rattle.flush_plan.specs.Plans.{is_in_flight, is_stable, is_wanted};
-ghost use Rattle.flush_plan.specs.Steps.{new_plan, after_wrote, after_submitted, after_flushed, after_lost};
+ghost use Rattle.flush_plan.specs.Plans.{SaysOfOthers, is_ended, is_in_flight, is_stable, is_wanted};
+ghost use Rattle.flush_plan.specs.Steps.{new_plan, after_wrote, after_forgot, after_submitted, after_flushed, after_lost};
 
 use crate::{Flush, Marks, Write};
 use indexmap::IndexMap;
@@ -17,19 +17,20 @@ pub struct FlushPlan {
     flushes: Vec<Flush>,
     held: u64,
     spare: u64,
+    spare_flushes: u64,
 }
 
 impl Model for FlushPlan {
-    ghost use Rattle.std.specs.Prelude.{◌≤◌, ◌<◌, ◌+◌, All, vec_capacity, vec_len};
+    ghost use Rattle.std.specs.Prelude.{◌≤◌, ◌<◌, ◌+◌, ◌^◌, All, vec_capacity, vec_len};
     ghost use Rattle.indexmap.specs.IndexMap.{spare as room};
     ghost use Rattle.flush_plan.specs.Plans.{Plan};
 
     ghost Value = { Plan };
 
-    ghost view = { λ p. record { last = p.last.entries; marks = p.marks.items; flushes = p.flushes.items; held = p.held; spare = p.spare } };
+    ghost view = { λ p. record { last = p.last.entries; marks = p.marks.items; flushes = p.flushes.items; held = p.held; spare = p.spare; spare_flushes = p.spare_flushes } };
 
-    // What is spare has room in the map, and a flush of each write has room; each flush is of one of the disks.
-    ghost invariant = { λ p. (p.spare ≤ room p.last) × (p.held + p.spare ≤ vec_capacity p.flushes) × All (λ f. f.pv < vec_len p.marks) p.flushes.items };
+    // What is spare has room, and can be counted; each flush is of one of the disks.
+    ghost invariant = { λ p. (p.spare ≤ room p.last) × (p.held + p.spare < 2 ^ 64) × (vec_len p.flushes + p.spare_flushes ≤ vec_capacity p.flushes) × All (λ f. f.pv < vec_len p.marks) p.flushes.items };
 }
 
 // The place of the flush with this tag, if there is one.
@@ -71,19 +72,22 @@ impl FlushPlan {
             flushes: Vec::new(alloc),
             held: 0,
             spare: 0,
+            spare_flushes: 0,
         })
     }
 
-    /// Makes at least so many writes spare, each with room for one flush. Only memory can be wanting.
-    pub fn reserve(&mut self, writes: u64) -> Result<(), AllocError>
-        ensures ok { OnOk result (self.new ≡ record self.old { spare = max writes self.old.spare }) }
+    /// Makes at least so many writes and so many flushes spare. Only memory can be wanting.
+    pub fn reserve(&mut self, writes: u64, flushes: u64) -> Result<(), AllocError>
+        ensures ok { OnOk result (self.new ≡ record self.old { spare = max writes self.old.spare; spare_flushes = max flushes self.old.spare_flushes }) }
         ensures err { OnErr result (self.new ≡ self.old) }
     {
         let spare = writes.max(self.spare);
-        let room = self.held.checked_add(spare).ok_or(AllocError)?;
+        let spare_flushes = flushes.max(self.spare_flushes);
+        self.held.checked_add(spare).ok_or(AllocError)?;
         self.last.reserve(spare as usize)?;
-        self.flushes.reserve(room as usize)?;
+        self.flushes.reserve(spare_flushes as usize)?;
         self.spare = spare;
+        self.spare_flushes = spare_flushes;
         Ok(())
     }
 
@@ -102,15 +106,25 @@ impl FlushPlan {
         }
     }
 
-    /// A flush of this disk was submitted under this tag.
+    /// The writes of this number on this disk aren't held any more, if one is: none will be asked for.
+    pub fn forget(&mut self, number: u64, pv: u32)
+        ensures after { self.new ≡ after_forgot self.old number pv }
+        ensures forgotten { IsFalse (is_stable self.new number pv) }
+        ensures others { SaysOfOthers self.old self.new number pv }
+    {
+        self.last.swap_remove(&Write { number, pv });
+    }
+
+    /// A flush of this disk was submitted under this tag. It uses up a spare flush until it ends.
     pub fn submitted(&mut self, pv: u32, tag: u64)
         requires disk { pv < length self.old.marks }
-        requires fewer { length self.old.flushes < self.old.held }
+        requires spare { 0 < self.old.spare_flushes }
         requires fresh { IsFalse (is_in_flight self.old tag) }
         ensures { self.new ≡ after_submitted self.old pv tag }
     {
         let after = self.held;
         self.flushes.push_reserved(Flush { tag, pv, after });
+        self.spare_flushes -= 1;
     }
 
     /// The flush with this tag completed well.
@@ -123,6 +137,7 @@ impl FlushPlan {
         let marks = &mut self.marks[flush.pv as usize];
         marks.ended = marks.ended.max(flush.after);
         marks.stable = marks.stable.max(flush.after);
+        self.spare_flushes += 1;
     }
 
     /// The flush with this tag failed.
@@ -134,6 +149,7 @@ impl FlushPlan {
         let flush = self.flushes.remove(at);
         let marks = &mut self.marks[flush.pv as usize];
         marks.ended = marks.ended.max(flush.after);
+        self.spare_flushes += 1;
     }
 
     /// Whether a write of this number on this disk is held, and a flush that was submitted after the completion of the last
@@ -144,6 +160,18 @@ impl FlushPlan {
     {
         match self.last.get(&Write { number, pv }) {
             Some(place) => *place <= self.marks[pv as usize].stable,
+            None => false,
+        }
+    }
+
+    /// Whether a write of this number on this disk is held, and a flush that was submitted after the completion of the last
+    /// of them has ended, well or not.
+    pub fn ended(&self, number: u64, pv: u32) -> bool
+        requires { pv < length self.now.marks }
+        ensures { result ≡ is_ended self.now number pv }
+    {
+        match self.last.get(&Write { number, pv }) {
+            Some(place) => *place <= self.marks[pv as usize].ended,
             None => false,
         }
     }
