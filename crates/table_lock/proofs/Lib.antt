@@ -1,4 +1,4 @@
-mod Prefixes
+pub mod Prefixes
 mod Totals
 mod Histories
 mod Views

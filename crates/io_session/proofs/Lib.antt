@@ -1,0 +1,4 @@
+mod CarriedOut
+mod Prefixes
+mod Quiescence
+mod TimelyTraces

@@ -1,0 +1,5 @@
+pub mod Events
+pub mod Worlds
+pub mod Traces
+pub mod Desks
+pub mod Runs
