@@ -25,7 +25,7 @@ use Rattle.image_scans.proofs.CommitLine.{all_written}
 use Rattle.image_scans.specs.Laws.{CanCarryOut, none_out, version_of}
 use Rattle.image_scans.specs.Versions.{FindsVersion, Version}
 use Rattle.repair_scans.specs.Laws.{RepairedScans}
-use Rattle.volume_history.proofs.CommandKinds.{created_quiet}
+use Rattle.volume_history.proofs.CommandKinds.{created_plain}
 use Rattle.volume_history.specs.Commands.{commits}
 use Rattle.volume_history.specs.Laws.{ScansAreOne}
 use Rattle.line_history.proofs.Clearing.{clearing, more}
@@ -108,7 +108,7 @@ module _ (scans : RepairedScans) (finds_each : EachSetFinds) (removed_each : Eac
       by : Kind g.sizes g.names g.line.command change → SetsAgree g.sizes ended
       by (commits_group group is) = of_commit group is
       by (creates disk label none created labels on no_zeros places) =
-          absurd (true≢false (sym commit ∙ (created_quiet g.names disk g.line.command created).1))
+          absurd (true≢false (sym commit ∙ (created_plain g.names disk g.line.command created).1))
       by (removes_group vg is none labels no_zeros) = of_removal vg is
 
 -- ---- while disks are cleared, or where that failed

@@ -1,12 +1,12 @@
 -- A run of one line has its history.
-use Rattle.std.proofs.Common.{◌≡◌, ℕ, zero, ◌+◌, ◌-◌, Bool, true, false, not, ◌≤◌, ◌<◌, List, [], ◌∷◌, ◌++◌, length, map, take, Option}
+use Rattle.std.proofs.Common.{◌≡◌, ℕ, ◌+◌, ◌-◌, Bool, true, false, not, ◌≤◌, ◌<◌, List, [], ◌∷◌, ◌++◌, length, map, take, Option}
 use Rattle.std.proofs.Common.{Some, None, ⊎_elim, refl, sym, ap, subst, ◌∙◌, arith}
 use Rattle.std.specs.Prelude.{flat_map, is_some}
 use Rattle.std.proofs.lemmas.Bool.{cases_lt, true≢false}
 use Rattle.sector_base.specs.declared.spans.Span.{Span}
 use Rattle.command_table.specs.Options.{Word}
 use Rattle.command_table.specs.declared.command.Command.{Command}
-use Rattle.command_table.specs.declared.command.Command.TheVariants.{Fill, Read, Vgreduce, Vgremove, Wait, Write}
+use Rattle.command_table.specs.declared.command.Command.TheVariants.{Fill, Flush, Read, Vgreduce, Vgremove, Wait, Write}
 use Rattle.command_table.specs.Commands.{CommandKind, NextVersion, VolumeAdded, kind_of as command_kind}
 use Rattle.line_answers.specs.declared.answer.Answer.{Answer}
 use Rattle.line_answers.specs.declared.answer.Answer.TheVariants as answer
@@ -33,7 +33,7 @@ use Rattle.volume_history.proofs.CommandKinds.{commit_says}
 use Rattle.volume_history.proofs.SingleLines.{done_commit, done_create, failed_create, fenced_commit, made_commit, no_line, undone_line}
 use Rattle.volume_history.specs.Chronicles.{ChronicleEntry, Origin, pending}
 use Rattle.volume_history.specs.Laws.{Tells}
-use Rattle.volume_history.specs.Commands.{created_disk, is_created_at, is_data, is_good, is_wait, kind_commits, may_say, removes}
+use Rattle.volume_history.specs.Commands.{created_disk, is_command, is_created_at, is_good, is_wait, kind_commits, may_say, removes}
 use Rattle.volume_history.specs.Runs.{journal_of, lines_of}
 use Rattle.volume_history.specs.Single.{LeavesAll, LeavesDisk, MayEnd as MayFollow, answered_entries, done_entries, made_entries}
 use Rattle.volume_history.specs.Single.{taken_entries}
@@ -54,12 +54,13 @@ use Rattle.line_history.specs.Histories.{HasHistoryOf, IsBeforeLine, MayAnswer, 
 use Rattle.line_history.specs.LineRun.{ClearsLine, Given, RunsLine, Stage, Opened, Repairing, Repaired, Zeroing, Writing, Done, batches_if}
 use Rattle.line_history.specs.LineRun.{batches_in, clears_in, is_repaired, is_zeroed, zeros_begun, zeros_in}
 
--- a line that can be planned reads and writes no sectors of a volume
-quiet_line : (id : Option (List ℕ)) (command : Command) → IsPlanned id command → is_data command ≡ false
-quiet_line id (Read path start count) planned = absurd planned
-quiet_line id (Fill path start count value through) planned = absurd planned
-quiet_line id (Write path start hex through) planned = absurd planned
-quiet_line id _ planned = refl
+-- a line that can be planned is a command
+plain_line : (id : Option (List ℕ)) (command : Command) → IsPlanned id command → is_command command ≡ true
+plain_line id (Read path start count) planned = absurd planned
+plain_line id (Fill path start count value through) planned = absurd planned
+plain_line id (Write path start hex through) planned = absurd planned
+plain_line id (Flush path) planned = absurd planned
+plain_line id _ planned = refl
 
 next_commits : (kind : CommandKind) → kind_is_next kind ≡ true → kind_commits kind ≡ true
 next_commits (NextVersion difference) is = refl
@@ -152,7 +153,7 @@ module _ (scans : RepairedScans) (g : Given) (start ended : Record) where
           (answered_entries (origin_repaired scans g stage start ended r repaired) g.line said)
       undone left all said bad says =
           undone_line (origin_repaired scans g stage start ended r repaired) g.line
-          (stays_repaired scans g stage start ended r repaired unzeroed) (quiet_line g.line.id g.line.command r.given.planned) left said
+          (stays_repaired scans g stage start ended r repaired unzeroed) (plain_line g.line.id g.line.command r.given.planned) left said
           all bad says
 
   refused : (r : RunsLine g Repaired start ended) (refusal : OpRefusal)
@@ -221,7 +222,7 @@ module _ (scans : RepairedScans) (g : Given) (start ended : Record) where
         (λ (less : own.submitted < length (batches_in g)).
         repaired_so (answered_entries origin g.line (answer.PvFailed pv))
         (undone_line origin g.line (stays_unpublished scans g Writing start ended r refl refl group made less)
-        (quiet_line g.line.id g.line.command r.given.planned)
+        (plain_line g.line.id g.line.command r.given.planned)
         (creates_no_disk origin g.line (none_created scans g Writing start ended r refl refl group made)) (answer.PvFailed pv)
         (λ removing. absurd (true≢false (sym removing
         ∙ keeps_group (state_in (repaired_of g.found) g.names g.backup) g.line g.clock g.given group made))) refl
@@ -252,7 +253,7 @@ module _ (scans : RepairedScans) (g : Given) (start ended : Record) where
       by (removes_group vg command_is none labels no_zeros) =
           repaired_so (answered_entries (origin_repaired scans g Writing start ended r refl) g.line (answer.PvFailed pv))
           (undone_line (origin_repaired scans g Writing start ended r refl) g.line
-          (stays_unwritten scans g Writing start ended r refl refl vg command_is) (quiet_line g.line.id g.line.command r.given.planned)
+          (stays_unwritten scans g Writing start ended r refl refl vg command_is) (plain_line g.line.id g.line.command r.given.planned)
           (creates_no_disk (origin_repaired scans g Writing start ended r refl) g.line (creates_none g.names g.line.command vg command_is))
           (answer.PvFailed pv)
           (λ removing. removal_unwritten scans g Writing start ended r refl refl vg command_is no_zeros) refl
@@ -344,7 +345,7 @@ module _ (scans : RepairedScans) (g : Given) (start ended : Record) where
         let unbegun : c.clears.submitted ≡ 0 = omega (arith, none_begun) in
         repaired_so scans g start ended (answered_entries (whole_origin scans g false start ended c) g.line (answer.PvFailed pv))
         (undone_line (whole_origin scans g false start ended c) g.line (stays_unremoved scans g false start ended c vg command_is unbegun)
-        (quiet_line g.line.id g.line.command c.line.given.planned)
+        (plain_line g.line.id g.line.command c.line.given.planned)
         (creates_no_disk (whole_origin scans g false start ended c) g.line (creates_none g.names g.line.command vg command_is))
         (answer.PvFailed pv)
         (λ removing. removal_unbegun scans g false start ended c vg command_is unbegun no_zeros) refl

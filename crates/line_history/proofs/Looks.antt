@@ -15,10 +15,8 @@ use Rattle.image_scans.specs.Laws.{none_out}
 use Rattle.image_scans.specs.Versions.{FindsVersion}
 use Rattle.volume_history.proofs.SingleLines.{done_line, no_line, undone_line}
 use Rattle.volume_history.specs.Chronicles.{ChronicleEntry, Origin, pending}
-use Rattle.volume_history.proofs.CommandKinds.{quiet_command}
-use Rattle.volume_history.specs.Commands.{commits, is_created_at, is_data, is_good, may_say}
+use Rattle.volume_history.specs.Commands.{commits, is_command, is_created_at, is_good, may_say}
 use Rattle.volume_history.specs.Placed.{volumes_of}
-use Rattle.volume_history.specs.Quiet.{is_quiet}
 use Rattle.volume_history.specs.Laws.{Tells}
 use Rattle.volume_history.specs.Runs.{journal_of, lines_of}
 use Rattle.volume_history.specs.Single.{LeavesDisk, StaysLaw, answered_entries, taken_entries}
@@ -93,10 +91,7 @@ module _ (handed : Record) (sizes : List ℕ) (names : List Word) (clock : ℕ) 
     pub looks : HasRunHistory handed l.base sizes names clock ended [] []
     looks = told_so [] (no_line origin_is stays) refl
 
-    module _ (line : Line) (quiet : is_quiet line.command ≡ true) (none : commits line.command ≡ false) where
-      plain : is_data line.command ≡ false
-      plain = (quiet_command line.command quiet).data_is
-
+    module _ (line : Line) (plain : is_command line.command ≡ true) (none : commits line.command ≡ false) where
       answered : (said : Answer) → is_good said ≡ false → may_say line.command said ≡ true
           → Tells origin_is (answered_entries origin_is line said)
       answered said bad says = undone_line origin_is line stays plain (leaves line) said (λ removing. nothing_since) bad says

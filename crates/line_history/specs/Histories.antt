@@ -26,8 +26,7 @@ use Rattle.vg_repair.specs.Repaired.{repaired_of}
 use Rattle.image_scans.specs.Laws.{none_out}
 use Rattle.image_scans.specs.Versions.{FindsVersion, Version}
 use Rattle.volume_history.specs.Chronicles.{pending}
-use Rattle.volume_history.specs.Commands.{commits, is_good, may_say}
-use Rattle.volume_history.specs.Quiet.{is_quiet}
+use Rattle.volume_history.specs.Commands.{commits, is_command, is_good, may_say}
 use Rattle.volume_history.specs.Runs.{HasHistory, Run, zero_piece}
 use Rattle.line_history.specs.LineRun.{ClearsLine, Given, RunsLine, Stage, Repaired, Zeroing, Writing, Done}
 
@@ -167,11 +166,11 @@ abbrev pub took_if : Answer → ℕ → Option ℕ
 took_if answer.Fine ended = Some ended
 took_if _ ended = None
 
--- so has one whose line commits nothing
+-- so has one whose line is a command that commits nothing
 abbrev pub ReportsHaveHistories : Type 0
 ReportsHaveHistories =
     (handed : Record) (sizes : List ℕ) (names : List Word) (clock : ℕ) (start ended : Record) (line : Line) (said : Answer)
     (l : LooksAlone handed sizes start ended)
-    → is_quiet line.command ≡ true → commits line.command ≡ false → IsFineOrBad said → may_say line.command said ≡ true
+    → is_command line.command ≡ true → commits line.command ≡ false → IsFineOrBad said → may_say line.command said ≡ true
     → HasRunHistory handed l.base sizes names clock ended
     (journal_of_line (length start.steps) (took_if said (length ended.steps)) (length ended.steps)) ((line, Some said) ∷ [])

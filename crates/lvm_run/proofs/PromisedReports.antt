@@ -6,9 +6,7 @@ use Rattle.std.specs.Bool.{MatchBool}
 use Rattle.command_table.specs.Commands.{changes}
 use Rattle.command_table.specs.Options.{Word}
 use Rattle.command_table.specs.declared.command.Command.{Command}
-use Rattle.command_table.specs.declared.command.Command.TheVariants.{Lvs, Pvck}
-use Rattle.command_table.specs.declared.command.Command.TheVariants.{Pvs, Vgcfgbackup, Vgck}
-use Rattle.command_table.specs.declared.command.Command.TheVariants.{Vgs}
+use Rattle.command_table.specs.declared.command.Command.TheVariants.{Lvs, Pvck, Pvs, Vgcfgbackup, Vgck, Vgs}
 use Rattle.line_answers.specs.declared.answer.Answer.{Answer}
 use Rattle.line_answers.specs.declared.answer.Answer.TheVariants as answer
 use Rattle.line_answers.specs.declared.op_refusal.OpRefusal.{OpRefusal}
@@ -18,8 +16,7 @@ use Rattle.disk_model.proofs.StepsSince.{between_weaker}
 use Rattle.disk_model.specs.Since.{BetweenRecords}
 use Rattle.disk_model.specs.State.{State}
 use Rattle.disk_model.specs.Steps.{Record}
-use Rattle.volume_history.specs.Commands.{commits, may_say}
-use Rattle.volume_history.specs.Quiet.{is_quiet}
+use Rattle.volume_history.specs.Commands.{commits, is_command, may_say}
 use Rattle.line_history.proofs.Looks.{reports}
 use Rattle.line_history.specs.Histories.{IsFineOrBad, journal_of_line, took_if}
 use Rattle.lvm_run.specs.CommandSpec.{Context, Inputs}
@@ -36,20 +33,20 @@ use Rattle.lvm_run.proofs.Promised.{IsTold, WroteNothing, begun_at, counted, kep
 -- what is known of a command that is built and changes nothing
 pub record IsReport (command : Command) : Type 0 where
   pub unflushed : (spec_of command).flushes ≡ false
-  pub quiet : is_quiet command ≡ true
+  pub plain : is_command command ≡ true
   pub uncommitted : commits command ≡ false
   pub says_fine : may_say command answer.Fine ≡ true
   pub says_refused : (refusal : OpRefusal) → may_say command (answer.Refused refusal) ≡ true
 
 pub report_is : (command : Command) → is_built command ≡ true → changes command ≡ false → IsReport command
 report_is (Pvck pv) built reads =
-    record { unflushed = refl; quiet = refl; uncommitted = refl; says_fine = refl; says_refused = λ refusal. refl }
+    record { unflushed = refl; plain = refl; uncommitted = refl; says_fine = refl; says_refused = λ refusal. refl }
 report_is (Vgcfgbackup vg) built reads =
-    record { unflushed = refl; quiet = refl; uncommitted = refl; says_fine = refl; says_refused = λ refusal. refl }
-report_is Pvs built reads = record { unflushed = refl; quiet = refl; uncommitted = refl; says_fine = refl; says_refused = λ refusal. refl }
-report_is Vgs built reads = record { unflushed = refl; quiet = refl; uncommitted = refl; says_fine = refl; says_refused = λ refusal. refl }
-report_is Lvs built reads = record { unflushed = refl; quiet = refl; uncommitted = refl; says_fine = refl; says_refused = λ refusal. refl }
-report_is Vgck built reads = record { unflushed = refl; quiet = refl; uncommitted = refl; says_fine = refl; says_refused = λ refusal. refl }
+    record { unflushed = refl; plain = refl; uncommitted = refl; says_fine = refl; says_refused = λ refusal. refl }
+report_is Pvs built reads = record { unflushed = refl; plain = refl; uncommitted = refl; says_fine = refl; says_refused = λ refusal. refl }
+report_is Vgs built reads = record { unflushed = refl; plain = refl; uncommitted = refl; says_fine = refl; says_refused = λ refusal. refl }
+report_is Lvs built reads = record { unflushed = refl; plain = refl; uncommitted = refl; says_fine = refl; says_refused = λ refusal. refl }
+report_is Vgck built reads = record { unflushed = refl; plain = refl; uncommitted = refl; says_fine = refl; says_refused = λ refusal. refl }
 report_is _ built reads = absurd (cc)
 
 -- the moment of a report, between the one at which it was begun and its end
@@ -103,7 +100,7 @@ module _ (names : List Word) (now : ℕ) (line : Line) (old new : State) (later 
             (begun_told behind handed ended there at_end) (ap (λ (n : ℕ). took_if said n) (told_new.steps ended at_end))
             (told_new.steps ended at_end)
             (reports handed old.sizes names now (begun_at behind handed ended) ended
-            (looked_alone behind old new told_new told handed there base base_is version finds ended at_end) line report.quiet
+            (looked_alone behind old new told_new told handed there base base_is version finds ended at_end) line report.plain
             report.uncommitted said may says),
         older ended,
       )

@@ -4,7 +4,7 @@ use Rattle.disk_model.specs.Steps.{Image}
 use Rattle.image_scans.specs.Versions.{Version}
 use Rattle.line_table.specs.Machine.{PlainState, PlainStep, PlainVolume, plain_after}
 use Rattle.lvm_script.specs.declared.line.Line.{Line}
-use Rattle.volume_history.proofs.CommandKinds.{bearless, bears}
+use Rattle.volume_history.proofs.CommandKinds.{bearless, command_bears}
 use Rattle.volume_history.proofs.Places.{place_by_entry}
 use Rattle.volume_history.specs.Candidates.{is_born, no_image, pending_step, place_at}
 use Rattle.volume_history.specs.Chronicles.{Changed, ChronicleEntry, Origin, begun_in, in_force, now_at}
@@ -15,7 +15,7 @@ use Rattle.volume_history.specs.Replay.{line_step, plain_state}
 -- the same of a line that was begun
 abbrev pub IsBearlessLine : Option (Line × Option ℕ) → Type 0
 IsBearlessLine None = Unit {0}
-IsBearlessLine (Some l) = bears l.0.command ≡ false
+IsBearlessLine (Some l) = command_bears l.0.command ≡ false
 
 step_needs_none : (b : Option (Line × Option ℕ)) → IsBearlessLine b → (before after : Option Version) (state : PlainState) (i j : Image)
     → line_step b before after state i ≡ line_step b before after state j

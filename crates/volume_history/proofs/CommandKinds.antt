@@ -12,8 +12,8 @@ use Rattle.line_table.specs.Machine.{PlainState, plain_after}
 use Rattle.group_ops.specs.Planning.{kind_zeroes, zeroes}
 use Rattle.image_scans.specs.Versions.{Version}
 use Rattle.volume_history.specs.Candidates.{is_born, is_zeroed}
-use Rattle.volume_history.specs.Commands.{commits, created_disk, is_data, may_say, removes, volume_named, writes, is_list, is_pvcreate}
-use Rattle.volume_history.specs.Commands.{is_read, is_resync}
+use Rattle.volume_history.specs.Commands.{commits, created_disk, is_command, is_data, is_flush, is_list, is_pvcreate, is_read, is_resync}
+use Rattle.volume_history.specs.Commands.{may_say, removes, volume_named, writes}
 use Rattle.volume_history.specs.Quiet.{is_quiet, is_quiet_kind}
 use Rattle.volume_history.specs.Replay.{command_step, kind_step}
 
@@ -34,12 +34,25 @@ quiet_step (NextVersion (VolumeShorter lv)) q = cc
 quiet_step (NextVersion (VolumeLonger lv)) q = cc
 quiet_step _ q = record { step = λ b a s i. refl; births = λ b a s i k x. refl }
 
--- what is known of a command that reads and writes no sectors of a volume
-pub undata : (c : Command) → is_data c ≡ false → (writes c ≡ false) × (volume_named c ≡ None)
-undata (command.Read path start count) q = cc
+-- a command that reads and writes no sectors of a volume writes none
+undata : (c : Command) → is_data c ≡ false → writes c ≡ false
 undata (command.Fill path start count value through) q = cc
 undata (command.Write path start hex through) q = cc
-undata _ q = (refl, refl)
+undata _ q = refl
+
+-- what is known of one that is no line on a volume
+pub record IsPlainCommand (c : Command) : Type 0 where
+  pub data_is : is_data c ≡ false
+  pub flush_is : is_flush c ≡ false
+  pub writes_is : writes c ≡ false
+  pub unnamed : volume_named c ≡ None
+
+pub plain_command : (c : Command) → is_command c ≡ true → IsPlainCommand c
+plain_command (command.Read path start count) q = cc
+plain_command (command.Fill path start count value through) q = cc
+plain_command (command.Write path start hex through) q = cc
+plain_command (command.Flush path) q = cc
+plain_command _ q = record { data_is = refl; flush_is = refl; writes_is = refl; unnamed = refl }
 
 -- and of one that leaves the volumes as they are
 pub record IsQuietCommand (c : Command) : Type 0 where
@@ -48,21 +61,12 @@ pub record IsQuietCommand (c : Command) : Type 0 where
   pub births : (before after : Option Version) (state : PlainState) (image : Image) (key x : ℕ)
       → is_born (command_step c before after state image) state key x ≡ false
   pub writes_is : writes c ≡ false
-  pub data_is : is_data c ≡ false
-  pub unnamed : volume_named c ≡ None
 
 pub quiet_command : (c : Command) → is_quiet c ≡ true → IsQuietCommand c
 quiet_command c q =
     let both = and_parts (is_quiet_kind (kind_of c)) (not (is_data c)) q in
     let quiet = quiet_step (kind_of c) both.0 in
-    let none : is_data c ≡ false = not-true (is_data c) both.1 in
-    record {
-      step = quiet.step;
-      births = quiet.births;
-      writes_is = (undata c none).0;
-      data_is = none;
-      unnamed = (undata c none).1;
-    }
+    record { step = quiet.step; births = quiet.births; writes_is = undata c (not-true (is_data c) both.1) }
 
 -- a kind of command that creates sectors, or may place them anew as new ones
 abbrev pub kind_bears : CommandKind → Bool
@@ -71,8 +75,8 @@ kind_bears (NextVersion (VolumeLonger lv)) = true
 kind_bears Restore = true
 kind_bears _ = false
 
-abbrev pub bears : Command → Bool
-bears c = kind_bears (kind_of c)
+abbrev pub command_bears : Command → Bool
+command_bears c = kind_bears (kind_of c)
 
 -- the step of another needs no image, and no sector is born in it
 pub record IsBearless (kind : CommandKind) : Type 0 where
@@ -87,7 +91,7 @@ kind_bearless (NextVersion (VolumeLonger lv)) q = cc
 kind_bearless Restore q = cc
 kind_bearless _ q = record { step = λ b a s i j. refl; births = λ b a s i k x. refl }
 
-pub bearless : (c : Command) → bears c ≡ false → IsBearless (kind_of c)
+pub bearless : (c : Command) → command_bears c ≡ false → IsBearless (kind_of c)
 bearless c q = kind_bearless (kind_of c) q
 
 -- a command that creates a physical volume is a pvcreate
@@ -96,9 +100,9 @@ pub created_is : (names : List Word) (disk : ℕ) (c : Command) → created_disk
 created_is names disk (command.Pvcreate pv copies) e = (pv, copies, refl)
 created_is names disk _ e = cc
 
-pub created_quiet : (names : List Word) (disk : ℕ) (c : Command) → created_disk names c ≡ Some disk
-    → (is_quiet c ≡ true) × (commits c ≡ false)
-created_quiet names disk c e = let is = created_is names disk c e in (ap is_quiet is.2, ap commits is.2)
+pub created_plain : (names : List Word) (disk : ℕ) (c : Command) → created_disk names c ≡ Some disk
+    → (is_command c ≡ true) × (commits c ≡ false)
+created_plain names disk c e = let is = created_is names disk c e in (ap is_command is.2, ap commits is.2)
 
 -- so it may be answered ok, or fail, and removes no group
 pub created_says : (names : List Word) (disk pv : ℕ) (c : Command) → created_disk names c ≡ Some disk
@@ -111,11 +115,12 @@ created_says names disk pv c e =
     )
 
 -- what is known of a command that commits a version
-pub commit_kind : (names : List Word) (c : Command) → commits c ≡ true → (is_data c ≡ false) × (created_disk names c ≡ None)
+pub commit_kind : (names : List Word) (c : Command) → commits c ≡ true → (is_command c ≡ true) × (created_disk names c ≡ None)
 commit_kind names (command.Pvcreate pv copies) q = cc
 commit_kind names (command.Read path start count) q = cc
 commit_kind names (command.Fill path start count value through) q = cc
 commit_kind names (command.Write path start hex through) q = cc
+commit_kind names (command.Flush path) q = cc
 commit_kind names _ q = (refl, refl)
 
 no_sectors : (c : Command) → commits c ≡ true → (is_read c || is_list c) ≡ false
@@ -131,7 +136,7 @@ or_true false = refl
 pub commit_says : (c : Command) (pv : ℕ) → commits c ≡ true → (may_say c answer.Fine ≡ true) × (may_say c (answer.PvFailed pv) ≡ true)
 commit_says c pv q = (
   ap not (no_sectors c q),
-  ap (λ (b : Bool). is_data c || (b || (is_pvcreate c || is_resync c))) q ∙ or_true (is_data c),
+  ap (λ (b : Bool). not (is_command c) || (b || (is_pvcreate c || is_resync c))) q ∙ or_true (not (is_command c)),
 )
 
 kind_unzeroed : (kind : CommandKind) → kind_zeroes kind ≡ false → (before after : Option Version) (state : PlainState) (image : Image)

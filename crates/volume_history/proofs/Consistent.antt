@@ -6,7 +6,7 @@ use Rattle.disk_model.specs.CrashValues.{IsImage}
 use Rattle.disk_model.specs.Steps.{Image}
 use Rattle.image_scans.specs.Versions.{Version}
 use Rattle.line_table.specs.Machine.{PlainStep, PlainVolume, plain_after}
-use Rattle.volume_history.proofs.Bases.{source_is_candidate}
+use Rattle.volume_history.proofs.Brought.{source_is_candidate}
 use Rattle.volume_history.specs.Candidates.{Anything, IsConsistent, IsConsistentNow, IsIn, OneOf, ShowsPending, ShowsVolumes, candidates}
 use Rattle.volume_history.specs.Candidates.{is_born, is_zeroed, pending_candidates, pending_step, place_at}
 use Rattle.volume_history.specs.Chronicles.{Chronicle, ChronicleEntry, Origin, in_force, pending}

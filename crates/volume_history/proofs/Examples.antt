@@ -10,9 +10,9 @@ use Rattle.volume_view.specs.InSegments.{leg_spot, met}
 use Rattle.volume_view.specs.Places.{primary}
 use Rattle.line_table.specs.Machine.{key_of, list_of, plain_after, sector_of}
 use Rattle.image_scans.specs.Versions.{Version}
-use Rattle.volume_history.proofs.SmallGroups.{creating, extending, filling, group_removing, listing, making, moving, pvcreating, reading}
-use Rattle.volume_history.proofs.SmallGroups.{reducing, removing, renaming, restoring, version_1, version_2, version_3, version_4}
-use Rattle.volume_history.proofs.SmallGroups.{version_5, version_6, version_7}
+use Rattle.volume_history.proofs.SmallGroups.{creating, extending, filling, filling_through, group_removing, listing, making, moving}
+use Rattle.volume_history.proofs.SmallGroups.{pvcreating, reading, reducing, removing, renaming, restoring, version_1, version_2, version_3}
+use Rattle.volume_history.proofs.SmallGroups.{version_4, version_5, version_6, version_7}
 use Rattle.volume_history.specs.Candidates.{Anything, OneOf, base, candidates, pending_candidates, pending_step}
 use Rattle.volume_history.specs.Chronicles.{Answered, Begun, Changed, ChronicleEntry, Failed, GivenUp, Opened, Origin, Took, fenced_by}
 use Rattle.volume_history.specs.Chronicles.{in_force, is_failed_disk, left_out, may_begin, pending, upto}
@@ -44,7 +44,7 @@ steps =
     ∷ flushed 4 ∷ flush 4 ∷ wrote 3 0 2 true ∷ write 3 0 2
     ∷ flushed 2 ∷ flush 2 ∷ wrote 1 0 1 true ∷ write 1 0 1 ∷ []
 
-abbrev origin : Origin
+abbrev pub origin : Origin
 origin =
     record {
       told = record { opened = zeros; steps = steps };
@@ -56,10 +56,10 @@ origin =
       version = None;
     }
 
-abbrev zero_piece : Piece
+abbrev pub zero_piece : Piece
 zero_piece = record { volume = 0; first = 0; count = 0; write = false }
 
-abbrev piece : Piece
+abbrev pub piece : Piece
 piece = record { volume = 0; first = 0; count = 1; write = true }
 
 -- vgcreate
@@ -67,12 +67,12 @@ abbrev made : List ChronicleEntry
 made = Answered 4 0 answer.Fine ∷ Changed 4 0 (Some version_1) ∷ Opened 0 0 (Some version_1) ∷ Begun 0 0 making None ∷ []
 
 -- lvcreate
-abbrev created : List ChronicleEntry
+abbrev pub created : List ChronicleEntry
 created = Answered 8 1 answer.Fine ∷ Changed 8 1 (Some version_2) ∷ Opened 4 1 (Some version_2) ∷ Begun 4 1 creating None ∷ made
 
--- a fill with 7 that is acknowledged, and one with 9 that flies
-abbrev filled : List ChronicleEntry
-filled = Answered 12 2 answer.Fine ∷ Took 12 2 piece ∷ Begun 8 2 (filling 0 1 7) (Some 0) ∷ created
+-- a fill with 7 through to the disks that is acknowledged, and one with 9 that flies
+abbrev pub filled : List ChronicleEntry
+filled = Answered 12 2 answer.Fine ∷ Took 12 2 piece ∷ Begun 8 2 (filling_through 0 1 7) (Some 0) ∷ created
 
 abbrev flies : List ChronicleEntry
 flies = Begun 12 3 (filling 0 1 9) (Some 0) ∷ filled
@@ -99,7 +99,7 @@ unfolding volumes_of place_of primary met leg_spot
 machine_filled = refl
 
 -- the base is the acknowledged fill; the other flies
-base_filled : base origin flies 0 0 ≡ Took 12 2 piece ∷ Begun 8 2 (filling 0 1 7) (Some 0) ∷ created
+base_filled : base origin flies 0 0 ≡ Took 12 2 piece ∷ Begun 8 2 (filling_through 0 1 7) (Some 0) ∷ created
 unfolding volumes_of place_of primary met leg_spot
 base_filled = refl
 
@@ -108,11 +108,12 @@ unfolding volumes_of place_of primary met leg_spot
 candidates_flying = refl
 
 -- while the first fill isn't answered, the zero of the creation is one too
-candidates_before : candidates origin (Begun 8 2 (filling 0 1 7) (Some 0) ∷ created) 0 0 ≡ OneOf (zero_sector ∷ number_sector 7 ∷ [])
+candidates_before : candidates origin (Begun 8 2 (filling_through 0 1 7) (Some 0) ∷ created) 0 0
+    ≡ OneOf (zero_sector ∷ number_sector 7 ∷ [])
 unfolding volumes_of place_of primary met leg_spot
 candidates_before = refl
 
-candidates_taken : candidates origin (Took 12 2 piece ∷ Begun 8 2 (filling 0 1 7) (Some 0) ∷ created) 0 0
+candidates_taken : candidates origin (Took 12 2 piece ∷ Begun 8 2 (filling_through 0 1 7) (Some 0) ∷ created) 0 0
     ≡ OneOf (zero_sector ∷ number_sector 7 ∷ [])
 unfolding volumes_of place_of primary met leg_spot
 candidates_taken = refl
@@ -122,11 +123,11 @@ possible_now : values zeros steps 0 10 ≡ (Some 5, number_sector 7) ∷ (Some 7
 possible_now = refl
 
 -- the entries up to a moment
-entries_upto : upto 11 flies ≡ Begun 8 2 (filling 0 1 7) (Some 0) ∷ created
+entries_upto : upto 11 flies ≡ Begun 8 2 (filling_through 0 1 7) (Some 0) ∷ created
 entries_upto = refl
 
 -- the order of the entries holds, entry by entry
-abbrev ordered_all : List ChronicleEntry → Bool
+abbrev pub ordered_all : List ChronicleEntry → Bool
 ordered_all [] = true
 ordered_all (e ∷ es) = is_in_order es e && ordered_all es
 
@@ -326,7 +327,8 @@ restored_more : candidates origin (restored version_4) 0 10 ≡ OneOf ((99 ∷ [
 unfolding volumes_of place_of primary met leg_spot
 restored_more = refl
 
--- a fill of two sectors in two pieces: each may hold its number once it is begun, and it is answered once both took place
+-- a fill of two sectors in two pieces: each may hold its number once it is begun, and it is answered once both took place, when they
+-- may still be lost
 abbrev in_pieces : List ChronicleEntry
 in_pieces = Took 12 2 piece ∷ Begun 8 2 (filling 0 2 7) (Some 0) ∷ created
 
@@ -347,9 +349,10 @@ pieces_early = refl
 pieces_done : ordered_all (Answered 12 2 answer.Fine ∷ Took 12 2 second_piece ∷ in_pieces) ≡ true
 pieces_done = refl
 
-pieces_acknowledged : candidates origin (Answered 12 2 answer.Fine ∷ Took 12 2 second_piece ∷ in_pieces) 0 1 ≡ OneOf (number_sector 8 ∷ [])
+pieces_cached : candidates origin (Answered 12 2 answer.Fine ∷ Took 12 2 second_piece ∷ in_pieces) 0 1
+    ≡ OneOf (zero_sector ∷ number_sector 8 ∷ [])
 unfolding volumes_of place_of primary met leg_spot
-pieces_acknowledged = refl
+pieces_cached = refl
 
 -- and lvcreate's zeros are zeros before it has taken place
 creating_zeros : pending_candidates origin (upto 7 flies) (pending_step origin (upto 7 flies) 1 (Some version_2)) 0 3

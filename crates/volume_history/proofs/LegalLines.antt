@@ -9,12 +9,14 @@ use Rattle.lvm_script.specs.declared.line.Line.{Line}
 use Rattle.disk_model.specs.Order.{WritesNothing}
 use Rattle.image_scans.specs.Versions.{Version}
 use Rattle.list_laws.proofs.Bools.{and_both}
-use Rattle.volume_history.proofs.CommandKinds.{commit_says, undata}
+use Rattle.volume_history.proofs.CommandKinds.{commit_says, plain_command}
 use Rattle.volume_history.proofs.Written.{since_seen}
 use Rattle.volume_history.specs.Chronicles.{Begun, Changed, ChronicleEntry, GivenUp, Origin, Took, begun_in, origin_at, pending}
-use Rattle.volume_history.specs.Commands.{commits, failed_pv, is_data, is_good, is_move, is_refused, is_tended, is_wait, may_say, removes}
+use Rattle.volume_history.specs.Commands.{commits, failed_pv, is_command, is_data, is_flush, is_good, is_move, is_refused, is_tended}
+use Rattle.volume_history.specs.Commands.{is_wait, may_say, removes}
 use Rattle.volume_history.specs.Legal.{AllFaithful, AllOrdered, FindsNow, GivesMachine, IsFaithful, IsOrdered, LeavesGroup, Makes}
 use Rattle.volume_history.specs.Legal.{is_new_piece, is_pending, keeps_group, key_named, may_answer, may_answer_command, may_answer_data}
+use Rattle.volume_history.specs.Legal.{may_answer_flush}
 use Rattle.volume_history.specs.Runs.{zero_piece}
 use Rattle.volume_history.specs.Single.{LeavesAll, MayEnd, answered_entries, begun_entries, taken_entries, end_of, fenced_entries}
 use Rattle.volume_history.specs.Single.{given_up_entries, made_entries, open_entries}
@@ -53,18 +55,21 @@ gives_nothing o es n answer.NoMemory bad = tt
 -- ---- order
 
 -- a line of a command is begun first
-begun_first : (o : Origin) (line : Line) → is_data line.command ≡ false → IsOrdered o.start [] (Begun o.start 0 line None)
-begun_first o line quiet = record { moments = omega arith; order = ap (λ (d : Bool). d || true) quiet; makes = tt }
+begun_first : (o : Origin) (line : Line) → is_command line.command ≡ true → IsOrdered o.start [] (Begun o.start 0 line None)
+begun_first o line plain = record { moments = omega arith; order = ap (λ (c : Bool). not c || true) plain; makes = tt }
 
 -- a command is answered so
-answer_of : (es : List ChronicleEntry) (line : Line) (a : Answer) → is_data line.command ≡ false → may_say line.command a ≡ true
+answer_of : (es : List ChronicleEntry) (line : Line) (a : Answer) → is_command line.command ≡ true → may_say line.command a ≡ true
     → may_answer_command es 0 line a ≡ true
     → (not (is_pending (pending es) 0) || is_some (failed_pv a)) ≡ true → may_answer es 0 (Some (line, None)) a ≡ true
-answer_of es line a quiet says may free =
-    let by_command : Bool = may_answer_command es 0 line a && (not (is_pending (pending es) 0) || is_some (failed_pv a)) in
+answer_of es line a plain says may free =
+    let known = plain_command line.command plain in
+    let flushes : Bool = may_answer_flush line.command None a in
+    let by_command : Bool = may_answer_command es 0 line a && flushes && (not (is_pending (pending es) 0) || is_some (failed_pv a)) in
     and_both (may_say line.command a) (if is_data line.command then may_answer_data es 0 line None a else by_command) says
-    (ap (λ (d : Bool). if d then may_answer_data es 0 line None a else by_command) quiet
-    ∙ and_both (may_answer_command es 0 line a) (not (is_pending (pending es) 0) || is_some (failed_pv a)) may free)
+    (ap (λ (d : Bool). if d then may_answer_data es 0 line None a else by_command) known.data_is
+    ∙ and_both (may_answer_command es 0 line a && flushes) (not (is_pending (pending es) 0) || is_some (failed_pv a))
+    (and_both (may_answer_command es 0 line a) flushes may (ap (λ (f : Bool). not f || is_refused a) known.flush_is)) free)
 
 -- a line that has done or begun to remove the group doesn't leave it as it is
 kept_not : (o : Origin) (es : List ChronicleEntry) (m : ℕ) (removing done : Bool)
@@ -76,13 +81,13 @@ kept_not o es m removing done is begun keeps =
     and_false true = refl
     and_false false = refl
 
--- what is known of a line of a command that reads and writes no sectors
-module _ (o : Origin) (line : Line) (quiet_data : is_data line.command ≡ false) (until : o.start ≤ end_of o) where
+-- what is known of the line of a command
+module _ (o : Origin) (line : Line) (plain : is_command line.command ≡ true) (until : o.start ≤ end_of o) where
   begun_ordered : AllOrdered o.start (begun_entries o line)
-  begun_ordered = (begun_first o line quiet_data, tt)
+  begun_ordered = (begun_first o line plain, tt)
 
   begun_faithful : IsFaithful (origin_at o.start o) [] (Begun o.start 0 line None)
-  begun_faithful = ap (λ (v : Option Path). key_named (origin_at o.start o) [] v) (sym (undata line.command quiet_data).1)
+  begun_faithful = ap (λ (v : Option Path). key_named (origin_at o.start o) [] v) (sym (plain_command line.command plain).unnamed)
 
   -- it isn't done
   pub undone_ordered : (a : Answer) → is_good a ≡ false → may_say line.command a ≡ true → AllOrdered o.start (answered_entries o line a)
@@ -90,7 +95,7 @@ module _ (o : Origin) (line : Line) (quiet_data : is_data line.command ≡ false
     record {
       moments = until;
       order =
-          answer_of (begun_entries o line) line a quiet_data says
+          answer_of (begun_entries o line) line a plain says
           (undone_test (is_good a) (is_refused a) (is_move line.command) (is_wait line.command) bad) refl;
       makes = tt;
     },
@@ -113,18 +118,20 @@ module _ (o : Origin) (line : Line) (quiet_data : is_data line.command ≡ false
   answered_faithful a leaves gives = ((gives, leaves_group leaves), (begun_faithful, tt))
 
   -- a command that commits nothing takes place
-  take_test : (d c : Bool) (a b : Bool) → d ≡ false → c ≡ false → b ≡ true → (if d then a else ((not c && b) && true)) ≡ true
-  take_test true c a b d e t = cc
-  take_test false true a b d e t = cc
-  take_test false false a true d e t = refl
-  take_test false false a false d e t = cc
+  take_test : (d f c : Bool) (a b : Bool) → d ≡ false → f ≡ false → c ≡ false → b ≡ true
+      → (if d then a else ((if f then false else (not c && b)) && true)) ≡ true
+  take_test true f c a b is_d is_f is_c t = cc
+  take_test false true c a b is_d is_f is_c t = cc
+  take_test false false true a b is_d is_f is_c t = cc
+  take_test false false false a true is_d is_f is_c t = refl
+  take_test false false false a false is_d is_f is_c t = cc
 
   pub created_ordered : commits line.command ≡ false → may_say line.command answer.Fine ≡ true → AllOrdered o.start (taken_entries o line)
   created_ordered none says = (
     record {
       moments = omega arith;
       order =
-          answer_of (Took (end_of o) 0 (zero_piece 0) ∷ begun_entries o line) line answer.Fine quiet_data says
+          answer_of (Took (end_of o) 0 (zero_piece 0) ∷ begun_entries o line) line answer.Fine plain says
           (not_or_true (is_wait line.command)) refl;
       makes = tt;
     },
@@ -132,8 +139,9 @@ module _ (o : Origin) (line : Line) (quiet_data : is_data line.command ≡ false
       record {
         moments = until;
         order =
-            take_test (is_data line.command) (commits line.command) (is_new_piece (begun_entries o line) 0 line None (zero_piece 0)) true
-            quiet_data none refl;
+            take_test (is_data line.command) (is_flush line.command) (commits line.command)
+            (is_new_piece (begun_entries o line) 0 line None (zero_piece 0)) true (plain_command line.command plain).data_is
+            (plain_command line.command plain).flush_is none refl;
         makes = tt;
       },
       begun_ordered,
@@ -175,10 +183,10 @@ module _ (o : Origin) (line : Line) (quiet_data : is_data line.command ≡ false
         ended : (said : Answer) → MayEnd said → may_answer (Changed made 0 version ∷ open_entries o line opened version) 0
             (Some (line, None)) said ≡ true
         ended answer.Fine may =
-            answer_of (Changed made 0 version ∷ open_entries o line opened version) line answer.Fine quiet_data
+            answer_of (Changed made 0 version ∷ open_entries o line opened version) line answer.Fine plain
             (commit_says line.command 0 commit).0 (not_or_true (is_wait line.command)) refl
         ended (answer.PvFailed pv) may =
-            answer_of (Changed made 0 version ∷ open_entries o line opened version) line (answer.PvFailed pv) quiet_data
+            answer_of (Changed made 0 version ∷ open_entries o line opened version) line (answer.PvFailed pv) plain
             (commit_says line.command pv commit).1 (not_or_true (is_wait line.command)) refl
         ended other may = absurd may
 
@@ -189,7 +197,7 @@ module _ (o : Origin) (line : Line) (quiet_data : is_data line.command ≡ false
       record {
         moments = omega arith;
         order =
-            answer_of (GivenUp (end_of o) 0 ∷ open_entries o line opened version) line (answer.PvFailed pv) quiet_data
+            answer_of (GivenUp (end_of o) 0 ∷ open_entries o line opened version) line (answer.PvFailed pv) plain
             (commit_says line.command pv commit).1 (not_or_true (is_wait line.command)) refl;
         makes = tt;
       },
@@ -205,7 +213,7 @@ module _ (o : Origin) (line : Line) (quiet_data : is_data line.command ≡ false
       record {
         moments = to;
         order =
-            answer_of (open_entries o line opened version) line (answer.PvFailed pv) quiet_data (commit_says line.command pv commit).1
+            answer_of (open_entries o line opened version) line (answer.PvFailed pv) plain (commit_says line.command pv commit).1
             (not_or_true (is_wait line.command)) refl;
         makes = tt;
       },

@@ -1,6 +1,9 @@
 pub mod EarlierMoments
 mod Legal
-mod Bases
+pub mod Bases
+mod Brought
+mod Numbered
+pub mod Answers
 mod Acknowledged
 pub mod CommandKinds
 mod Consistent
@@ -11,7 +14,6 @@ mod RestoredVersions
 pub mod MadeVersions
 pub mod ZeroedVolume
 mod Places
-mod WriteLife
 mod AtTake
 mod Untouched
 pub mod Phases
@@ -20,8 +22,10 @@ mod LegalLines
 pub mod SingleLines
 mod OneVersion
 mod Viewed
-mod SmallGroups
+pub mod SmallGroups
 mod Examples
 mod RestoreExamples
 mod SmallRun
+mod FlushExamples
+mod FlushedRun
 mod WrongRuns

@@ -1,6 +1,7 @@
 -- A history that leaves the volumes as they are is consistent where no place of a volume is written.
-use Rattle.std.proofs.Common.{◌≡◌, ◌≤◌, ◌<◌, ℕ, zero, suc, ◌+◌, ◌==◌, ◌&&◌, Bool, true, false, if◌then◌else◌, slice_index_or, List, [], ◌∷◌}
+use Rattle.std.proofs.Common.{◌≡◌, ◌≤◌, ◌<◌, ℕ, zero, suc, ◌+◌, ◌==◌, ◌||◌, Bool, true, false, if◌then◌else◌, slice_index_or, List, [], ◌∷◌}
 use Rattle.std.proofs.Common.{length, Option, Some, None, refl, sym, ap, subst, ◌∙◌, arith}
+use Rattle.std.proofs.lemmas.Bool.{and_left, and_right}
 use Rattle.std.proofs.lemmas.Bool.Decides.{nat_tests}
 use Rattle.disk_model.specs.CrashValues.{MayLeave}
 use Rattle.disk_model.specs.Moments.{at_moment}
@@ -13,7 +14,8 @@ use Rattle.list_laws.proofs.Bools.{eq_to}
 use Rattle.volume_history.proofs.CommandKinds.{quiet_command}
 use Rattle.volume_history.proofs.Consistent.{next_by_keeps, parts_make_consistent}
 use Rattle.volume_history.proofs.EarlierMoments.{now_before}
-use Rattle.volume_history.specs.Candidates.{IsConsistentMoment, IsConsistentNow, base_from, is_born, is_ok, no_image, place_at, writes_line}
+use Rattle.volume_history.specs.Candidates.{IsConsistentMoment, IsConsistentNow, base_from, is_acked, is_born, is_flush_of, is_write}
+use Rattle.volume_history.specs.Candidates.{no_image, place_at, writes_line}
 use Rattle.volume_history.specs.Chronicles.{Answered, Begun, Changed, Chronicle, ChronicleEntry, Failed, GivenUp, Opened, Origin, Took}
 use Rattle.volume_history.specs.Chronicles.{begun_in, chronicle_at, in_force, now_at, pending, piece_covers}
 use Rattle.volume_history.specs.Commands.{writes}
@@ -84,27 +86,24 @@ quiet_volumes o (Failed m n piece ∷ es) q =
 quiet_volumes o (Answered m n answer ∷ es) q = quiet_volumes o es q
 
 -- and the base of each sector is the opening
-no_write : (a w t : Bool) → w ≡ false → (a && (w && t)) ≡ false
-no_write true true t e = cc
-no_write true false t e = refl
-no_write false w t e = refl
-
-pub quiet_base : (o : Origin) (all : List ChronicleEntry) (key x : ℕ) (es : List ChronicleEntry) → AreQuiet es
-    → base_from o all key x es ≡ []
-quiet_base o all key x [] q = refl
-quiet_base o all key x (Begun m n line k ∷ es) q = quiet_base o all key x es q.1
-quiet_base o all key x (Opened m n version ∷ es) q = quiet_base o all key x es q
-quiet_base o all key x (Took m n piece ∷ es) q =
-    ap (λ (b : Bool). if b then Took m n piece ∷ es else base_from o all key x es)
-    (no_write (piece_covers piece key x) (writes_line (begun_in es n)) (is_ok all n) (begun_quiet es n q).writes)
-    ∙ quiet_base o all key x es q
-quiet_base o all key x (Changed m n version ∷ es) q =
-    ap (λ (b : Bool). if b then Changed m n version ∷ es else base_from o all key x es)
+pub quiet_base : (o : Origin) (all : List ChronicleEntry) (flushed : Bool) (key x : ℕ) (es : List ChronicleEntry) → AreQuiet es
+    → base_from o all flushed key x es ≡ []
+quiet_base o all flushed key x [] q = refl
+quiet_base o all flushed key x (Begun m n line k ∷ es) q =
+    quiet_base o all (flushed || is_flush_of all key (Begun m n line k)) key x es q.1
+quiet_base o all flushed key x (Opened m n version ∷ es) q = quiet_base o all (flushed || false) key x es q
+quiet_base o all flushed key x (Took m n piece ∷ es) q =
+    ap (λ (b : Bool). if b then Took m n piece ∷ es else base_from o all (flushed || false) key x es)
+    (and_left (is_write key x (Took m n piece) es) (is_acked all flushed (Took m n piece) es)
+    (and_right (piece_covers piece key x) (writes_line (begun_in es n)) (begun_quiet es n q).writes))
+    ∙ quiet_base o all (flushed || false) key x es q
+quiet_base o all flushed key x (Changed m n version ∷ es) q =
+    ap (λ (b : Bool). if b || false then Changed m n version ∷ es else base_from o all (flushed || false) key x es)
     ((begun_quiet es n q).births (in_force o es) version (plain_state o es) no_image key x)
-    ∙ quiet_base o all key x es q
-quiet_base o all key x (GivenUp m n ∷ es) q = quiet_base o all key x es q
-quiet_base o all key x (Failed m n piece ∷ es) q = quiet_base o all key x es q
-quiet_base o all key x (Answered m n answer ∷ es) q = quiet_base o all key x es q
+    ∙ quiet_base o all (flushed || false) key x es q
+quiet_base o all flushed key x (GivenUp m n ∷ es) q = quiet_base o all (flushed || false) key x es q
+quiet_base o all flushed key x (Failed m n piece ∷ es) q = quiet_base o all (flushed || false) key x es q
+quiet_base o all flushed key x (Answered m n answer ∷ es) q = quiet_base o all (flushed || false) key x es q
 
 -- the opening's volumes have different keys, so each is found by its own
 abbrev pub KeysFrom : ℕ → List PlainVolume → Type 0
@@ -170,7 +169,7 @@ quiet_places o es k (v ∷ vs) q untouched own =
         each = λ write value may. (
           Base,
           tt,
-          ap (λ (b : List ChronicleEntry). sector_of (plain_state o b) k x) (quiet_base o es k x es q)
+          ap (λ (b : List ChronicleEntry). sector_of (plain_state o b) k x) (quiet_base o es false k x es q)
               ∙ ap (λ (s : List (List ℕ)). slice_index_or s x []) own.0
               ∙ value_on image v.places x lt
               ∙ sym (untouched_at image v.places o.told x lt untouched.0 write value may),

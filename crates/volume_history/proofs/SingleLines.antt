@@ -1,6 +1,6 @@
 -- The histories of single lines.
-use Rattle.std.proofs.Common.{◌≡◌, ◌≤◌, ◌<◌, ℕ, ◌+◌, ◌-◌, ◌==◌, ◌&&◌, Bool, true, false, not, if◌then◌else◌, List, [], ◌∷◌, length, take}
-use Rattle.std.proofs.Common.{Option, Some, None, inl, inr, ⊎_elim, refl, sym, ap, subst, ◌∙◌, arith}
+use Rattle.std.proofs.Common.{◌≡◌, ◌≤◌, ◌<◌, ℕ, ◌+◌, ◌-◌, ◌==◌, ◌&&◌, ◌||◌, Bool, true, false, not, if◌then◌else◌, List, [], ◌∷◌, length}
+use Rattle.std.proofs.Common.{take, Option, Some, None, inl, inr, ⊎_elim, refl, sym, ap, subst, ◌∙◌, arith}
 use Rattle.std.proofs.lemmas.Bool.{true≢false}
 use Rattle.line_answers.specs.declared.answer.Answer.{Answer}
 use Rattle.line_answers.specs.declared.answer.Answer.TheVariants as answer
@@ -11,7 +11,7 @@ use Rattle.disk_model.specs.Steps.{Image, Step, Record}
 use Rattle.line_table.specs.Machine.{PlainState, PlainStep, plain_after, sector_of}
 use Rattle.image_scans.specs.Versions.{FindsVersion, Version}
 use Rattle.list_laws.proofs.Bools.{eq_of}
-use Rattle.volume_history.proofs.CommandKinds.{commit_kind, created_quiet, created_says, quiet_command, undata}
+use Rattle.volume_history.proofs.CommandKinds.{commit_kind, created_plain, created_says, plain_command}
 use Rattle.volume_history.proofs.LegalLines.{answered_faithful, created_faithful, created_ordered, fenced_faithful, fenced_ordered}
 use Rattle.volume_history.proofs.LegalLines.{gives_nothing, given_up_faithful, given_up_ordered, made_faithful, made_ordered}
 use Rattle.volume_history.proofs.LegalLines.{undone_ordered}
@@ -24,7 +24,7 @@ use Rattle.volume_history.proofs.Written.{since_seen, since_seen_now, since_star
 use Rattle.volume_history.specs.Candidates.{IsConsistentMoment, base, is_born, no_image, pending_step, writes_line}
 use Rattle.volume_history.specs.Chronicles.{Answered, Changed, ChronicleEntry, GivenUp, Opened, Origin, Took, has_written, in_force}
 use Rattle.volume_history.specs.Chronicles.{left_out, is_number, now_at, origin_at, pending, piece_covers, steps_upto}
-use Rattle.volume_history.specs.Commands.{commits, created_disk, is_created_at, is_data, is_fine, is_good, may_say, removes}
+use Rattle.volume_history.specs.Commands.{commits, created_disk, is_command, is_created_at, is_fine, is_good, is_through, may_say, removes}
 use Rattle.volume_history.specs.Laws.{DoneCreate, FailedCreate, NoLine, Tells}
 use Rattle.volume_history.specs.Legal.{AllFaithful, AllOrdered, FindsNow, last_moment}
 use Rattle.volume_history.specs.Parts.{FindsPending, NextPart, NextPlaces, Primaries, ScansPart}
@@ -105,11 +105,11 @@ not_fine (answer.Stopped pv) bad = refl
 not_fine answer.Aborted bad = refl
 not_fine answer.NoMemory bad = refl
 
-module _ (o : Origin) (line : Line) (still : IsStill o) (plain : is_data line.command ≡ false) where
+module _ (o : Origin) (line : Line) (still : IsStill o) (plain : is_command line.command ≡ true) where
   writes_none : writes_line (Some (line, None)) ≡ false
-  writes_none = (undata line.command plain).0
+  writes_none = (plain_command line.command plain).writes_is
 
-  no_base : (a w t : Bool) (all rest : List ChronicleEntry) → w ≡ false → rest ≡ [] → (if a && (w && t) then all else rest) ≡ []
+  no_base : (a w t : Bool) (all rest : List ChronicleEntry) → w ≡ false → rest ≡ [] → (if (a && w) && t then all else rest) ≡ []
   no_base true true t all rest e n = cc
   no_base true false t all rest e n = n
   no_base false w t all rest e n = n
@@ -118,7 +118,7 @@ module _ (o : Origin) (line : Line) (still : IsStill o) (plain : is_data line.co
   is_taken : AllFind o.sizes none_out o.version o.told → IsPhase o (taken_entries o line) (end_of o)
   is_taken finds =
       opening_phase o still (taken_entries o line) (end_of o) (omega (arith, still.from, still.until)) (omega arith)
-      (λ key x. no_base (piece_covers (zero_piece 0) key x) (writes_line (Some (line, None))) true
+      (λ key x. no_base (piece_covers (zero_piece 0) key x) (writes_line (Some (line, None))) (is_through line.command && true)
       (Took (end_of o) 0 (zero_piece 0) ∷ begun_entries o line) [] writes_none refl)
       (ap (λ (s : PlainStep). plain_after (opening_state (origin_at (end_of o) o)) s)
       (took_nothing (Some (line, None)) (zero_piece 0) writes_none)) refl
@@ -142,7 +142,7 @@ no_line o law =
         (λ image is. inl (finds_with o.sizes image none_out (left_out (origin_at m o) [] (length (origin_at m o).told.steps)) o.version
         (λ pv. refl) (law.after m ge le image is))) tt
 
-module _ (o : Origin) (line : Line) (law : StaysLaw o) (plain : is_data line.command ≡ false) (alone : LeavesDisk o line) where
+module _ (o : Origin) (line : Line) (law : StaysLaw o) (plain : is_command line.command ≡ true) (alone : LeavesDisk o line) where
   is_open_line : (m : ℕ) → o.start ≤ m → m ≤ end_of o → IsPhase o (begun_entries o line) m
   is_open_line m ge le =
       opening_phase o law.still (begun_entries o line) m (omega (arith, law.still.from, ge)) le (λ key x. refl) refl refl
@@ -186,7 +186,7 @@ module _ (o : Origin) (line : Line) (law : StaysLaw o) (plain : is_data line.com
 -- ---- commits
 
 module _ (o : Origin) (line : Line) (opened : ℕ) (version : Option Version) (law : CommitLaw o line opened version) where
-  kind_of : (is_data line.command ≡ false) × (created_disk o.names line.command ≡ None)
+  kind_of : (is_command line.command ≡ true) × (created_disk o.names line.command ≡ None)
   kind_of = commit_kind o.names line.command law.commits_is
 
   begins : o.first ≤ opened
@@ -250,11 +250,11 @@ module _ (o : Origin) (line : Line) (opened : ℕ) (version : Option Version) (l
     abbrev made_so : List ChronicleEntry
     made_so = Changed made 0 version ∷ open_entries o line opened version
 
-    by_birth : (b c : Bool) (all rest : List ChronicleEntry) → b ≡ c → c ≡ true → (if b then all else rest) ≡ all
+    by_birth : (b c : Bool) (all rest : List ChronicleEntry) → b ≡ c → c ≡ true → (if b || false then all else rest) ≡ all
     by_birth true c all rest e is = refl
     by_birth false c all rest e is = absurd (let f : false ≡ true = e ∙ is in cc)
 
-    by_none : (b c : Bool) (all rest : List ChronicleEntry) → b ≡ c → c ≡ false → (if b then all else rest) ≡ rest
+    by_none : (b c : Bool) (all rest : List ChronicleEntry) → b ≡ c → c ≡ false → (if b || false then all else rest) ≡ rest
     by_none true c all rest e is = absurd (let f : true ≡ false = e ∙ is in cc)
     by_none false c all rest e is = refl
 
@@ -282,7 +282,7 @@ module _ (o : Origin) (line : Line) (opened : ℕ) (version : Option Version) (l
       -- with these entries, which leave no disk out and move no base
       made_phase : (es : List ChronicleEntry) → in_force at es ≡ version → plain_state at es ≡ plain_after state (step image)
           → pending es ≡ None → ((pv : ℕ) → none_out pv ≡ left_out at es (length at.told.steps) pv)
-          → ((key x : ℕ) → base at es key x ≡ (if is_born (step no_image) state key x then made_so else [])) → IsPhase o es m
+          → ((key x : ℕ) → base at es key x ≡ (if is_born (step no_image) state key x || false then made_so else [])) → IsPhase o es m
       made_phase es force plain waits none based =
           let on = law_made.from in
           let began = begins in
@@ -408,8 +408,8 @@ module _ (o : Origin) (line : Line) (opened : ℕ) (version : Option Version) (l
 -- ---- pvcreate
 
 module _ (o : Origin) (line : Line) (disk before : ℕ) (law : CreateLaw o line disk before) where
-  kind : (is_data line.command ≡ false) × (commits line.command ≡ false)
-  kind = let k = created_quiet o.names disk line.command law.names in ((quiet_command line.command k.0).data_is, k.1)
+  kind : (is_command line.command ≡ true) × (commits line.command ≡ false)
+  kind = created_plain o.names disk line.command law.names
 
   -- the disk is left out once it was written
   half_made : (m : ℕ) → m ≤ end_of o → (pv : ℕ)

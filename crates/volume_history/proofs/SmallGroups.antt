@@ -90,6 +90,10 @@ version_8 = version_of 3 (volume_of 5 50 (linear 0 0 4 ∷ []) ∷ volume_of 6 6
 abbrev pub version_9 : Version
 version_9 = version_of 4 (volume_of 7 70 (linear 0 10 1 ∷ []) ∷ volume_of 8 50 (linear 0 0 2 ∷ linear 2 20 2 ∷ []) ∷ [])
 
+-- with one volume of one sector
+abbrev pub holding : Version
+holding = version_of 1 (volume_5 0 1 ∷ [])
+
 -- the volume by its group's name and its own
 abbrev pub path : Path
 path = record { vg = 70 ∷ []; lv = 5 ∷ [] }
@@ -140,9 +144,15 @@ group_removing = line (command.Vgremove (70 ∷ []))
 abbrev pub listing : Line
 listing = line command.List
 
--- one sector is filled, and read
+-- sectors are filled, also through to the disks, and one is read; and what was written to the volume is flushed
 abbrev pub filling : ℕ → ℕ → ℕ → Line
 filling first count number = line (command.Fill path first count number false)
 
+abbrev pub filling_through : ℕ → ℕ → ℕ → Line
+filling_through first count number = line (command.Fill path first count number true)
+
 abbrev pub reading : Line
 reading = line (command.Read path 0 1)
+
+abbrev pub flushing : Line
+flushing = line (command.Flush path)

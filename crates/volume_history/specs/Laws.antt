@@ -8,12 +8,13 @@ use Rattle.volume_rules.specs.Rules.{IsAccepted}
 use Rattle.volume_view.specs.View.{view}
 use Rattle.image_scans.specs.Versions.{FindsVersion, Version}
 use Rattle.volume_history.specs.Placed.{Place, PlacedVolume, group_name, values_on, volumes_of}
-use Rattle.volume_history.specs.Commands.{commits, is_data, is_good, may_say, removes}
+use Rattle.volume_history.specs.Commands.{commits, is_command, is_good, may_say, removes}
 use Rattle.volume_history.specs.Chronicles.{AreUpto, ChronicleEntry, Answered, Origin, Chronicle, moment_of, chronicle_at, in_force}
 use Rattle.volume_history.specs.Chronicles.{origin_at, origin_on, pending, with_step, with_entry}
 use Rattle.volume_history.specs.Replay.{plain_state}
-use Rattle.volume_history.specs.Legal.{IsFaithful, IsLegalHistory, IsOrdered}
+use Rattle.volume_history.specs.Legal.{AllOrdered, IsFaithful, IsLegalHistory, IsOrdered}
 use Rattle.volume_history.specs.Candidates.{base, candidates, IsConsistentMoment, IsConsistentNow, IsIn}
+use Rattle.volume_history.specs.Cuts.{IsMadeLast}
 use Rattle.volume_history.specs.Parts.{NextPart, PlaceHolds, Primaries, ScansPart}
 use Rattle.volume_history.specs.Quiet.{IsQuietMoment}
 use Rattle.volume_history.specs.Runs.{HasHistory, Run, journal_of, lines_of}
@@ -48,6 +49,13 @@ abbrev pub BasesStay : Type 0
 BasesStay =
     (o : Origin) (es : List ChronicleEntry) (key x : ℕ) (e : ChronicleEntry) → MovesNone o es key x e
     → base o (e ∷ es) key x ≡ base o es key x
+
+-- an answer ok leaves a base, or makes it a write that it makes last: one of its own line, if that is through, or one of the
+-- volume that its line flushes, if it took place before that was begun
+abbrev pub OksMoveBases : Type 0
+OksMoveBases =
+    (o : Origin) (es : List ChronicleEntry) (m n key x : ℕ) → AllOrdered o.start es
+    → IsMadeLast es n key x (base o es key x) (base o (Answered m n answer.Fine ∷ es) key x)
 
 -- what has a source is a candidate
 abbrev pub SourcesAreCandidates : Type 0
@@ -104,17 +112,17 @@ pub record Tells (o : Origin) (es : List ChronicleEntry) : Type 0 where
 abbrev pub NoLine : Type 0
 NoLine = (o : Origin) → StaysLaw o → Tells o []
 
--- a line that wasn't done, and wrote nothing: it was refused, or a read failed
+-- the line of a command that wasn't done, and wrote nothing: it was refused, or a read failed
 abbrev pub UndoneLine : Type 0
 UndoneLine =
-    (o : Origin) (line : Line) (answer : Answer) → StaysLaw o → is_data line.command ≡ false → LeavesDisk o line → LeavesAll o line
+    (o : Origin) (line : Line) (answer : Answer) → StaysLaw o → is_command line.command ≡ true → LeavesDisk o line → LeavesAll o line
     → is_good answer ≡ false
     → may_say line.command answer ≡ true → Tells o (answered_entries o line answer)
 
--- a line that was done, and commits and writes nothing: a report
+-- one that was done, and commits and writes nothing: a report
 abbrev pub DoneLine : Type 0
 DoneLine =
-    (o : Origin) (line : Line) → StaysLaw o → is_data line.command ≡ false → LeavesDisk o line → commits line.command ≡ false
+    (o : Origin) (line : Line) → StaysLaw o → is_command line.command ≡ true → LeavesDisk o line → commits line.command ≡ false
     → may_say line.command answer.Fine ≡ true → Tells o (taken_entries o line)
 
 -- a commit that was done

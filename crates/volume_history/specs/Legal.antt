@@ -5,6 +5,7 @@ use Rattle.std.specs.List.{range_with_len}
 use Rattle.std.specs.Option.{option_and_then, option_map_or}
 use Rattle.std.specs.Str.{bytes_eq}
 use Rattle.sector_base.specs.declared.places.Piece.{Piece}
+use Rattle.command_table.specs.declared.command.Command.{Command}
 use Rattle.command_table.specs.declared.command.Path.{Path}
 use Rattle.line_answers.specs.declared.answer.Answer.{Answer}
 use Rattle.line_answers.specs.declared.answer.Answer.TheVariants as answer
@@ -20,8 +21,8 @@ use Rattle.lv_plans.specs.Allocating.{Takes}
 use Rattle.group_ops.specs.Laws.{state_in}
 use Rattle.group_ops.specs.Planning.{IsBackupOf, IsPlanned, asks_of, change_of, refusal_of}
 use Rattle.image_scans.specs.Versions.{FindsVersion, Version}
-use Rattle.volume_history.specs.Commands.{is_data, is_wait, is_move, is_tended, failed_pv, is_good, is_judged_again, is_refused, may_say}
-use Rattle.volume_history.specs.Commands.{writes, commits, covers_sector, range_of, removes, value_for, volume_named}
+use Rattle.volume_history.specs.Commands.{is_data, is_flush, is_wait, is_move, is_tended, is_through, failed_pv, is_good, is_judged_again}
+use Rattle.volume_history.specs.Commands.{is_refused, may_say, writes, commits, covers_sector, range_of, removes, value_for, volume_named}
 use Rattle.volume_history.specs.Chronicles.{ChronicleEntry, Begun, Opened, Took, Changed, GivenUp, Failed, Answered, Origin, Chronicle}
 use Rattle.volume_history.specs.Chronicles.{origin_at, moment_of, now_at, begun_in, count_begun, is_number, is_open, open_among, every}
 use Rattle.volume_history.specs.Chronicles.{pending, in_force, may_begin, piece_covers, steps_upto, took_at, settled_at, has_took, left_out}
@@ -51,17 +52,23 @@ is_new_piece es number line key piece =
     is_number key piece.volume && same piece.write (writes line.command) && nat_lt 0 piece.count
     && all_in (λ x. covers_sector line.command x && not (settled_at es number piece.volume x)) (range_with_len piece.first piece.count)
 
--- whether it is the piece of an entry of a command
-abbrev pub is_zero_piece : Piece → Bool
-is_zero_piece piece = (piece.volume == 0) && (piece.first == 0) && (piece.count == 0) && not piece.write
+-- whether it is a piece without sectors, of the volume with this key
+abbrev pub is_zero_piece : ℕ → Piece → Bool
+is_zero_piece key piece = (piece.volume == key) && (piece.first == 0) && (piece.count == 0) && not piece.write
 
--- whether a piece of a line may take place: a new one of a line that reads or writes, or the one of a command that commits
--- nothing
+-- whether it is that of a line which takes place at once: of its volume, where it flushes one, and of key 0, where it is a command
+-- that commits nothing
+abbrev pub is_line_piece : Line → Option ℕ → Piece → Bool
+is_line_piece line key piece =
+    if is_flush line.command then is_number key piece.volume && is_zero_piece piece.volume piece
+    else (not (commits line.command) && is_zero_piece 0 piece)
+
+-- whether a piece of a line may take place: a new one of a line that reads or writes, or the one of another line
 abbrev pub may_take : List ChronicleEntry → ℕ → Option (Line × Option ℕ) → Piece → Bool
 may_take es number None piece = false
 may_take es number (Some l) piece =
     if is_data l.0.command then is_new_piece es number l.0 l.1 piece
-    else (not (commits l.0.command) && is_zero_piece piece && not (has_took es number))
+    else (is_line_piece l.0 l.1 piece && not (has_took es number))
 
 -- whether a piece of a line may fail
 abbrev pub may_fail : List ChronicleEntry → ℕ → Option (Line × Option ℕ) → Piece → Bool
@@ -85,23 +92,31 @@ is_overtaken (_ ∷ es) number = is_overtaken es number
 abbrev pub may_refuse : List ChronicleEntry → ℕ → Answer → Bool
 may_refuse es number answer = not (has_took es number) || (is_judged_again answer && is_overtaken es number)
 
--- whether a line that reads or writes may be answered so: as done exactly where each sector took place, and, unless it is
--- refused, once each sector took place or failed
+-- whether the answer of a line that reads or writes tells whether each of its sectors took place: it says that the line is done
+-- exactly where they did, but a line that is through may fail behind them
+abbrev pub tells_taken : Command → Answer → Bool → Bool
+tells_taken command answer taken = if is_through command then not (is_good answer) || taken else same (is_good answer) taken
+
+-- whether a line that reads or writes may be answered so, and, unless it is refused, once each sector took place or failed
 abbrev pub may_answer_data : List ChronicleEntry → ℕ → Line → Option ℕ → Answer → Bool
 may_answer_data es number line key answer =
-    same (is_good answer) (each_sector (took_at es number) line key)
+    tells_taken line.command answer (each_sector (took_at es number) line key)
     && (if is_refused answer then may_refuse es number answer else each_sector (settled_at es number) line key)
 
 -- whether no other line is open
 abbrev pub is_alone : List (ℕ × Line) → ℕ → Bool
 is_alone os number = every (λ o. o.0 == number) os
 
--- whether a command may be answered so: as done only after a Took, as refused only without one, but for a move; a wait once
--- every other line is answered
+-- whether a line that flushes a volume, or a command, may be answered so: as done only after a Took, as refused only without one,
+-- but for a move; a wait once every other line is answered
 abbrev pub may_answer_command : List ChronicleEntry → ℕ → Line → Answer → Bool
 may_answer_command es number line answer =
     (not (is_good answer) || has_took es number) && (not (is_refused answer) || is_move line.command || not (has_took es number))
     && (not (is_wait line.command) || is_alone (open_among es es) number)
+
+-- whether a line that flushes a volume which isn't there is answered as refused
+abbrev pub may_answer_flush : Command → Option ℕ → Answer → Bool
+may_answer_flush command key answer = not (is_flush command) || (is_some key || is_refused answer)
 
 -- whether a commit of the line is open
 abbrev pub is_pending : Option (ℕ × Option Version) → ℕ → Bool
@@ -116,7 +131,8 @@ may_answer es number (Some l) answer =
     may_say l.0.command answer
     && (if is_data l.0.command
     then may_answer_data es number l.0 l.1 answer
-    else (may_answer_command es number l.0 answer && (not (is_pending (pending es) number) || is_some (failed_pv answer))))
+    else (may_answer_command es number l.0 answer && may_answer_flush l.0.command l.1 answer
+    && (not (is_pending (pending es) number) || is_some (failed_pv answer))))
 
 -- whether a commit of the line may start: none is open, and it has made none, unless it is a move's
 abbrev pub may_open : List ChronicleEntry → ℕ → Option (Line × Option ℕ) → Option (ℕ × Option Version) → Bool

@@ -5,6 +5,7 @@ pub mod Replay
 pub mod Legal
 pub mod Candidates
 pub mod Sources
+pub mod Cuts
 pub mod Parts
 pub mod Reshaping
 pub mod Changing

@@ -1,5 +1,5 @@
 //! Laws of histories: each function does nothing, and its clauses are proved.
-ghost use Rattle.volume_history.specs.Laws.{AnswersKeep, BasesStay, HistoriesGrow, PastStays, ReplayStays, SourcesAreCandidates};
+ghost use Rattle.volume_history.specs.Laws.{AnswersKeep, BasesStay, HistoriesGrow, OksMoveBases, PastStays, ReplayStays, SourcesAreCandidates};
 ghost use Rattle.volume_history.specs.Laws.{PartsMakeConsistent, QuietIsConsistent, ScansAreOne, VolumesAreViewed};
 ghost use Rattle.volume_history.specs.Laws.{DoneCommit, DoneCreate, DoneLine, FailedCreate, FencedCommit, GivenUpCommit, MadeCommit, NoLine, UndoneLine};
 
@@ -12,6 +12,7 @@ pub fn histories_stay()
     ensures replay { ReplayStays }
     ensures grow { HistoriesGrow }
     ensures bases { BasesStay }
+    ensures oks { OksMoveBases }
     ensures sources { SourcesAreCandidates }
     ensures answers { AnswersKeep }
 {}

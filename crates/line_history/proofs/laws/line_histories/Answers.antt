@@ -16,5 +16,5 @@ returns-clause-looks c = λ handed sizes names clock start ended l. looks handed
 
 pub returns-clause-reports : goal.returns-clause-reports
 returns-clause-reports c =
-    λ handed sizes names clock start ended line said l quiet none may says. reports handed sizes names clock start ended l line quiet none
+    λ handed sizes names clock start ended line said l plain none may says. reports handed sizes names clock start ended l line plain none
     said may says

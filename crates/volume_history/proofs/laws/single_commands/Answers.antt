@@ -6,10 +6,10 @@ pub returns-clause-no_line : goal.returns-clause-no_line
 returns-clause-no_line c = λ o law. no_line o law
 
 pub returns-clause-undone : goal.returns-clause-undone
-returns-clause-undone c = λ o line answer law quiet alone leaves bad says. undone_line o line law quiet alone answer leaves bad says
+returns-clause-undone c = λ o line answer law plain alone leaves bad says. undone_line o line law plain alone answer leaves bad says
 
 pub returns-clause-line : goal.returns-clause-line
-returns-clause-line c = λ o line law quiet alone none says. done_line o line law quiet alone none says
+returns-clause-line c = λ o line law plain alone none says. done_line o line law plain alone none says
 
 pub returns-clause-done : goal.returns-clause-done
 returns-clause-done c = λ o line opened version law done. done_commit o line opened version law done
