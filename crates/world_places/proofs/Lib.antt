@@ -1,0 +1,9 @@
+mod Coming
+mod Carried
+mod Pieces
+mod Entries
+mod Acknowledging
+mod Beginning
+mod Now
+mod Volumes
+mod SmallLife

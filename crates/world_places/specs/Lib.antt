@@ -1,0 +1,9 @@
+pub mod Comings
+pub mod Lives
+pub mod Tracked
+pub mod Waiting
+pub mod Steady
+pub mod Nows
+pub mod Volumes
+pub mod Changes
+pub mod Laws
