@@ -1,7 +1,7 @@
 -- What a plan of flushes holds, and what it says.
-use Rattle.std.specs.Prelude.{◌≡◌, ◌≤◌, All, ℕ, Bool, false, ◌==◌, nat_le, nat_lt, not, ◌&&◌, List, slice_index_or}
+use Rattle.std.specs.Prelude.{◌≡◌, ◌≤◌, All, ℕ, Bool, false, ◌==◌, nat_le, nat_lt, not, ◌&&◌, List, Option, position, slice_get, slice_index_or}
 use Rattle.std.specs.List.{position_or_len, list_any}
-use Rattle.std.specs.Option.{option_map_or}
+use Rattle.std.specs.Option.{option_and_then, option_map_or}
 use Rattle.std.specs.Map.{lookup}
 use Rattle.flush_plan.specs.declared.records.Write.{Write}
 use Rattle.flush_plan.specs.declared.records.Marks.{Marks}
@@ -40,6 +40,10 @@ flush_at plan tag = position_or_len (λ f. f.tag == tag) plan.flushes
 -- the flush in flight with this tag
 abbrev pub flush_of : Plan → ℕ → Flush
 flush_of plan tag = slice_index_or plan.flushes (flush_at plan tag) (record { tag = 0; pv = 0; after = 0 })
+
+-- the oldest flush in flight of this disk
+abbrev pub flight_of : Plan → ℕ → Option Flush
+flight_of plan pv = option_and_then (slice_get plan.flushes) (position (λ f. f.pv == pv) plan.flushes)
 
 -- whether a write of this number on this disk is held, and a flush that was submitted after the completion of the last of
 -- them has completed well

@@ -1,7 +1,7 @@
 //! The plan: writes that completed, flushes in flight, and what they made stable.
-ghost use Rattle.std.specs.Prelude.{◌≡◌, ◌<◌, ◌==◌, IsTrue, IsFalse, OnErr, OnOk, IfOk, length, max, position};
+ghost use Rattle.std.specs.Prelude.{◌≡◌, ◌<◌, ◌==◌, IsTrue, IsFalse, OnErr, OnOk, IfOk, IfSome, length, max, position};
 ghost use Rattle.std.specs.List.{position_or_len, list_any};
-ghost use Rattle.flush_plan.specs.Plans.{SaysOfOthers, is_ended, is_in_flight, is_stable, is_wanted};
+ghost use Rattle.flush_plan.specs.Plans.{SaysOfOthers, flight_of, is_ended, is_in_flight, is_stable, is_wanted, marks_of};
 ghost use Rattle.flush_plan.specs.Steps.{new_plan, after_wrote, after_forgot, after_submitted, after_flushed, after_lost};
 
 use crate::{Flush, Marks, Write};
@@ -38,6 +38,14 @@ fn find_flush(flushes: &[Flush], tag: u64) -> Option<usize>
     ensures { result ≡ position (λ f. f.tag == tag) flushes.now }
 {
     flushes.iter().position(|f| f.tag == tag)
+}
+
+// The place of the first flush of the disk, if there is one.
+fn find_flight(flushes: &[Flush], pv: u32) -> Option<usize>
+    ensures place { result ≡ position (λ f. f.pv == pv) flushes.now }
+    ensures within { IfSome result (λ at. at < length flushes.now) }
+{
+    flushes.iter().position(|f| f.pv == pv)
 }
 
 // Where the flush with this tag stands.
@@ -184,5 +192,24 @@ impl FlushPlan {
     {
         let marks = &self.marks[pv as usize];
         marks.ended < marks.written && !is_flushed_now(&self.flushes, pv)
+    }
+
+    /// The flush of the disk that is in flight, the oldest of them.
+    pub fn flight(&self, pv: u32) -> Option<Flush>
+        ensures { result ≡ flight_of self.now pv }
+    {
+        match find_flight(&self.flushes, pv) {
+            Some(at) => Some(self.flushes[at]),
+            None => None,
+        }
+    }
+
+    /// The places of the disk's last write, of the last one that a flush which has ended serves, and of the last one that is
+    /// stable.
+    pub fn marks(&self, pv: u32) -> Marks
+        requires { pv < length self.now.marks }
+        ensures { result ≡ marks_of self.now pv }
+    {
+        self.marks[pv as usize]
     }
 }
