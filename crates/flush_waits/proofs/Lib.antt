@@ -1,0 +1,6 @@
+mod Flights
+mod Counting
+mod Queues
+mod InOrder
+mod Kept
+mod Rows
