@@ -1,0 +1,6 @@
+mod Entries
+mod Counts
+mod Claimed
+mod Flying
+mod Kept
+mod Rows
