@@ -1,5 +1,5 @@
 //! The table of the lines that were begun.
-ghost use Rattle.std.specs.Prelude.{◌≡◌, ◌≤◌, ◌<◌, IfOk, IsTrue, OnErr, OnOk, Some, length, max, not, slice_index_or, slice_set, vec_capacity, vec_len};
+ghost use Rattle.std.specs.Prelude.{◌≡◌, ◌≤◌, ◌<◌, IfOk, IsTrue, OnErr, OnOk, Some, filter, length, max, not, slice_index_or, slice_set, vec_capacity, vec_len};
 ghost use Rattle.std.specs.List.{list_any};
 ghost use Rattle.line_table.specs.Steps.{after_answer, after_begin, after_failed, after_took, is_open, last_moment, may_enter, no_line, no_lines, with_entry};
 
@@ -165,6 +165,13 @@ impl LineTable {
         self.open == 0
     }
 
+    /// How many of the lines that were begun aren't answered.
+    pub fn open_count(&self) -> u64
+        ensures { result ≡ length (filter is_open self.now.answers) }
+    {
+        self.open
+    }
+
     /// The journal.
     pub fn journal(&self) -> &Journal
         ensures { result.now.items ≡ self.now.journal }
@@ -177,6 +184,19 @@ impl LineTable {
         ensures { result.now.items ≡ self.now.answers }
     {
         &self.answers
+    }
+
+    /// The journal and the answers.
+    pub fn into_parts(self) -> (Journal, Answers)
+        ensures journal { result.0.items ≡ self.journal }
+        ensures answers { result.1.items ≡ self.answers }
+    {
+        let LineTable {
+            journal,
+            answers,
+            ..
+        } = self;
+        (journal, answers)
     }
 
     // Appends an entry.
