@@ -29,10 +29,12 @@ later f fs k =
     → option_and_then (slice_get (f ∷ fs)) (cond (nat_lt (suc k) (length (f ∷ fs))) (Some (suc k)) None)
     ≡ option_and_then (slice_get fs) (cond b (Some k) None)) [
       | true ↦ λ t.
-          let within : nat_lt (suc k) (length (f ∷ fs)) ≡ true = lt-ltb (suc k) (length (f ∷ fs)) (omega (arith, ltb-true k (length fs) t)) in
+          let within : nat_lt (suc k) (length (f ∷ fs)) ≡ true =
+          lt-ltb (suc k) (length (f ∷ fs)) (omega (arith, ltb-true k (length fs) t)) in
           rw (within) refl
       | false ↦ λ t.
-          let past : nat_lt (suc k) (length (f ∷ fs)) ≡ false = le-ltb (suc k) (length (f ∷ fs)) (omega (arith, ltb-false k (length fs) t)) in
+          let past : nat_lt (suc k) (length (f ∷ fs)) ≡ false =
+          le-ltb (suc k) (length (f ∷ fs)) (omega (arith, ltb-false k (length fs) t)) in
           rw (past) refl
     ] refl)
 

@@ -1,6 +1,6 @@
 -- What waits on disks until writes last.
-use Rattle.std.specs.Prelude.{◌≡◌, ◌≤◌, ◌<◌, All, AllPairs, ℕ, ◌+◌, ◌*◌, ◌^◌, Bool, false, ◌==◌, nat_le, not, ◌&&◌, List, [], length, replicate}
-use Rattle.std.specs.Prelude.{Option, is_none, slice_index_or, if◌then◌else◌}
+use Rattle.std.specs.Prelude.{◌≡◌, ◌≤◌, ◌<◌, All, AllPairs, ℕ, ◌+◌, ◌*◌, ◌^◌, Bool, false, ◌==◌, nat_le, not, ◌&&◌, List, []}
+use Rattle.std.specs.Prelude.{length, replicate, Option, is_none, slice_index_or, if◌then◌else◌}
 use Rattle.std.specs.Option.{option_map_or}
 use Rattle.flush_plan.specs.declared.records.Flush.{Flush}
 use Rattle.flush_plan.specs.declared.records.Marks.{Marks}

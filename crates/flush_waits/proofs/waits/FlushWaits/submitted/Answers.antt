@@ -24,6 +24,7 @@ invariant_of-self c =
     (c.index_mut.ensures.value ∙ any_default disks pv c.index_mut.result.now none_waits lt) in
     subst (λ (p : Plan). Kept p (set disks pv c.advance.new.self) c.self.inside.dirty.items c.self.inside.waited c.self.inside.room)
     (sym c.submitted.ensures)
-    (subst (λ (d : DiskWaits). Kept (after_submitted c.self.inside.plan pv c.args.tag) (set disks pv d) c.self.inside.dirty.items c.self.inside.waited c.self.inside.room) (sym queue)
+    (subst (λ (d : DiskWaits). Kept (after_submitted c.self.inside.plan pv c.args.tag) (set disks pv d) c.self.inside.dirty.items
+    c.self.inside.waited c.self.inside.room) (sym queue)
     (kept_submitted c.self.inside.plan disks c.self.inside.dirty.items c.self.inside.waited c.self.inside.room pv c.args.tag lt none
     c.self.invariant))
