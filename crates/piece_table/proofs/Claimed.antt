@@ -1,16 +1,13 @@
 -- The claims stay those of the pieces.
 use Rattle.std.proofs.Common.{◌≡◌, ◌≤◌, ◌<◌, ℕ, zero, suc, ◌+◌, true, false, cond, ◌||◌, nat_eq, List, [], ◌∷◌, length, get_or, Option}
 use Rattle.std.proofs.Common.{Some, None, ⊎_elim, refl, sym, ap, ◌∙◌, subst, arith}
-use Rattle.std.specs.Prelude.{All, IsTrue, IfSome, MatchOption, count_by, is_some, option_map, slice_get}
+use Rattle.std.specs.Prelude.{All, IsTrue, MatchOption, count_by, is_some, option_map, slice_get}
 use Rattle.std.specs.List.{list_any}
 use Rattle.std.proofs.lemmas.Bool.{cases_lt, eq-eqb, eqb-false, eqb-true, ne_eqb}
 use Rattle.std.proofs.lemmas.Option.{same_Some}
-use Rattle.std.proofs.lemmas.List.Elements.{All-push}
-use Rattle.std.proofs.lemmas.List.Sums.{sum_by-insert, sum_by-remove, sum_by_push}
+use Rattle.std.proofs.lemmas.List.Sums.{sum_by-insert, sum_by-remove}
 use Rattle.list_laws.proofs.Positions.{all_remove, any_within}
 use Rattle.claim_table.specs.declared.claim.Claim.{Claim}
-use Rattle.claim_table.specs.declared.claim.Entry.{Entry}
-use Rattle.claim_table.specs.declared.claim.Entry.TheVariants.{Deferred, Started}
 use Rattle.claim_table.specs.Claims.{Claims, ready_at}
 use Rattle.claim_table.specs.Steps as claims
 use Rattle.piece_table.specs.declared.live.LivePiece.{LivePiece}
@@ -34,15 +31,6 @@ below_next next lives n numbered is =
     ⊎_elim (λ (lt : n < next). lt)
     (λ (ge : next ≤ n). let none : is_some (live_at lives n) ≡ false = ap is_some (numbered n ge) in cc) (cases_lt n next)
 
-pub numbered_more : (next : ℕ) (lives after : List (ℕ × LivePiece)) (l : LivePiece) → Changes lives next (Some l) after
-    → AreNumbered next lives
-    → AreNumbered (next + 1) after
-numbered_more next lives after l change numbered q le =
-    elim (nat_eq next q) as (λ b. nat_eq next q ≡ b → live_at after q ≡ None) [
-      | true ↦ λ t. absurd (omega (arith, le, eqb-true next q t))
-      | false ↦ λ t. at_other lives after next q (Some l) change t ∙ numbered q (omega (arith, le))
-    ] refl
-
 pub numbered_same : (next n : ℕ) (lives after : List (ℕ × LivePiece)) (now : Option LivePiece) → Changes lives n now after → n < next
     → AreNumbered next lives
     → AreNumbered next after
@@ -60,17 +48,35 @@ live_is lives c is =
       | Some l ↦ λ h. refl
     ] is
 
-pub claims_below : (next : ℕ) (lives : List (ℕ × LivePiece)) (xs : List Claim) → AreNumbered next lives → All (IsLive lives) xs
-    → All (λ (c : Claim). c.number < next) xs
-claims_below next lives xs numbered all k d lt =
-    below_next next lives (get_or xs k d).number numbered (live_is lives (get_or xs k d) (all k d lt))
+-- what holds of each claim and what is under its number goes on, where it goes over to what is now under the changed number
+pub change_keeps : (P : Claim → Option LivePiece → Type 0) (lives after : List (ℕ × LivePiece)) (n : ℕ) (now : Option LivePiece)
+    (xs : List Claim)
+    → Changes lives n now after → ((c : Claim) → P c (live_at lives n) → P c now) → All (λ (c : Claim). P c (live_at lives c.number)) xs
+    → All (λ (c : Claim). P c (live_at after c.number)) xs
+change_keeps P lives after n now xs change goes all k d lt =
+    let c : Claim = get_or xs k d in
+    elim (nat_eq n c.number) as (λ b. nat_eq n c.number ≡ b → P c (live_at after c.number)) [
+      | true ↦ λ t.
+          let is : n ≡ c.number = eqb-true n c.number t in
+          subst (λ (r : ℕ). P c (live_at after r)) is (subst (P c) (sym (at_itself lives after n now change))
+          (goes c (subst (λ (r : ℕ). P c (live_at lives r)) (sym is) (all k d lt))))
+      | false ↦ λ t. subst (P c) (sym (at_other lives after n c.number now change t)) (all k d lt)
+    ] refl
 
--- the claims of others are as they were
-kept_live : (lives after : List (ℕ × LivePiece)) (n : ℕ) (now : Option LivePiece) (c : Claim) → Changes lives n now after
-    → nat_eq n c.number ≡ false → IsLive lives c
-    → IsLive after c
-kept_live lives after n now c change other is =
-    ap (option_map (λ (l : LivePiece). l.piece)) (at_other lives after n c.number now change other) ∙ is
+-- and where none of the claims has the changed number
+pub others_keep : (P : Claim → Option LivePiece → Type 0) (lives after : List (ℕ × LivePiece)) (n : ℕ) (now : Option LivePiece)
+    (xs : List Claim)
+    → Changes lives n now after → count_by (claims.has_number n) xs ≡ 0 → All (λ (c : Claim). P c (live_at lives c.number)) xs
+    → All (λ (c : Claim). P c (live_at after c.number)) xs
+others_keep P lives after n now xs change none all k d lt =
+    let c : Claim = get_or xs k d in
+    let other : nat_eq n c.number ≡ false =
+    ne_eqb n c.number (λ e. eqb-false c.number n (none_passes (claims.has_number n) xs none k d lt) (sym e)) in
+    subst (P c) (sym (at_other lives after n c.number now change other)) (all k d lt)
+
+-- the claim is of this piece
+abbrev IsOf : Claim → Option LivePiece → Type 0
+IsOf c o = option_map (λ (l : LivePiece). l.piece) o ≡ Some c.piece
 
 -- a piece that has changed, but not what is claimed
 pub claimed_same : (claims : Claims) (lives after : List (ℕ × LivePiece)) (n : ℕ) (l now : LivePiece) → Changes lives n (Some now) after
@@ -102,64 +108,6 @@ claimed_same claims lives after n l now change is same old =
     same_some None (Some y) e = cc
     same_some (Some x) None e = cc
 
--- a piece that enters: where the counts are those of the claims with one more
-once_more : (lives after : List (ℕ × LivePiece)) (n q a : ℕ) (l : LivePiece) → Changes lives n (Some l) after → live_at lives n ≡ None
-    → a ≡ cond (is_some (live_at lives q)) 1 0
-    → a + cond (nat_eq n q) 1 0 ≡ cond (is_some (live_at after q)) 1 0
-once_more lives after n q a l change none old =
-    rw (change q)
-    (elim (nat_eq n q) as
-    (λ b. nat_eq n q ≡ b → a + cond b 1 0 ≡ cond (is_some (cond b (Some l) (live_at lives q))) 1 0) [
-      | true ↦ λ t.
-          let zero : live_at lives q ≡ None = subst (λ (r : ℕ). live_at lives r ≡ None) (eqb-true n q t) none in
-          let a0 : a ≡ 0 = old ∙ ap (λ o. cond (is_some o) 1 0) zero in
-          omega (arith, a0)
-      | false ↦ λ t. let sum : a + 0 ≡ a = omega arith in sum ∙ old
-    ] refl)
-
-enter_live : (lives after : List (ℕ × LivePiece)) (n : ℕ) (l : LivePiece) (xs : List Claim) → Changes lives n (Some l) after
-    → live_at lives n ≡ None → All (IsLive lives) xs
-    → All (IsLive after) xs
-enter_live lives after n l xs change none all k d lt =
-    elim (nat_eq n (get_or xs k d).number) as (λ b. nat_eq n (get_or xs k d).number ≡ b → IsLive after (get_or xs k d)) [
-      | true ↦ λ t.
-          let is : is_some (live_at lives (get_or xs k d).number) ≡ true = live_is lives (get_or xs k d) (all k d lt) in
-          let no : is_some (live_at lives (get_or xs k d).number) ≡ false =
-          subst (λ (r : ℕ). is_some (live_at lives r) ≡ false) (eqb-true n (get_or xs k d).number t) (ap is_some none) in
-          cc
-      | false ↦ λ t. kept_live lives after n (Some l) (get_or xs k d) change t (all k d lt)
-    ] refl
-
-pub claimed_enter : (old : Claims) (lives after : List (ℕ × LivePiece)) (c : Claim) (l : LivePiece) (entry : Entry)
-    → Changes lives c.number (Some l) after → live_at lives c.number ≡ None → l.piece ≡ c.piece → AreClaimed old lives
-    → AreClaimed (claims.after_enter old c entry) after
-claimed_enter old lives after c l Started change none same are =
-    record {
-      started =
-          All-push (IsLive after) old.started c (enter_live lives after c.number l old.started change none are.started)
-          (ap (option_map (λ (m : LivePiece). m.piece)) (at_itself lives after c.number (Some l) change) ∙ ap Some same);
-      deferred = enter_live lives after c.number l old.deferred change none are.deferred;
-      once = λ q.
-          let pushed = sum_by_push (λ (d : Claim). cond (claims.has_number q d) 1 0) old.started c in
-          let more =
-          once_more lives after c.number q
-          (count_by (claims.has_number q) old.started + count_by (claims.has_number q) old.deferred) l change none (are.once q) in
-          omega (arith, pushed, more);
-    }
-claimed_enter old lives after c l (Deferred by) change none same are =
-    record {
-      started = enter_live lives after c.number l old.started change none are.started;
-      deferred =
-          All-push (IsLive after) old.deferred c (enter_live lives after c.number l old.deferred change none are.deferred)
-          (ap (option_map (λ (m : LivePiece). m.piece)) (at_itself lives after c.number (Some l) change) ∙ ap Some same);
-      once = λ q.
-          let pushed = sum_by_push (λ (d : Claim). cond (claims.has_number q d) 1 0) old.deferred c in
-          let more =
-          once_more lives after c.number q
-          (count_by (claims.has_number q) old.started + count_by (claims.has_number q) old.deferred) l change none (are.once q) in
-          omega (arith, pushed, more);
-    }
-
 -- a deferred piece that starts
 claimed_ready : (old : Claims) (lives : List (ℕ × LivePiece)) → ready_at old < length old.deferred → AreClaimed old lives
     → AreClaimed (claims.after_ready old) lives
@@ -171,7 +119,8 @@ claimed_ready old lives lt are =
           (are.deferred (ready_at old) claims.no_claim lt) are.started;
       deferred = all_remove (IsLive lives) old.deferred (ready_at old) lt are.deferred;
       once = λ q.
-          let put = sum_by-insert (λ (d : Claim). cond (claims.has_number q d) 1 0) old.started (claims.place_by_number old.started c.number) c in
+          let put = sum_by-insert (λ (d : Claim). cond (claims.has_number q d) 1 0) old.started
+          (claims.place_by_number old.started c.number) c in
           let taken = sum_by-remove (λ (d : Claim). cond (claims.has_number q d) 1 0) old.deferred (ready_at old) claims.no_claim lt in
           omega (arith, put, taken, are.once q);
     }
@@ -199,16 +148,6 @@ is_claimed old lives n is are =
     ] refl
 
 -- where it leaves the others keep theirs
-left_live : (lives after : List (ℕ × LivePiece)) (n : ℕ) (xs : List Claim) → Changes lives n None after
-    → count_by (claims.has_number n) xs ≡ 0 → All (IsLive lives) xs
-    → All (IsLive after) xs
-left_live lives after n xs change none all k d lt =
-    kept_live lives after n None (get_or xs k d) change
-    (swap (get_or xs k d).number n (none_passes (claims.has_number n) xs none k d lt)) (all k d lt)
-  where
-    swap : (a b : ℕ) → nat_eq a b ≡ false → nat_eq b a ≡ false
-    swap a b h = ne_eqb b a (λ e. eqb-false a b h (sym e))
-
 once_less : (lives after : List (ℕ × LivePiece)) (n q a b : ℕ) → Changes lives n None after → is_some (live_at lives n) ≡ true
     → a ≡ cond (is_some (live_at lives q)) 1 0 → b + cond (nat_eq n q) 1 0 ≡ a
     → b ≡ cond (is_some (live_at after q)) 1 0
@@ -248,10 +187,10 @@ claimed_leave old lives after n change is are =
           let here = taken_is old.started n n s in
           record {
             started =
-                left_live lives after n (claims.without old.started n) change (omega (arith, here, itself, one))
+                others_keep IsOf lives after n None (claims.without old.started n) change (omega (arith, here, itself, one))
                 (all_remove (IsLive lives) old.started (claims.number_at old.started n) (any_within (claims.has_number n) old.started s)
                 are.started);
-            deferred = left_live lives after n old.deferred change (omega (arith, here, itself, one)) are.deferred;
+            deferred = others_keep IsOf lives after n None old.deferred change (omega (arith, here, itself, one)) are.deferred;
             once = λ q.
                 once_less lives after n q (count_by (claims.has_number q) old.started + count_by (claims.has_number q) old.deferred)
                 (count_by (claims.has_number q) (claims.without old.started n) + count_by (claims.has_number q) old.deferred) change is
@@ -263,9 +202,9 @@ claimed_leave old lives after n change is are =
           subst (λ b. (b || list_any (claims.has_number n) old.deferred) ≡ true) s (is_claimed old lives n is are) in
           let here = taken_is old.deferred n n t in
           record {
-            started = left_live lives after n old.started change none are.started;
+            started = others_keep IsOf lives after n None old.started change none are.started;
             deferred =
-                left_live lives after n (claims.without old.deferred n) change (omega (arith, here, itself, one))
+                others_keep IsOf lives after n None (claims.without old.deferred n) change (omega (arith, here, itself, one))
                 (all_remove (IsLive lives) old.deferred (claims.number_at old.deferred n)
                 (any_within (claims.has_number n) old.deferred t) are.deferred);
             once = λ q.
@@ -276,7 +215,7 @@ claimed_leave old lives after n change is are =
     ] refl
 
 -- what a look for a ready piece comes to
-ready_within : (old : Claims) (n : ℕ) → Some n ≡ option_map (λ (c : Claim). c.number) (slice_get old.deferred (ready_at old))
+pub ready_within : (old : Claims) (n : ℕ) → Some n ≡ option_map (λ (c : Claim). c.number) (slice_get old.deferred (ready_at old))
     → (ready_at old < length old.deferred) × ((get_or old.deferred (ready_at old) claims.no_claim).number ≡ n)
 ready_within old n is = at old.deferred (ready_at old) is
   where
@@ -297,12 +236,3 @@ claimed_next old new lives (Some n) is after are =
 pub spare_next : (old new : Claims) (r : Option ℕ) → MatchOption r (new ≡ old) (λ n. new ≡ claims.after_ready old) → new.spare ≡ old.spare
 spare_next old new None after = ap (λ (x : Claims). x.spare) after
 spare_next old new (Some n) after = ap (λ (x : Claims). x.spare) after
-
-pub next_among : (old : Claims) (lives : List (ℕ × LivePiece)) (r : Option ℕ)
-    → r ≡ option_map (λ (c : Claim). c.number) (slice_get old.deferred (ready_at old)) → AreClaimed old lives
-    → IfSome r (λ n. IsTrue (is_some (live_at lives n)))
-next_among old lives None is are = tt
-next_among old lives (Some n) is are =
-    let found = ready_within old n is in
-    subst (λ (m : ℕ). IsTrue (is_some (live_at lives m))) found.1
-    (live_is lives (get_or old.deferred (ready_at old) claims.no_claim) (are.deferred (ready_at old) claims.no_claim found.0))

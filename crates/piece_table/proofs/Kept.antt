@@ -1,8 +1,7 @@
 -- Each call keeps what the type keeps: the claims, the numbers, the operations in flight, and room for what is spare.
-use Rattle.std.proofs.Common.{◌≡◌, ◌≤◌, ◌<◌, ℕ, ◌+◌, ◌-◌, ◌^◌, true, false, cond, List, Option, Some, None, refl, sym, ap, ◌∙◌, arith}
+use Rattle.std.proofs.Common.{◌≡◌, ◌≤◌, ◌<◌, ℕ, ◌+◌, ◌-◌, ◌^◌, true, false, cond, List, Option, Some, None, refl, sym, ap, arith}
 use Rattle.std.specs.Prelude.{MatchOption, is_some, option_map, slice_get}
 use Rattle.std.specs.List.{list_any}
-use Rattle.std.specs.Option.{option_map_or}
 use Rattle.claim_table.specs.declared.claim.Claim.{Claim}
 use Rattle.claim_table.specs.declared.claim.Entry.{Entry}
 use Rattle.claim_table.specs.declared.claim.Entry.TheVariants.{Deferred, Started}
@@ -10,17 +9,19 @@ use Rattle.claim_table.specs.Claims.{Claims, ready_at}
 use Rattle.claim_table.specs.Steps as claims
 use Rattle.piece_table.specs.declared.live.LivePiece.{LivePiece}
 use Rattle.piece_table.specs.declared.live.Owner.{Owner}
-use Rattle.piece_table.specs.Pieces.{AreClaimed, AreFlying, AreNumbered, Pieces, flying_in, flying_of, live_at}
+use Rattle.piece_table.specs.Pieces.{AreClaimed, AreFlying, AreNumbered, AreWaiting, Pieces, flying_in}
+use Rattle.piece_table.specs.Pieces.{live_at}
 use Rattle.piece_table.specs.Steps.{after_ready}
-use Rattle.piece_table.proofs.Claimed.{Changes, below_next, claimed_enter, claimed_leave, claimed_next, claimed_same, numbered_more}
+use Rattle.piece_table.proofs.Claimed.{Changes, below_next, claimed_leave, claimed_next, claimed_same}
 use Rattle.piece_table.proofs.Claimed.{numbered_same, spare_next}
 use Rattle.piece_table.proofs.Flying.{flying_same}
+use Rattle.piece_table.proofs.Waiting.{waiting_leave, waiting_next}
 
 -- what the type keeps, with room for so many pieces and operations
 abbrev pub Kept : Claims → List (ℕ × LivePiece) → List (ℕ × Owner) → ℕ → ℕ → ℕ → ℕ → Type 0
 Kept held lives owners next spare_ops pieces operations =
     AreClaimed held lives × AreNumbered next lives × AreFlying lives owners × (held.spare ≤ pieces) × (spare_ops ≤ operations)
-    × (next + held.spare < 2 ^ 64)
+    × (next + held.spare < 2 ^ 64) × AreWaiting held.deferred lives
 
 spare_entered : (old : Claims) (c : Claim) (entry : Entry) → (claims.after_enter old c entry).spare ≡ old.spare - 1
 spare_entered old c Started = refl
@@ -35,37 +36,23 @@ spare_left old n =
       | false ↦ refl
     ]
 
-pub kept_enter : (old : Claims) (lives after : List (ℕ × LivePiece)) (owners : List (ℕ × Owner)) (spare_ops pieces more operations : ℕ)
-    (c : Claim) (l : LivePiece) (entry : Entry)
-    → Changes lives c.number (Some l) after → l.piece ≡ c.piece → flying_of l.stage ≡ 0 → 0 < old.spare → pieces ≤ more + 1
-    → Kept old lives owners c.number spare_ops pieces operations
-    → Kept (claims.after_enter old c entry) after owners (c.number + 1) spare_ops more operations
-kept_enter old lives after owners spare_ops pieces more operations c l entry change same flying some room kept =
-    let none : live_at lives c.number ≡ None = kept.1 c.number (omega arith) in
-    let spare = spare_entered old c entry in (
-      claimed_enter old lives after c l entry change none same kept.0,
-      numbered_more c.number lives after l change kept.1,
-      flying_same lives after c.number (Some l) owners change
-          (flying ∙ sym (ap (λ (o : Option LivePiece). option_map_or (λ (m : LivePiece). flying_of m.stage) o 0) none)) kept.2,
-      omega (arith, spare, some, room, kept.3),
-      kept.4,
-      omega (arith, spare, some, kept.5),
-    )
-
 -- a piece has changed, but not its sectors
 pub kept_change : (old : Claims) (lives after : List (ℕ × LivePiece)) (owners others : List (ℕ × Owner))
     (next spare_ops left pieces more operations others_room n : ℕ) (l now : LivePiece)
-    → Changes lives n (Some now) after → live_at lives n ≡ Some l → now.piece ≡ l.piece → AreFlying after others → left ≤ others_room → pieces ≤ more
+    → Changes lives n (Some now) after → live_at lives n ≡ Some l → now.piece ≡ l.piece → AreFlying after others → left ≤ others_room
+    → pieces ≤ more → AreWaiting old.deferred after
     → Kept old lives owners next spare_ops pieces operations
     → Kept old after others next left more others_room
-kept_change old lives after owners others next spare_ops left pieces more operations others_room n l now change is same flying room le kept = (
-  claimed_same old lives after n l now change is same kept.0,
-  numbered_same next n lives after (Some now) change (below_next next lives n kept.1 (ap is_some is)) kept.1,
-  flying,
-  omega (arith, le, kept.3),
-  room,
-  kept.5,
-)
+kept_change old lives after owners others next spare_ops left pieces more operations others_room n l now change is same flying room le
+    waiting kept = (
+      claimed_same old lives after n l now change is same kept.0,
+      numbered_same next n lives after (Some now) change (below_next next lives n kept.1 (ap is_some is)) kept.1,
+      flying,
+      omega (arith, le, kept.3),
+      room,
+      kept.5,
+      waiting,
+    )
 
 pub kept_leave : (old : Claims) (lives after : List (ℕ × LivePiece)) (owners : List (ℕ × Owner))
     (next spare_ops pieces more operations n : ℕ)
@@ -80,6 +67,7 @@ kept_leave old lives after owners next spare_ops pieces more operations n change
       omega (arith, spare, room, kept.3),
       kept.4,
       omega (arith, spare, kept.5),
+      waiting_leave old lives after n change is kept.0 kept.6,
     )
 
 pub kept_ready : (old new : Claims) (lives : List (ℕ × LivePiece)) (owners : List (ℕ × Owner)) (next spare_ops pieces operations : ℕ)
@@ -95,6 +83,7 @@ kept_ready old new lives owners next spare_ops pieces operations r is after kept
       omega (arith, spare, kept.3),
       kept.4,
       omega (arith, spare, kept.5),
+      waiting_next old new lives r is after kept.6,
     )
 
 -- what comes of a look for a ready piece

@@ -2,5 +2,6 @@ mod Entries
 mod Counts
 mod Claimed
 mod Flying
+mod Waiting
 mod Kept
 mod Rows

@@ -10,7 +10,8 @@ use Rattle.piece_table.specs.declared.live.LivePiece.{LivePiece}
 use Rattle.piece_table.specs.declared.live.Stage.{Stage}
 use Rattle.piece_table.specs.declared.live.Stage.TheVariants.{Started, Taken, Waiting}
 use Rattle.piece_table.specs.Pieces.{Pieces, flying_at, is_among, is_started, is_waiting, live_at, no_pieces, owner_at, sectors_at}
-use Rattle.piece_table.specs.Steps.{after_enter, after_flies, after_lands, after_leave, after_ready, after_reserve, with_stage, without_ticket}
+use Rattle.piece_table.specs.Steps.{after_enter, after_flies, after_lands, after_leave, after_ready, after_reserve, with_stage}
+use Rattle.piece_table.specs.Steps.{without_ticket}
 
 -- a write of sectors 0 to 8 of volume 0, and the piece of line 4 that it is, at a stage, with room to wait or none
 abbrev write : Piece

@@ -1,7 +1,8 @@
 -- The pieces under way.
-use Rattle.std.specs.Prelude.{◌≡◌, ◌≤◌, All, ℕ, ◌+◌, Bool, false, true, ◌==◌, nat_eq, List, [], count_by, is_some, if◌then◌else◌}
+use Rattle.std.specs.Prelude.{◌≡◌, ◌≤◌, All, ℕ, ◌+◌, Bool, false, true, not, ◌&&◌, ◌==◌, nat_eq, List, [], count_by, is_some, if◌then◌else◌}
 use Rattle.std.specs.Prelude.{Option, None, Some, option_map}
 use Rattle.std.specs.Option.{option_map_or}
+use Rattle.std.specs.List.{list_any}
 use Rattle.std.specs.Map.{lookup}
 use Rattle.sector_base.specs.declared.places.Piece.{Piece}
 use Rattle.claim_table.specs.declared.claim.Claim.{Claim}
@@ -73,6 +74,10 @@ is_waiting pieces number = option_map_or (λ (l : LivePiece). is_waiting_stage l
 abbrev pub is_started : Pieces → ℕ → Bool
 is_started pieces number = option_map_or (λ (l : LivePiece). is_started_stage l.stage) (live_at pieces.lives number) false
 
+-- whether the piece is to start: nothing of it was submitted, and it isn't deferred
+abbrev pub may_start : Pieces → ℕ → Bool
+may_start pieces number = is_waiting pieces number && not (list_any (has_number number) pieces.claims.deferred)
+
 -- the claim of a piece
 abbrev pub claim_of : ℕ → Piece → Option ℕ → Claim
 claim_of number piece region = record { number = number; piece = piece; region = region }
@@ -89,6 +94,11 @@ pub record AreClaimed (claims : Claims) (lives : List (ℕ × LivePiece)) : Type
       (number : ℕ)
       → count_by (has_number number) claims.started + count_by (has_number number) claims.deferred
       ≡ (if is_some (live_at lives number) then 1 else 0)
+
+-- nothing of a deferred piece was submitted
+abbrev pub AreWaiting : List Claim → List (ℕ × LivePiece) → Type 0
+AreWaiting deferred lives =
+    All (λ c. option_map_or (λ (l : LivePiece). is_waiting_stage l.stage) (live_at lives c.number) false ≡ true) deferred
 
 -- none has a number from the next on
 abbrev pub AreNumbered : ℕ → List (ℕ × LivePiece) → Type 0

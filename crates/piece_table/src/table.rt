@@ -1,7 +1,10 @@
 //! The table of the pieces under way.
-ghost use Rattle.std.specs.Prelude.{◌≡◌, ◌≤◌, ◌<◌, ◌+◌, ◌-◌, ◌^◌, IfOk, IfSome, IsTrue, MatchOption, None, OnErr, OnOk, Some, option_map, slice_get};
+ghost use Rattle.std.specs.Prelude.{◌≡◌, ◌≤◌, ◌<◌, ◌+◌, ◌-◌, ◌^◌, false, IfOk, IfSome, IsTrue, MatchOption, None, OnErr, OnOk, Some, option_map, slice_get};
+ghost use Rattle.std.specs.List.{list_any};
 ghost use Rattle.claim_table.specs.Claims.{IsEntry, ready_at};
-ghost use Rattle.piece_table.specs.Pieces.{claim_of, flying_at, flying_of, is_among, is_started, is_waiting, live_at, no_pieces, owner_at, sectors_at};
+ghost use Rattle.claim_table.specs.Steps.{has_number};
+ghost use Rattle.claim_table.specs.declared.claim.Entry.TheVariants as entry;
+ghost use Rattle.piece_table.specs.Pieces.{AreClaimed, AreNumbered, claim_of, flying_at, flying_of, is_among, is_started, is_waiting, live_at, may_start, no_pieces, owner_at, sectors_at};
 ghost use Rattle.piece_table.specs.declared.live.Stage.TheVariants.{Started};
 ghost use Rattle.piece_table.specs.Steps.{after_enter, after_flies, after_lands, after_leave, after_ready, after_reserve, live_of, with_flying, with_stage, without_ticket};
 
@@ -26,15 +29,16 @@ pub struct PieceTable {
 impl Model for PieceTable {
     ghost use Rattle.std.specs.Prelude.{◌<◌, ◌≤◌, ◌+◌, ◌^◌};
     ghost use Rattle.indexmap.specs.IndexMap.{spare as room};
-    ghost use Rattle.piece_table.specs.Pieces.{AreClaimed, AreFlying, AreNumbered, Pieces};
+    ghost use Rattle.piece_table.specs.Pieces.{AreClaimed, AreFlying, AreNumbered, AreWaiting, Pieces};
 
     ghost Value = { Pieces };
 
     ghost view = { λ t. record { claims = t.claims; lives = t.lives.entries; owners = t.owners.entries; next = t.next; spare_ops = t.spare_ops } };
 
-    // The pieces are those of the claims, under numbers below the next; the operations in flight are counted; what is spare has
-    // room, and can be numbered.
-    ghost invariant = { λ t. AreClaimed t.claims t.lives.entries × AreNumbered t.next t.lives.entries × AreFlying t.lives.entries t.owners.entries × (t.claims.spare ≤ room t.lives) × (t.spare_ops ≤ room t.owners) × (t.next + t.claims.spare < 2 ^ 64) };
+    // The pieces are those of the claims, the deferred ones unsubmitted, under numbers below the next; the operations in flight are
+    // counted; what is spare has room, and can be numbered.
+    ghost invariant = { λ t. AreClaimed t.claims t.lives.entries × AreNumbered t.next t.lives.entries × AreFlying t.lives.entries t.owners.entries × (t.claims.spare ≤ room t.lives) × (t.spare_ops ≤ room t.owners) × (t.next + t.claims.spare < 2 ^ 64)
+        × AreWaiting t.claims.deferred t.lives.entries };
 }
 
 impl PieceTable {
@@ -79,6 +83,7 @@ impl PieceTable {
         ensures number { result.0 ≡ self.old.next }
         ensures answer { IsEntry self.old.claims (claim_of self.old.next piece region) result.1 }
         ensures after { self.new ≡ after_enter self.old line piece region sectors ticket result.1 }
+        ensures started { result.1 ≡ entry.Started → IsTrue (may_start self.new result.0) }
     {
         let number = self.next;
         let live = LivePiece {
@@ -99,7 +104,7 @@ impl PieceTable {
     pub fn next_ready(&mut self) -> Option<u64>
         ensures number { result ≡ option_map (λ c. c.number) (slice_get self.old.claims.deferred (ready_at self.old.claims)) }
         ensures after { MatchOption result (self.new ≡ self.old) (λ _. self.new ≡ after_ready self.old) }
-        ensures among { IfSome result (λ number. IsTrue (is_among self.new number)) }
+        ensures starts { IfSome result (λ number. IsTrue (may_start self.new number)) }
     {
         self.claims.next_ready()
     }
@@ -115,9 +120,9 @@ impl PieceTable {
         }
     }
 
-    /// The waiting piece with this number is started, and hands out its sectors.
+    /// The piece with this number, which is to start, is started, and hands out its sectors.
     pub fn start(&mut self, number: u64) -> Sectors
-        requires { IsTrue (is_waiting self.old number) }
+        requires { IsTrue (may_start self.old number) }
         ensures sectors { result ≡ sectors_at self.old number }
         ensures after { self.new ≡ with_stage self.old number (Started 0 None) }
     {
@@ -169,9 +174,10 @@ impl PieceTable {
         Some(owner)
     }
 
-    /// The piece comes to this stage, from one with as many operations in flight.
+    /// The submitted piece comes to this stage, from one with as many operations in flight.
     pub fn set_stage(&mut self, number: u64, stage: Stage)
         requires among { IsTrue (is_among self.old number) }
+        requires submitted { is_waiting self.old number ≡ false }
         requires flying { flying_of stage ≡ flying_at self.old number }
         ensures { self.new ≡ with_stage self.old number stage }
     {
@@ -190,6 +196,14 @@ impl PieceTable {
         }
     }
 
+    /// Its claims are those of its pieces, and its pieces have numbers below the next. It changes nothing.
+    pub fn agree(&self)
+        ensures claimed { AreClaimed self.now.claims self.now.lives }
+        ensures numbered { AreNumbered self.now.next self.now.lives }
+    {
+        let _ = &self.claims;
+    }
+
     /// The piece leaves, of which no operation is in flight.
     pub fn leave(&mut self, number: u64)
         requires among { IsTrue (is_among self.old number) }
@@ -200,9 +214,10 @@ impl PieceTable {
         self.lives.swap_remove(&number);
     }
 
-    // The piece comes to this stage, and the one before comes back.
+    // The piece, which isn't deferred, or of which something was submitted, comes to this stage, and the one before comes back.
     fn swap_stage(&mut self, number: u64, stage: Stage) -> Stage
         requires among { IsTrue (is_among self.old number) }
+        requires apart { IsTrue (is_waiting self.old number) → list_any (has_number number) self.old.claims.deferred ≡ false }
         requires flying { flying_of stage ≡ flying_at self.old number }
         ensures before { result ≡ (live_of self.old number).stage }
         ensures after { self.new ≡ with_stage self.old number stage }

@@ -6,12 +6,14 @@ use Rattle.indexmap.specs.IndexMap.{spare as room}
 use Rattle.piece_table.specs.declared.live.LivePiece.{LivePiece}
 use Rattle.piece_table.specs.declared.live.Owner.{Owner}
 use Rattle.piece_table.specs.declared.live.Stage.{Stage}
-use Rattle.piece_table.specs.Pieces.{AreFlying, Pieces, flying_in, flying_of, is_started, is_started_stage, live_at, owner_at}
+use Rattle.piece_table.specs.Pieces.{AreFlying, Pieces, flying_in, flying_of, is_started, is_started_stage, is_waiting_stage, live_at}
+use Rattle.piece_table.specs.Pieces.{owner_at}
 use Rattle.piece_table.specs.Steps.{after_flies, no_live, with_flying}
 use Rattle.piece_table.proofs.Claimed.{Changes}
 use Rattle.piece_table.proofs.Entries.{insert_absent}
 use Rattle.piece_table.proofs.Flying.{flying_more, one_more}
 use Rattle.piece_table.proofs.Kept.{kept_change}
+use Rattle.piece_table.proofs.Waiting.{waiting_same, waits_flying}
 use Rattle.piece_table.proofs.table.PieceTable.flies.Goals as goal
 
 pub invariant_of-self : goal.invariant_of-self
@@ -38,7 +40,9 @@ invariant_of-self c =
     (subst (λ os. AreFlying (c.get_mut.follows.lender now).entries os) (sym owned)
     (flying_more lives (c.get_mut.follows.lender now).entries n c.args.tag c.args.primary (Some now) c.self.inside.owners.entries change
     more c.self.invariant.2)) (omega (arith, c.self.invariant.4, c.in-Ok.ensures.spare))
-    (omega (arith, (c.get_mut.follows.holds now).6)) c.self.invariant
+    (omega (arith, (c.get_mut.follows.holds now).6))
+    (waiting_same c.self.inside.claims.deferred lives (c.get_mut.follows.lender now).entries n was now change is
+    (ap is_waiting_stage c.begin_op.ensures ∙ waits_flying was.stage (λ k. k + 1)) c.self.invariant.6) c.self.invariant
 
 pub returns : goal.returns
 returns c =

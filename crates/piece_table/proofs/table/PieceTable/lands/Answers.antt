@@ -1,12 +1,13 @@
-use Rattle.std.proofs.Common.{◌≡◌, ◌<◌, ◌+◌, Option, Some, refl, sym, ap, ◌∙◌, subst, rules, arith}
+use Rattle.std.proofs.Common.{◌≡◌, ◌<◌, ◌+◌, ◌-◌, Option, Some, refl, sym, ap, ◌∙◌, subst, rules, arith}
 use Rattle.std.specs.Option.{option_map_or}
 use Rattle.piece_table.specs.declared.live.LivePiece.{LivePiece}
 use Rattle.indexmap.specs.IndexMap.{spare as room}
 use Rattle.piece_table.specs.declared.live.Stage.{Stage}
-use Rattle.piece_table.specs.Pieces.{AreFlying, flying_in, flying_of, live_at}
+use Rattle.piece_table.specs.Pieces.{AreFlying, flying_in, flying_of, is_waiting_stage, live_at}
 use Rattle.piece_table.proofs.Claimed.{Changes}
 use Rattle.piece_table.proofs.Flying.{flying_less, one_less, owner_flies}
 use Rattle.piece_table.proofs.Kept.{kept_change}
+use Rattle.piece_table.proofs.Waiting.{waiting_same, waits_flying}
 use Rattle.piece_table.proofs.table.PieceTable.lands.Goals as goal
 
 pub end_op-requires : goal.end_op-requires
@@ -48,4 +49,6 @@ invariant_of-self-2 c =
     (subst (λ os. AreFlying (c.get_mut.follows.lender now).entries os) (sym c.swap_remove.ensures.entries)
     (flying_less lives (c.get_mut.follows.lender now).entries c.args.tag owner (Some now) c.self.inside.owners.entries found change less
     c.self.invariant.2)) (omega (arith, c.self.invariant.4, c.swap_remove.ensures.room.0))
-    (omega (arith, (c.get_mut.follows.holds now).6)) c.self.invariant
+    (omega (arith, (c.get_mut.follows.holds now).6))
+    (waiting_same c.self.inside.claims.deferred lives (c.get_mut.follows.lender now).entries owner.piece was now change is
+    (ap is_waiting_stage c.end_op.ensures ∙ waits_flying was.stage (λ k. k - 1)) c.self.invariant.6) c.self.invariant

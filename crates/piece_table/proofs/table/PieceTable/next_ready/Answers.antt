@@ -3,8 +3,8 @@ use Rattle.std.specs.Prelude.{MatchOption}
 use Rattle.indexmap.specs.IndexMap.{spare as room}
 use Rattle.piece_table.specs.Pieces.{Pieces}
 use Rattle.piece_table.specs.Steps.{after_ready}
-use Rattle.piece_table.proofs.Claimed.{next_among}
 use Rattle.piece_table.proofs.Kept.{kept_ready, ready_pieces}
+use Rattle.piece_table.proofs.Waiting.{next_starts}
 use Rattle.piece_table.proofs.table.PieceTable.next_ready.Goals as goal
 
 pub invariant_of-self : goal.invariant_of-self
@@ -26,6 +26,14 @@ returns-clause-after c =
     (λ n. record before { claims = c.next_ready.new.self } ≡ after_ready p)) c.self.view_is
     (ready_pieces before c.next_ready.new.self c.next_ready.result c.next_ready.ensures.after)
 
-pub returns-clause-among : goal.returns-clause-among
-returns-clause-among c =
-    next_among c.self.inside.claims c.self.inside.lives.entries c.next_ready.result c.next_ready.ensures.number c.self.invariant.0
+pub returns-clause-starts : goal.returns-clause-starts
+returns-clause-starts c =
+    let before : Pieces = record {
+      claims = c.self.inside.claims;
+      lives = c.self.inside.lives.entries;
+      owners = c.self.inside.owners.entries;
+      next = c.self.inside.next;
+      spare_ops = c.self.inside.spare_ops;
+    } in
+    next_starts before c.next_ready.new.self c.next_ready.result c.next_ready.ensures.number c.next_ready.ensures.after c.self.invariant.0
+    c.self.invariant.6
