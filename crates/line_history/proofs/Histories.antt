@@ -12,6 +12,7 @@ use Rattle.line_answers.specs.declared.answer.Answer.{Answer}
 use Rattle.line_answers.specs.declared.answer.Answer.TheVariants as answer
 use Rattle.line_answers.specs.declared.op_refusal.OpRefusal.{OpRefusal}
 use Rattle.lvm_script.specs.declared.line.Line.{Line}
+use Rattle.data_lines.specs.DataLines.{is_command}
 use Rattle.disk_model.proofs.StepsSince.{steps_joined}
 use Rattle.disk_model.specs.Order.{WritesNothing}
 use Rattle.disk_model.specs.Since.{writes_submitted}
@@ -33,7 +34,7 @@ use Rattle.volume_history.proofs.CommandKinds.{commit_says}
 use Rattle.volume_history.proofs.SingleLines.{done_commit, done_create, failed_create, fenced_commit, made_commit, no_line, undone_line}
 use Rattle.volume_history.specs.Chronicles.{ChronicleEntry, Origin, pending}
 use Rattle.volume_history.specs.Laws.{Tells}
-use Rattle.volume_history.specs.Commands.{created_disk, is_command, is_created_at, is_good, is_wait, kind_commits, may_say, removes}
+use Rattle.volume_history.specs.Commands.{created_disk, is_created_at, is_good, is_wait, kind_commits, may_say, removes}
 use Rattle.volume_history.specs.Runs.{journal_of, lines_of}
 use Rattle.volume_history.specs.Single.{LeavesAll, LeavesDisk, MayEnd as MayFollow, answered_entries, done_entries, made_entries}
 use Rattle.volume_history.specs.Single.{taken_entries}

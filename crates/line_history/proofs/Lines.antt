@@ -3,6 +3,7 @@ use Rattle.std.proofs.Common.{◌≡◌, ◌≤◌, ◌<◌, ℕ, ◌-◌, ◌&&
 use Rattle.std.proofs.Common.{None, inl, inr, ⊎_elim, refl, sym, ap, subst, ◌∙◌, arith}
 use Rattle.command_table.specs.declared.command.Command.{Command}
 use Rattle.command_table.specs.declared.command.Command.TheVariants.{Lvcreate}
+use Rattle.data_lines.specs.DataLines.{zero_sector}
 use Rattle.disk_model.proofs.EveryMoment.{since_weaken}
 use Rattle.disk_model.proofs.NowStands.{now_base}
 use Rattle.disk_model.proofs.SectorImages.{leaves_by_images}
@@ -35,7 +36,7 @@ use Rattle.volume_history.proofs.EarlierMoments.{now_before}
 use Rattle.volume_history.proofs.Phases.{finds_with}
 use Rattle.volume_history.specs.Chronicles.{Origin, is_number, left_out, now_at, origin_at, wrote_disk}
 use Rattle.volume_history.specs.Changing.{ChangesVolumes}
-use Rattle.volume_history.specs.Commands.{commits, created_disk, zero_sector}
+use Rattle.volume_history.specs.Commands.{commits, created_disk}
 use Rattle.volume_history.specs.Legal.{Makes, version_made}
 use Rattle.volume_history.specs.Parts.{IsZeroAt}
 use Rattle.volume_history.specs.Placed.{Place, volumes_of}

@@ -5,6 +5,7 @@ use Rattle.command_table.specs.Options.{Word}
 use Rattle.line_answers.specs.declared.answer.Answer.{Answer}
 use Rattle.line_answers.specs.declared.answer.Answer.TheVariants as answer
 use Rattle.lvm_script.specs.declared.line.Line.{Line}
+use Rattle.data_lines.specs.DataLines.{is_command}
 use Rattle.disk_model.proofs.StepsSince.{steps_joined}
 use Rattle.disk_model.specs.CrashValues.{IsImage}
 use Rattle.disk_model.specs.Durability.{IsBase}
@@ -15,7 +16,7 @@ use Rattle.image_scans.specs.Laws.{none_out}
 use Rattle.image_scans.specs.Versions.{FindsVersion}
 use Rattle.volume_history.proofs.SingleLines.{done_line, no_line, undone_line}
 use Rattle.volume_history.specs.Chronicles.{ChronicleEntry, Origin, pending}
-use Rattle.volume_history.specs.Commands.{commits, is_command, is_created_at, is_good, may_say}
+use Rattle.volume_history.specs.Commands.{commits, is_created_at, is_good, may_say}
 use Rattle.volume_history.specs.Placed.{volumes_of}
 use Rattle.volume_history.specs.Laws.{Tells}
 use Rattle.volume_history.specs.Runs.{journal_of, lines_of}

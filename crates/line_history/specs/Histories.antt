@@ -4,6 +4,7 @@ use Rattle.command_table.specs.Options.{Word}
 use Rattle.line_answers.specs.declared.answer.Answer.{Answer}
 use Rattle.line_answers.specs.declared.answer.Answer.TheVariants as answer
 use Rattle.lvm_script.specs.declared.line.Line.{Line}
+use Rattle.data_lines.specs.DataLines.{is_command}
 use Rattle.disk_model.specs.Durability.{IsBase}
 use Rattle.disk_model.specs.Order.{WritesNothing}
 use Rattle.disk_model.specs.Record.{IsRecord}
@@ -26,7 +27,7 @@ use Rattle.vg_repair.specs.Repaired.{repaired_of}
 use Rattle.image_scans.specs.Laws.{none_out}
 use Rattle.image_scans.specs.Versions.{FindsVersion, Version}
 use Rattle.volume_history.specs.Chronicles.{pending}
-use Rattle.volume_history.specs.Commands.{commits, is_command, is_good, may_say}
+use Rattle.volume_history.specs.Commands.{commits, is_good, may_say}
 use Rattle.volume_history.specs.Runs.{HasHistory, Run, zero_piece}
 use Rattle.line_history.specs.LineRun.{ClearsLine, Given, RunsLine, Stage, Repaired, Zeroing, Writing, Done}
 

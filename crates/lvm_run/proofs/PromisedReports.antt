@@ -11,12 +11,13 @@ use Rattle.line_answers.specs.declared.answer.Answer.{Answer}
 use Rattle.line_answers.specs.declared.answer.Answer.TheVariants as answer
 use Rattle.line_answers.specs.declared.op_refusal.OpRefusal.{OpRefusal}
 use Rattle.lvm_script.specs.declared.line.Line.{Line}
+use Rattle.data_lines.specs.DataLines.{is_command}
 use Rattle.disk_model.proofs.ReadingAlone.{reads_write_nothing}
 use Rattle.disk_model.proofs.StepsSince.{between_weaker}
 use Rattle.disk_model.specs.Since.{BetweenRecords}
 use Rattle.disk_model.specs.State.{State}
 use Rattle.disk_model.specs.Steps.{Record}
-use Rattle.volume_history.specs.Commands.{commits, is_command, may_say}
+use Rattle.volume_history.specs.Commands.{commits, may_say}
 use Rattle.line_history.proofs.Looks.{reports}
 use Rattle.line_history.specs.Histories.{IsFineOrBad, journal_of_line, took_if}
 use Rattle.lvm_run.specs.CommandSpec.{Context, Inputs}

@@ -4,11 +4,12 @@ use Rattle.std.proofs.Common.{inr, ⊎_elim, refl, sym, ap, ◌∙◌, arith}
 use Rattle.std.proofs.lemmas.Bool.{or_left, or_right}
 use Rattle.line_answers.specs.declared.answer.Answer.TheVariants as answer
 use Rattle.list_laws.proofs.Bools.{and_both, and_cases, eq_of, or_cases}
+use Rattle.data_lines.specs.DataLines.{is_flush}
 use Rattle.volume_history.proofs.Bases.{each_cut_from}
 use Rattle.volume_history.specs.Candidates.{base, base_from, bears, is_acked, is_flush_of, is_ok, is_through_line, is_write}
 use Rattle.volume_history.specs.Chronicles.{Answered, Begun, Changed, ChronicleEntry, Failed, GivenUp, Opened, Origin, Took, answer_in}
 use Rattle.volume_history.specs.Chronicles.{begun_in, count_begun, has_answer, is_number}
-use Rattle.volume_history.specs.Commands.{is_fine, is_flush}
+use Rattle.volume_history.specs.Commands.{is_fine}
 use Rattle.volume_history.specs.Cuts.{AreNumbered, EachCut, FlushesVolume, IsAckedBy, IsMadeLast, Unless}
 
 -- a number that is this one

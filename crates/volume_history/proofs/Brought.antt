@@ -4,10 +4,10 @@ use Rattle.std.proofs.Common.{None, inl, inr, ⊎_elim, refl, sym, ap, subst, �
 use Rattle.std.proofs.lemmas.List.Elements.{Contains-append_left, Contains-append_right, Contains-push}
 use Rattle.lvm_script.specs.declared.line.Line.{Line}
 use Rattle.list_laws.proofs.Bools.{and_both, eq_of, eq_to}
+use Rattle.data_lines.specs.DataLines.{covers_sector, value_for, writes}
 use Rattle.volume_history.specs.Candidates.{IsIn, base, brought, candidates, never_came}
 use Rattle.volume_history.specs.Chronicles.{Answered, Begun, Changed, ChronicleEntry, Failed, GivenUp, Opened, Origin, Took, begun_in}
 use Rattle.volume_history.specs.Chronicles.{is_number, settled_at}
-use Rattle.volume_history.specs.Commands.{covers_sector, value_for, writes}
 use Rattle.volume_history.specs.Sources.{Base, Brings, ByLine, IsSource, Source, value_of}
 
 here : (v : List ℕ) (vs : List (List ℕ)) → Contains (v ∷ vs) v
@@ -35,6 +35,14 @@ brings_test : (line : Line) (k : Option ℕ) (key x n : ℕ) (all based : List C
 brings_test line k key x n all based w e c s v =
     and_both _ _ (and_both _ _ (and_both _ _ w e) c) (ap not (ap (λ (b : Bool). b || never_came all n key x) s ∙ v))
 
+-- so it brings over other entries too, where it was begun in them
+over : (all based : List ChronicleEntry) (key x n : ℕ) (line : Line) (from es : List ChronicleEntry)
+    → begun_in es n ≡ Some (line, Some key)
+    → Brings all based key x n from line
+    → Brings all based key x n es line
+over all based key x n line from es begun b =
+    record { begun = begun; writing = b.writing; covers = b.covers; unsettled = b.unsettled; came = b.came }
+
 -- its value is among what the lines bring
 pub brings_value : (all based : List ChronicleEntry) (key x n : ℕ) (line : Line) (es : List ChronicleEntry)
     → Brings all based key x n es line → Contains (brought all based key x es) (value_for line.command x)
@@ -61,62 +69,20 @@ brings_value all based key x n line (Begun m n' line' k ∷ es) b =
     stays ((writes line'.command && is_number k key && covers_sector line'.command x)
     && not (settled_at based n' key x || never_came all n' key x)) (value_for line'.command x) (value_for line.command x)
     (brought all based key x es)
-    (brings_value all based key x n line es (record {
-      begun = older;
-      writing = b.writing;
-      covers = b.covers;
-      unsettled = b.unsettled;
-      came = b.came;
-    })))
+    (brings_value all based key x n line es (over all based key x n line (Begun m n' line' k ∷ es) es older b)))
     (begun_cases (n' == n) (line', k) (line, Some key) (begun_in es n) b.begun)
 brings_value all based key x n line (Opened m n' version ∷ es) b =
-    brings_value all based key x n line es (record {
-      begun = b.begun;
-      writing = b.writing;
-      covers = b.covers;
-      unsettled = b.unsettled;
-      came = b.came;
-    })
+    brings_value all based key x n line es (over all based key x n line (Opened m n' version ∷ es) es b.begun b)
 brings_value all based key x n line (Took m n' piece ∷ es) b =
-    brings_value all based key x n line es (record {
-      begun = b.begun;
-      writing = b.writing;
-      covers = b.covers;
-      unsettled = b.unsettled;
-      came = b.came;
-    })
+    brings_value all based key x n line es (over all based key x n line (Took m n' piece ∷ es) es b.begun b)
 brings_value all based key x n line (Changed m n' version ∷ es) b =
-    brings_value all based key x n line es (record {
-      begun = b.begun;
-      writing = b.writing;
-      covers = b.covers;
-      unsettled = b.unsettled;
-      came = b.came;
-    })
+    brings_value all based key x n line es (over all based key x n line (Changed m n' version ∷ es) es b.begun b)
 brings_value all based key x n line (GivenUp m n' ∷ es) b =
-    brings_value all based key x n line es (record {
-      begun = b.begun;
-      writing = b.writing;
-      covers = b.covers;
-      unsettled = b.unsettled;
-      came = b.came;
-    })
+    brings_value all based key x n line es (over all based key x n line (GivenUp m n' ∷ es) es b.begun b)
 brings_value all based key x n line (Failed m n' piece ∷ es) b =
-    brings_value all based key x n line es (record {
-      begun = b.begun;
-      writing = b.writing;
-      covers = b.covers;
-      unsettled = b.unsettled;
-      came = b.came;
-    })
+    brings_value all based key x n line es (over all based key x n line (Failed m n' piece ∷ es) es b.begun b)
 brings_value all based key x n line (Answered m n' answer ∷ es) b =
-    brings_value all based key x n line es (record {
-      begun = b.begun;
-      writing = b.writing;
-      covers = b.covers;
-      unsettled = b.unsettled;
-      came = b.came;
-    })
+    brings_value all based key x n line es (over all based key x n line (Answered m n' answer ∷ es) es b.begun b)
 
 -- what has a source is a candidate
 pub source_is_candidate : (o : Origin) (es : List ChronicleEntry) (key x : ℕ) (s : Source) → IsSource o es key x s

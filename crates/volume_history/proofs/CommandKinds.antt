@@ -7,13 +7,14 @@ use Rattle.command_table.specs.Options.{Word}
 use Rattle.command_table.specs.declared.command.Command.{Command}
 use Rattle.command_table.specs.declared.command.Command.TheVariants as command
 use Rattle.line_answers.specs.declared.answer.Answer.TheVariants as answer
+use Rattle.data_lines.specs.DataLines.{is_command, is_data, is_flush, is_read, volume_named, writes}
 use Rattle.disk_model.specs.Steps.{Image}
 use Rattle.line_table.specs.Machine.{PlainState, plain_after}
 use Rattle.group_ops.specs.Planning.{kind_zeroes, zeroes}
 use Rattle.image_scans.specs.Versions.{Version}
 use Rattle.volume_history.specs.Candidates.{is_born, is_zeroed}
-use Rattle.volume_history.specs.Commands.{commits, created_disk, is_command, is_data, is_flush, is_list, is_pvcreate, is_read, is_resync}
-use Rattle.volume_history.specs.Commands.{may_say, removes, volume_named, writes}
+use Rattle.volume_history.specs.Commands.{commits, created_disk, is_list, is_pvcreate, is_resync}
+use Rattle.volume_history.specs.Commands.{may_say, removes}
 use Rattle.volume_history.specs.Quiet.{is_quiet, is_quiet_kind}
 use Rattle.volume_history.specs.Replay.{command_step, kind_step}
 

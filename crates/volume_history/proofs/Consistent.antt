@@ -2,6 +2,7 @@
 use Rattle.std.proofs.Common.{◌≡◌, ℕ, Bool, true, false, if◌then◌else◌, List, [], ◌∷◌, Contains, Option, Some, None, inl, inr, ⊎_elim, refl}
 use Rattle.std.proofs.Common.{sym, subst}
 use Rattle.std.proofs.lemmas.List.Elements.{Contains-push}
+use Rattle.data_lines.specs.DataLines.{zero_sector}
 use Rattle.disk_model.specs.CrashValues.{IsImage}
 use Rattle.disk_model.specs.Steps.{Image}
 use Rattle.image_scans.specs.Versions.{Version}
@@ -10,7 +11,6 @@ use Rattle.volume_history.proofs.Brought.{source_is_candidate}
 use Rattle.volume_history.specs.Candidates.{Anything, IsConsistent, IsConsistentNow, IsIn, OneOf, ShowsPending, ShowsVolumes, candidates}
 use Rattle.volume_history.specs.Candidates.{is_born, is_zeroed, pending_candidates, pending_step, place_at}
 use Rattle.volume_history.specs.Chronicles.{Chronicle, ChronicleEntry, Origin, in_force, pending}
-use Rattle.volume_history.specs.Commands.{zero_sector}
 use Rattle.volume_history.specs.Parts.{FindsPending, IsZeroAt, KeepsAll, NextHolds, NextPart, NextPlaces, PlaceHolds, Primaries, ScansPart}
 use Rattle.volume_history.specs.Placed.{Place, PlacedVolume, group_name, volumes_of}
 use Rattle.volume_history.specs.Replay.{plain_state}

@@ -4,6 +4,7 @@ use Rattle.sector_base.specs.declared.places.Piece.{Piece}
 use Rattle.command_table.specs.Options.{number_named}
 use Rattle.line_answers.specs.declared.answer.Answer.TheVariants as answer
 use Rattle.line_answers.specs.declared.op_refusal.OpRefusal.TheVariants as refusal
+use Rattle.data_lines.specs.DataLines.{number_sector, zero_sector}
 use Rattle.disk_model.specs.Steps.{Completed, Flushing, Image, Step, Submitted, Writing}
 use Rattle.disk_model.specs.ValueList.{values}
 use Rattle.volume_view.specs.InSegments.{leg_spot, met}
@@ -16,7 +17,6 @@ use Rattle.volume_history.proofs.SmallGroups.{version_4, version_5, version_6, v
 use Rattle.volume_history.specs.Candidates.{Anything, OneOf, base, candidates, pending_candidates, pending_step}
 use Rattle.volume_history.specs.Chronicles.{Answered, Begun, Changed, ChronicleEntry, Failed, GivenUp, Opened, Origin, Took, fenced_by}
 use Rattle.volume_history.specs.Chronicles.{in_force, is_failed_disk, left_out, may_begin, pending, upto}
-use Rattle.volume_history.specs.Commands.{number_sector, zero_sector}
 use Rattle.volume_history.specs.Legal.{is_in_order, read_values}
 use Rattle.volume_history.specs.Placed.{place_of, volumes_of}
 use Rattle.volume_history.specs.Replay.{plain_state}

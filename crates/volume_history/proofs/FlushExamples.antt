@@ -3,13 +3,13 @@ use Rattle.std.proofs.Common.{◌≡◌, true, false, List, [], ◌∷◌, Some,
 use Rattle.sector_base.specs.declared.places.Piece.{Piece}
 use Rattle.line_answers.specs.declared.answer.Answer.TheVariants as answer
 use Rattle.line_answers.specs.declared.op_refusal.OpRefusal.TheVariants as refusal
+use Rattle.data_lines.specs.DataLines.{number_sector, zero_sector}
 use Rattle.volume_view.specs.InSegments.{leg_spot, met}
 use Rattle.volume_view.specs.Places.{primary}
 use Rattle.volume_history.proofs.Examples.{created, ordered_all, origin, piece, zero_piece}
 use Rattle.volume_history.proofs.SmallGroups.{filling, filling_through, flushing}
 use Rattle.volume_history.specs.Candidates.{OneOf, base, candidates}
 use Rattle.volume_history.specs.Chronicles.{Answered, Begun, ChronicleEntry, Took}
-use Rattle.volume_history.specs.Commands.{number_sector, zero_sector}
 use Rattle.volume_history.specs.Legal.{is_in_order}
 use Rattle.volume_history.specs.Placed.{place_of, volumes_of}
 

@@ -5,6 +5,7 @@ use Rattle.line_answers.specs.declared.answer.Answer.TheVariants as answer
 use Rattle.disk_model.specs.CrashValues.{HasCompleted, IsImage, MayLeave}
 use Rattle.disk_model.specs.Steps.{Completed, Flushing, Image, Step, Submitted, Writing}
 use Rattle.sector_base.specs.declared.spans.Span.{Span}
+use Rattle.data_lines.specs.DataLines.{number_sector}
 use Rattle.volume_view.specs.InSegments.{leg_spot, met}
 use Rattle.volume_view.specs.Places.{primary}
 use Rattle.image_scans.specs.Versions.{FindsVersion}
@@ -13,7 +14,6 @@ use Rattle.volume_history.proofs.SmallGroups.{filling, flushing, holding}
 use Rattle.volume_history.proofs.SmallRun.{opened, origin_of}
 use Rattle.volume_history.specs.Candidates.{IsConsistentNow, IsIn, candidates, place_at}
 use Rattle.volume_history.specs.Chronicles.{Answered, Begun, Chronicle, ChronicleEntry, Origin, Took, left_out, origin_at}
-use Rattle.volume_history.specs.Commands.{number_sector}
 use Rattle.volume_history.specs.Legal.{IsLegalHistory}
 use Rattle.volume_history.specs.Placed.{place_of, volumes_of}
 use Rattle.volume_history.specs.Runs.{zero_piece}

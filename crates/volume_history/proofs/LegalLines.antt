@@ -9,10 +9,11 @@ use Rattle.lvm_script.specs.declared.line.Line.{Line}
 use Rattle.disk_model.specs.Order.{WritesNothing}
 use Rattle.image_scans.specs.Versions.{Version}
 use Rattle.list_laws.proofs.Bools.{and_both}
+use Rattle.data_lines.specs.DataLines.{is_command, is_data, is_flush}
 use Rattle.volume_history.proofs.CommandKinds.{commit_says, plain_command}
 use Rattle.volume_history.proofs.Written.{since_seen}
 use Rattle.volume_history.specs.Chronicles.{Begun, Changed, ChronicleEntry, GivenUp, Origin, Took, begun_in, origin_at, pending}
-use Rattle.volume_history.specs.Commands.{commits, failed_pv, is_command, is_data, is_flush, is_good, is_move, is_refused, is_tended}
+use Rattle.volume_history.specs.Commands.{commits, failed_pv, is_good, is_move, is_refused, is_tended}
 use Rattle.volume_history.specs.Commands.{is_wait, may_say, removes}
 use Rattle.volume_history.specs.Legal.{AllFaithful, AllOrdered, FindsNow, GivesMachine, IsFaithful, IsOrdered, LeavesGroup, Makes}
 use Rattle.volume_history.specs.Legal.{is_new_piece, is_pending, keeps_group, key_named, may_answer, may_answer_command, may_answer_data}

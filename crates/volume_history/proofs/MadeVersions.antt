@@ -16,10 +16,11 @@ use Rattle.image_scans.specs.Versions.{Version}
 use Rattle.volume_history.proofs.ComingFrom.{come_both, come_changed, come_kept, come_without, found_key, key_from, none_equal, other_equal}
 use Rattle.volume_history.proofs.ComingFrom.{places_changed, plain_at}
 use Rattle.list_laws.proofs.Bools.{and_both, eq_to, itself, lt_false, lt_true}
+use Rattle.data_lines.specs.DataLines.{zero_sector}
 use Rattle.volume_history.proofs.Quiet.{value_on, values_length}
 use Rattle.volume_history.proofs.RestoredVersions.{restored_version}
 use Rattle.volume_history.specs.Candidates.{is_born, no_image, place_at}
-use Rattle.volume_history.specs.Commands.{commits, kind_commits, zero_sector}
+use Rattle.volume_history.specs.Commands.{commits, kind_commits}
 use Rattle.volume_history.specs.Changing.{ChangesVolumes, KindChanges, cut_to, grown_by, has_named, named_so}
 use Rattle.volume_history.specs.Placed.{Place, PlacedVolume, group_name, values_on, volumes_of}
 use Rattle.volume_history.specs.Replay.{key_or, kind_step, opening_volumes, places_named, zeroed}

@@ -11,6 +11,7 @@ use Rattle.line_table.specs.Machine.{Nothing, PlainState, PlainStep, PlainVolume
 use Rattle.lvm_script.specs.declared.line.Line.{Line}
 use Rattle.sector_base.specs.declared.places.Piece.{Piece}
 use Rattle.list_laws.proofs.Bools.{eq_to}
+use Rattle.data_lines.specs.DataLines.{writes}
 use Rattle.volume_history.proofs.CommandKinds.{quiet_command}
 use Rattle.volume_history.proofs.Consistent.{next_by_keeps, parts_make_consistent}
 use Rattle.volume_history.proofs.EarlierMoments.{now_before}
@@ -18,7 +19,6 @@ use Rattle.volume_history.specs.Candidates.{IsConsistentMoment, IsConsistentNow,
 use Rattle.volume_history.specs.Candidates.{no_image, place_at, writes_line}
 use Rattle.volume_history.specs.Chronicles.{Answered, Begun, Changed, Chronicle, ChronicleEntry, Failed, GivenUp, Opened, Origin, Took}
 use Rattle.volume_history.specs.Chronicles.{begun_in, chronicle_at, in_force, now_at, pending, piece_covers}
-use Rattle.volume_history.specs.Commands.{writes}
 use Rattle.volume_history.specs.Parts.{KeepsAll, Primaries, ScansPart}
 use Rattle.volume_history.specs.Placed.{Place, PlacedVolume, values_on, volumes_of}
 use Rattle.volume_history.specs.Quiet.{AllUntouched, AreQuiet, AreUntouched, IsQuiet, IsQuietMoment, IsQuietNext, is_quiet}

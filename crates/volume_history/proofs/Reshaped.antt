@@ -4,6 +4,7 @@ use Rattle.std.proofs.Common.{◌≡◌, ℕ, ◌+◌, Bool, true, false, if◌t
 use Rattle.std.proofs.Common.{sym, ap, subst, ◌∙◌}
 use Rattle.std.proofs.lemmas.Bool.{true≢false}
 use Rattle.command_table.specs.declared.command.Command.{Command}
+use Rattle.data_lines.specs.DataLines.{zero_sector}
 use Rattle.disk_model.specs.CrashValues.{MayLeave}
 use Rattle.disk_model.specs.Steps.{Image}
 use Rattle.line_table.specs.Machine.{PlainState, PlainStep, PlainVolume, plain_after, sector_of, sectors_of}
@@ -14,7 +15,6 @@ use Rattle.volume_history.specs.Single.{ZeroesStand}
 use Rattle.volume_history.proofs.Quiet.{OwnSectors, own_sectors, untouched_at, value_on, values_length}
 use Rattle.volume_history.specs.Candidates.{base, is_born, is_zeroed, no_image, place_at}
 use Rattle.volume_history.specs.Chronicles.{ChronicleEntry, Origin, now_at}
-use Rattle.volume_history.specs.Commands.{zero_sector}
 use Rattle.volume_history.specs.Parts.{IsZeroAt, NextPlaces, PlaceHolds, Primaries}
 use Rattle.volume_history.specs.Placed.{Place, PlacedVolume, volumes_of}
 use Rattle.volume_history.specs.Quiet.{AllUntouched}

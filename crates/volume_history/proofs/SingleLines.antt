@@ -11,6 +11,7 @@ use Rattle.disk_model.specs.Steps.{Image, Step, Record}
 use Rattle.line_table.specs.Machine.{PlainState, PlainStep, plain_after, sector_of}
 use Rattle.image_scans.specs.Versions.{FindsVersion, Version}
 use Rattle.list_laws.proofs.Bools.{eq_of}
+use Rattle.data_lines.specs.DataLines.{is_command, is_through}
 use Rattle.volume_history.proofs.CommandKinds.{commit_kind, created_plain, created_says, plain_command}
 use Rattle.volume_history.proofs.LegalLines.{answered_faithful, created_faithful, created_ordered, fenced_faithful, fenced_ordered}
 use Rattle.volume_history.proofs.LegalLines.{gives_nothing, given_up_faithful, given_up_ordered, made_faithful, made_ordered}
@@ -24,7 +25,7 @@ use Rattle.volume_history.proofs.Written.{since_seen, since_seen_now, since_star
 use Rattle.volume_history.specs.Candidates.{IsConsistentMoment, base, is_born, no_image, pending_step, writes_line}
 use Rattle.volume_history.specs.Chronicles.{Answered, Changed, ChronicleEntry, GivenUp, Opened, Origin, Took, has_written, in_force}
 use Rattle.volume_history.specs.Chronicles.{left_out, is_number, now_at, origin_at, pending, piece_covers, steps_upto}
-use Rattle.volume_history.specs.Commands.{commits, created_disk, is_command, is_created_at, is_fine, is_good, is_through, may_say, removes}
+use Rattle.volume_history.specs.Commands.{commits, created_disk, is_created_at, is_fine, is_good, may_say, removes}
 use Rattle.volume_history.specs.Laws.{DoneCreate, FailedCreate, NoLine, Tells}
 use Rattle.volume_history.specs.Legal.{AllFaithful, AllOrdered, FindsNow, last_moment}
 use Rattle.volume_history.specs.Parts.{FindsPending, NextPart, NextPlaces, Primaries, ScansPart}

@@ -4,6 +4,7 @@ use Rattle.std.proofs.Common.{◌≡◌, ◌<◌, ℕ, zero, suc, true, slice_in
 use Rattle.std.proofs.Common.{ap, subst, ◌∙◌, arith}
 use Rattle.std.specs.Hash.{le_bytes}
 use Rattle.line_answers.specs.declared.answer.Answer.TheVariants as answer
+use Rattle.data_lines.specs.DataLines.{number_sector}
 use Rattle.disk_model.specs.Steps.{Submitted, Record, Writing}
 use Rattle.volume_view.specs.InSegments.{leg_spot, met}
 use Rattle.volume_view.specs.Places.{primary}
@@ -14,7 +15,6 @@ use Rattle.volume_history.proofs.SmallGroups.{filling_through, holding, making, 
 use Rattle.volume_history.proofs.SmallRun.{header, new_header, opened, origin_of}
 use Rattle.volume_history.specs.Candidates.{IsConsistent, IsConsistentMoment, ShowsInForce, ShowsPending}
 use Rattle.volume_history.specs.Chronicles.{Answered, Begun, Chronicle, Took, in_force, left_out, origin_at, pending}
-use Rattle.volume_history.specs.Commands.{number_sector}
 use Rattle.volume_history.specs.Placed.{place_of, volumes_of}
 use Rattle.volume_history.specs.Single.{done_entries, none_out}
 

@@ -1,9 +1,9 @@
 -- The writes of a sector since its birth that took place, and which of them an answer ok makes last.
 use Rattle.std.specs.Prelude.{◌≡◌, ◌≤◌, ◌⊎◌, ℕ, Bool, true, false, List, [], ◌∷◌, Some}
 use Rattle.lvm_script.specs.declared.line.Line.{Line}
+use Rattle.data_lines.specs.DataLines.{is_flush}
 use Rattle.volume_history.specs.Candidates.{bears, is_through_line, is_write}
 use Rattle.volume_history.specs.Chronicles.{Begun, ChronicleEntry, Origin, Took, begun_in, count_begun}
-use Rattle.volume_history.specs.Commands.{is_flush}
 
 -- A, unless the test is true
 abbrev pub Unless : Bool → Type 0 → Type 0

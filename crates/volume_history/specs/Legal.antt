@@ -10,6 +10,7 @@ use Rattle.command_table.specs.declared.command.Path.{Path}
 use Rattle.line_answers.specs.declared.answer.Answer.{Answer}
 use Rattle.line_answers.specs.declared.answer.Answer.TheVariants as answer
 use Rattle.lvm_script.specs.declared.line.Line.{Line}
+use Rattle.data_lines.specs.DataLines.{is_data, is_flush, is_through, writes, covers_sector, range_of, value_for, volume_named}
 use Rattle.disk_model.specs.Order.{WritesNothing}
 use Rattle.disk_model.specs.Steps.{Step}
 use Rattle.meta_model.specs.declared.group.Group.{Group}
@@ -21,8 +22,8 @@ use Rattle.lv_plans.specs.Allocating.{Takes}
 use Rattle.group_ops.specs.Laws.{state_in}
 use Rattle.group_ops.specs.Planning.{IsBackupOf, IsPlanned, asks_of, change_of, refusal_of}
 use Rattle.image_scans.specs.Versions.{FindsVersion, Version}
-use Rattle.volume_history.specs.Commands.{is_data, is_flush, is_wait, is_move, is_tended, is_through, failed_pv, is_good, is_judged_again}
-use Rattle.volume_history.specs.Commands.{is_refused, may_say, writes, commits, covers_sector, range_of, removes, value_for, volume_named}
+use Rattle.volume_history.specs.Commands.{is_wait, is_move, is_tended, failed_pv, is_good, is_judged_again}
+use Rattle.volume_history.specs.Commands.{is_refused, may_say, commits, removes}
 use Rattle.volume_history.specs.Chronicles.{ChronicleEntry, Begun, Opened, Took, Changed, GivenUp, Failed, Answered, Origin, Chronicle}
 use Rattle.volume_history.specs.Chronicles.{origin_at, moment_of, now_at, begun_in, count_begun, is_number, is_open, open_among, every}
 use Rattle.volume_history.specs.Chronicles.{pending, in_force, may_begin, piece_covers, steps_upto, took_at, settled_at, has_took, left_out}

@@ -2,12 +2,12 @@
 use Rattle.std.specs.Prelude.{◌≡◌, ℕ, Bool, true, false, not, ◌&&◌, List, [], ◌∷◌, Option, Some, None}
 use Rattle.command_table.specs.declared.command.Command.{Command}
 use Rattle.command_table.specs.Commands.{CommandKind, GroupNamed, NextVersion, Removal, Restore, VolumeAdded, kind_of}
+use Rattle.data_lines.specs.DataLines.{is_data}
 use Rattle.disk_model.specs.CrashValues.{MayLeave}
 use Rattle.disk_model.specs.Steps.{Image, Record}
 use Rattle.line_table.specs.Machine.{plain_after}
 use Rattle.image_scans.specs.Versions.{Version}
 use Rattle.volume_history.specs.Placed.{Place, PlacedVolume, group_name, volumes_of}
-use Rattle.volume_history.specs.Commands.{is_data}
 use Rattle.volume_history.specs.Chronicles.{ChronicleEntry, Begun, Origin, Chronicle, chronicle_at, in_force, now_at, pending}
 use Rattle.volume_history.specs.Replay.{plain_state}
 use Rattle.volume_history.specs.Candidates.{pending_step}

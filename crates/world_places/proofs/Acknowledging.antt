@@ -5,6 +5,7 @@ use Rattle.list_laws.proofs.Bools.{and_cases, eq_of}
 use Rattle.sector_base.specs.declared.places.Piece.{Piece}
 use Rattle.line_answers.specs.declared.answer.Answer.TheVariants as answer
 use Rattle.lvm_script.specs.declared.line.Line.{Line}
+use Rattle.data_lines.specs.DataLines.{in_range}
 use Rattle.disk_model.specs.Durability.{OnlyLeaves}
 use Rattle.flush_plan.specs.Plans.{marks_of}
 use Rattle.volume_history.proofs.Answers.{base_by_ok, numbered_older}
@@ -12,7 +13,6 @@ use Rattle.volume_history.proofs.Bases.{each_cut_map}
 use Rattle.volume_history.specs.Candidates.{base, is_through_line, is_write, writes_line}
 use Rattle.volume_history.specs.Chronicles.{Answered, Begun, Changed, ChronicleEntry, Failed, GivenUp, Opened, Took, begun_in, count_begun}
 use Rattle.volume_history.specs.Chronicles.{piece_covers}
-use Rattle.volume_history.specs.Commands.{in_range}
 use Rattle.volume_history.specs.Cuts.{AreNumbered, FlushesVolume, IsAckedBy}
 use Rattle.volume_history.specs.Placed.{Place}
 use Rattle.world_places.proofs.Carried.{sourced_map, waits_on}

@@ -7,6 +7,7 @@ use Rattle.sector_base.specs.declared.places.Piece.{Piece}
 use Rattle.sector_base.specs.declared.spans.Span.{Span}
 use Rattle.line_answers.specs.declared.answer.Answer.TheVariants as answer
 use Rattle.lvm_script.specs.declared.line.Line.{Line}
+use Rattle.data_lines.specs.DataLines.{is_flush, number_sector}
 use Rattle.disk_model.specs.CrashValues.{HasCompleted}
 use Rattle.disk_model.specs.Steps.{Completed, Flushing, Submitted, Writing}
 use Rattle.flush_plan.proofs.Orderly.{orderly_new}
@@ -17,7 +18,6 @@ use Rattle.volume_view.specs.Places.{primary}
 use Rattle.volume_history.proofs.SmallGroups.{filling, flushing, holding}
 use Rattle.volume_history.specs.Candidates.{base}
 use Rattle.volume_history.specs.Chronicles.{Answered, Begun, ChronicleEntry, Origin, Took, origin_on, settled_at}
-use Rattle.volume_history.specs.Commands.{is_flush, number_sector}
 use Rattle.volume_history.specs.Cuts.{FlushesVolume}
 use Rattle.volume_history.specs.Parts.{PlaceHolds}
 use Rattle.volume_history.specs.Placed.{Place, place_of, volumes_of}

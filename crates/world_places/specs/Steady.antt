@@ -1,10 +1,10 @@
 -- The machine's value of a sector changes by births and by lines that are settled alone.
 use Rattle.std.specs.Prelude.{◌≡◌, ◌⊎◌, ℕ, true, false, List, [], ◌∷◌, Some}
 use Rattle.lvm_script.specs.declared.line.Line.{Line}
+use Rattle.data_lines.specs.DataLines.{covers_sector, value_for, writes}
 use Rattle.line_table.specs.Machine.{sector_of}
 use Rattle.volume_history.specs.Candidates.{bears}
 use Rattle.volume_history.specs.Chronicles.{ChronicleEntry, Origin, begun_in, settled_at}
-use Rattle.volume_history.specs.Commands.{covers_sector, value_for, writes}
 use Rattle.volume_history.specs.Cuts.{Unless}
 use Rattle.volume_history.specs.Replay.{plain_state}
 

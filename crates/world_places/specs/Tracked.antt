@@ -2,12 +2,12 @@
 -- last, and those under way, have come.
 use Rattle.std.specs.Prelude.{◌≡◌, ◌≤◌, ◌⊎◌, ℕ, ◌||◌, true, false, Contains, List, ◌∷◌, Some}
 use Rattle.lvm_script.specs.declared.line.Line.{Line}
+use Rattle.data_lines.specs.DataLines.{covers_sector, value_for, writes}
 use Rattle.disk_model.specs.Durability.{OnlyLeaves, OnlyLeavesOrCompleted}
 use Rattle.disk_model.specs.Steps.{Record}
 use Rattle.flush_plan.specs.Plans.{Plan, marks_of}
 use Rattle.volume_history.specs.Candidates.{base}
 use Rattle.volume_history.specs.Chronicles.{ChronicleEntry, Origin, Took, begun_in, count_begun, is_answered, settled_at}
-use Rattle.volume_history.specs.Commands.{covers_sector, value_for, writes}
 use Rattle.volume_history.specs.Cuts.{EachCut}
 use Rattle.volume_history.specs.Placed.{Place}
 use Rattle.volume_history.specs.Sources.{Base, ByLine, Source, value_from}

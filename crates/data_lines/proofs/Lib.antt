@@ -1,0 +1,3 @@
+mod NumberSectors
+mod HexSectors
+mod Ranges
