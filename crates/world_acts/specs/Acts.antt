@@ -1,0 +1,245 @@
+-- Acts: an event is a list of them, and each adds one step of the shelf or one entry at the most.
+use Rattle.std.specs.Prelude.{◌≡◌, ◌≤◌, ◌<◌, ◌≢◌, All, ℕ, ◌+◌, Bool, true, false, not, ◌&&◌, IsTrue, List, [], ◌∷◌, length, Option}
+use Rattle.std.specs.Prelude.{None, Some, is_some, slice_get}
+use Rattle.std.specs.Option.{option_map_or}
+use Rattle.sector_base.specs.declared.places.Piece.{Piece}
+use Rattle.line_answers.specs.declared.answer.Answer.{Answer}
+use Rattle.lvm_script.specs.declared.line.Line.{Line}
+use Rattle.disk_model.specs.Calls.{Completes, MakesReady, Submits}
+use Rattle.disk_model.specs.Operations.{work_of}
+use Rattle.disk_model.specs.State.{IsLawful, State}
+use Rattle.disk_model.specs.declared.ops.Done.{Done}
+use Rattle.disk_model.specs.declared.ops.Op.{Op}
+use Rattle.disk_model.specs.declared.ops.Op.TheVariants.{Flush}
+use Rattle.claim_table.specs.Claims.{IsEntry, ready_at}
+use Rattle.claim_table.specs.declared.claim.Entry.{Entry}
+use Rattle.flush_plan.specs.Plans.{flight_of, marks_of}
+use Rattle.flush_waits.specs.declared.ticket.Waiting.{Waiting}
+use Rattle.flush_waits.specs.Waits.{dirty_at, disk_waits, is_wanted}
+use Rattle.piece_table.specs.declared.live.Owner.{Owner}
+use Rattle.piece_table.specs.Pieces.{claim_of, flying_at, is_started, is_waiting, owner_at}
+use Rattle.piece_table.specs.Steps.{live_of}
+use Rattle.world_acts.specs.declared.state.Core.{Core}
+use Rattle.world_acts.specs.declared.open_line.OpenLine.{OpenLine}
+use Rattle.world_acts.specs.declared.open_line.Work.{Work}
+use Rattle.world_acts.specs.declared.open_line.Work.TheVariants.{Read, Whole, Write}
+use Rattle.world_acts.specs.declared.room.Room.{Room}
+use Rattle.world_acts.specs.Rooms.{IsCounted, line_room, more, piece_room, work_entries}
+use Rattle.world_acts.specs.OpenLines.{IsBarrier, is_whole, left_of, open_at, open_of}
+use Rattle.world_acts.specs.Owners.{piece_work, values_of}
+use Rattle.world_acts.specs.Volumes.{IsPlaced}
+use Rattle.world_acts.specs.Steps.{after_answers, after_asks, after_awaits, after_begins, after_ends, after_enters, after_fails}
+use Rattle.world_acts.specs.Steps.{after_flush, after_flushed, after_line_fails, after_marks, after_reads, after_released, after_starts}
+use Rattle.world_acts.specs.Steps.{after_wakes, after_wrote, grown}
+
+-- a world: its shelf, and what it keeps beside
+pub record World : Type 0 where
+  pub shelf : State
+  pub core : Core
+
+-- the world of a shelf and of what is kept beside it
+abbrev pub world : State → Core → World
+world shelf core = record { shelf = shelf; core = core }
+
+-- what happens
+pub data Act : Type 0 where
+  -- a line is begun, and open; a piece of it enters; it waits for what was written to its volume on a disk; it is to answer so; it is
+  -- answered; it is to wait for all others, and is answered then
+  Begins : Line → OpenLine → Act
+  Enters : ℕ → Piece → List (List ℕ) → Option (Unit {0}) → Entry → Act
+  Awaits : ℕ → ℕ → Act
+  LineFails : ℕ → Answer → Act
+  Answers : ℕ → Act
+  Holds : ℕ → Act
+  Passes : ℕ → Act
+  -- the first deferred piece that may is to start; a piece starts; its operation is submitted under a tag
+  Wakes : Act
+  Starts : ℕ → Act
+  Asks : ℕ → Op → ℕ → State → Act
+  -- an operation of a piece completes; a disk has failed; the piece fails; its write took place, or its read, with these sectors
+  Ends : Done → State → Act
+  Marks : ℕ → Act
+  Fails : ℕ → Answer → Act
+  Writes : ℕ → ℕ → Act
+  Reads : ℕ → List (List ℕ) → Act
+  -- a flush of a disk is submitted; it ends; the first that it served waits no more
+  AsksFlush : ℕ → ℕ → State → Act
+  EndsFlush : Done → State → Act
+  Releases : ℕ → Act
+  -- more operations are ready; more is spare
+  Readies : State → Act
+  Grows : World → Act
+
+-- whose the operation with this tag is, which is a piece's
+abbrev pub piece_at : Core → ℕ → ℕ
+piece_at c tag = option_map_or (λ (owner : Owner). owner.piece) (owner_at c.pieces.owners tag) 0
+
+-- the first that the last flush of a disk served
+abbrev pub released_at : Core → ℕ → Option Waiting
+released_at c pv = slice_get (disk_waits c.waits pv).served 0
+
+-- what is left of the core once it waits no more
+abbrev pub core_released : Core → ℕ → Option Waiting → Core
+core_released c pv None = c
+core_released c pv (Some w) = after_released c w.waiter pv
+
+-- the world after an act
+abbrev pub after : World → Act → World
+after w (Begins line opened) = record w { core = after_begins w.core line opened w.shelf.steps }
+after w (Enters line piece sectors ticket entry) = record w { core = after_enters w.core line piece sectors ticket entry }
+after w (Awaits line pv) =
+    record w { core = after_awaits w.core line pv (dirty_at w.core.waits (open_of w.core.opens line).key pv) }
+after w (LineFails line why) = record w { core = after_line_fails w.core line why }
+after w (Answers line) = record w { core = after_answers w.core line w.shelf.steps }
+after w (Holds line) = record w { core = record w.core { barrier = Some line } }
+after w (Passes line) = record w { core = after_answers (record w.core { barrier = None }) line w.shelf.steps }
+after w Wakes = record w { core = after_wakes w.core }
+after w (Starts number) = record w { core = after_starts w.core number }
+after w (Asks number op tag now) = record { shelf = now; core = after_asks w.core number tag }
+after w (Ends done now) = record { shelf = now; core = after_ends w.core done.tag (piece_at w.core done.tag) }
+after w (Marks pv) = record w { core = after_marks w.core pv }
+after w (Fails number why) = record w { core = after_fails w.core number why w.shelf.steps }
+after w (Writes number pv) = record w { core = after_wrote w.core number pv w.shelf.steps }
+after w (Reads number sectors) = record w { core = after_reads w.core number sectors w.shelf.steps }
+after w (AsksFlush pv tag now) = record { shelf = now; core = after_flush w.core pv tag }
+after w (EndsFlush done now) = record { shelf = now; core = after_flushed w.core done.tag done.well }
+after w (Releases pv) = record w { core = core_released w.core pv (released_at w.core pv) }
+after w (Readies now) = record w { shelf = now }
+after w (Grows v) = v
+
+-- nothing differs but what is spare, of which there is no less
+pub record IsGrown (w v : World) : Type 0 where
+  pub lawful : IsLawful v.shelf
+  pub shelf : v.shelf ≡ record w.shelf { spare_ops = v.shelf.spare_ops; spare_sectors = v.shelf.spare_sectors }
+  pub core : v.core ≡ grown w.core v.core
+  pub ops : w.shelf.spare_ops ≤ v.shelf.spare_ops
+  pub sectors : w.shelf.spare_sectors ≤ v.shelf.spare_sectors
+  pub lines : w.core.lines.spare_lines ≤ v.core.lines.spare_lines
+  pub entries : w.core.lines.spare_entries ≤ v.core.lines.spare_entries
+  pub opens : w.core.opens.spare ≤ v.core.opens.spare
+  pub claims : w.core.pieces.claims.spare ≤ v.core.pieces.claims.spare
+  pub owners : w.core.pieces.spare_ops ≤ v.core.pieces.spare_ops
+  pub writes : w.core.waits.plan.spare ≤ v.core.waits.plan.spare
+  pub waits : w.core.waits.room ≤ v.core.waits.room
+
+-- so much may be owed: it can be counted, and is spare
+pub record IsBorne (w : World) (room : Room) : Type 0 where
+  pub counted : IsCounted room
+  pub ops : room.ops ≤ w.shelf.spare_ops
+  pub sectors : room.sectors ≤ w.shelf.spare_sectors
+  pub writes : room.writes ≤ w.core.waits.plan.spare
+  pub waits : room.waits ≤ w.core.waits.room
+  pub entries : room.entries ≤ w.core.lines.spare_entries
+  pub owners : room.ops ≤ w.core.pieces.spare_ops
+
+-- a line may be begun: nothing is left of it, and there is room for it
+pub record MayBegin (w : World) (opened : OpenLine) : Type 0 where
+  pub none : opened.left ≡ 0
+  pub lines : 0 < w.core.lines.spare_lines
+  pub opens : 0 < w.core.opens.spare
+  pub entry : w.core.owed.entries + work_entries opened.work < w.core.lines.spare_entries
+  pub counted : IsCounted (more w.core.owed (line_room opened))
+
+-- the piece is one of what a line does
+abbrev pub IsPartOf : Work → Piece → Type 0
+IsPartOf (Read start buffer) piece = (piece.write ≡ false) × (start ≤ piece.first) × (piece.first + piece.count ≤ start + length buffer)
+IsPartOf Write piece = piece.write ≡ true
+IsPartOf (Whole answer) piece = ⊥
+
+-- what an entering piece needs: its line is open and does as much, it stands on a disk, and its sectors are its line's
+pub record MayEnter (w : World) (line : ℕ) (piece : Piece) (sectors : List (List ℕ)) (ticket : Option (Unit {0})) : Type 0 where
+  pub opened : OpenLine
+  pub is_open : open_at w.core.opens line ≡ Some opened
+  pub key : piece.volume ≡ opened.key
+  pub part : IsPartOf opened.work piece
+  pub placed : IsPlaced w.core.volumes w.shelf.sizes piece
+  pub many : length sectors ≡ piece.count
+  pub brought : piece.write ≡ true → sectors ≡ values_of (slice_get w.core.lines.begun line) piece
+  pub through : is_some ticket ≡ true → piece.write ≡ true
+  pub spare : 0 < w.core.pieces.claims.spare
+  pub room : IsBorne w (more w.core.owed (piece_room piece (is_some ticket)))
+
+-- a line waits on a disk for the last write of its volume there, where no flush that has ended serves that
+pub record MayAwait (w : World) (line pv : ℕ) : Type 0 where
+  pub opened : OpenLine
+  pub is_open : open_at w.core.opens line ≡ Some opened
+  pub whole : is_whole opened.work ≡ true
+  pub disk : pv < length w.shelf.sizes
+  pub behind : (marks_of w.core.waits.plan pv).ended < dirty_at w.core.waits opened.key pv
+  pub other : w.core.barrier ≢ Some line
+  pub room : w.core.owed.waits < w.core.waits.room
+  pub spare : IsBorne w (more w.core.owed (record { ops = 1; sectors = 0; writes = 0; waits = 0; entries = 0 }))
+
+-- when an act may be
+abbrev pub Allowed : World → Act → Type 0
+Allowed w (Begins line opened) = MayBegin w opened
+Allowed w (Enters line piece sectors ticket entry) =
+    MayEnter w line piece sectors ticket × IsEntry w.core.pieces.claims (claim_of w.core.pieces.next piece None) entry
+Allowed w (Awaits line pv) = MayAwait w line pv
+Allowed w (LineFails line why) = IsTrue (is_some (open_at w.core.opens line))
+Allowed w (Answers line) = IsTrue (is_some (open_at w.core.opens line)) × (left_of w.core.opens line ≡ 0) × (w.core.barrier ≢ Some line)
+Allowed w (Holds line) = (w.core.barrier ≡ None) × IsBarrier w.core.opens line
+Allowed w (Passes line) = w.core.barrier ≡ Some line
+Allowed w Wakes = ready_at w.core.pieces.claims < length w.core.pieces.claims.deferred
+Allowed w (Starts number) = IsTrue (is_waiting w.core.pieces number)
+Allowed w (Asks number op tag now) =
+    Submits w.shelf op tag now × IsLawful now × IsTrue (is_waiting w.core.pieces number) ×
+    (work_of op ≡ piece_work w.core (live_of w.core.pieces number))
+Allowed w (Ends done now) = Completes w.shelf done now × IsLawful now × IsTrue (is_some (owner_at w.core.pieces.owners done.tag))
+Allowed w (Marks pv) = pv < length w.shelf.sizes
+Allowed w (Fails number why) = IsTrue (is_started w.core.pieces number) × (flying_at w.core.pieces number ≡ 0)
+Allowed w (Writes number pv) =
+    IsTrue (is_started w.core.pieces number) × (flying_at w.core.pieces number ≡ 0) × (pv < length w.shelf.sizes)
+    × ((live_of w.core.pieces number).piece.write ≡ true)
+Allowed w (Reads number sectors) =
+    IsTrue (is_started w.core.pieces number) × (flying_at w.core.pieces number ≡ 0)
+    × ((live_of w.core.pieces number).piece.write ≡ false) × (length sectors ≡ (live_of w.core.pieces number).piece.count)
+Allowed w (AsksFlush pv tag now) =
+    Submits w.shelf (Flush pv) tag now × IsLawful now × IsTrue (is_wanted w.core.waits pv) × ((disk_waits w.core.waits pv).served ≡ [])
+Allowed w (EndsFlush done now) = Completes w.shelf done now × IsLawful now × (owner_at w.core.pieces.owners done.tag ≡ None)
+Allowed w (Releases pv) = (flight_of w.core.waits.plan pv ≡ None) × IsTrue (is_some (released_at w.core pv))
+Allowed w (Readies now) = MakesReady w.shelf now × IsLawful now
+Allowed w (Grows v) = IsGrown w v
+
+-- these acts lead from one world to another
+abbrev pub Runs : World → List Act → World → Type 0
+Runs w [] v = v ≡ w
+Runs w (a ∷ acts) v = Allowed w a × Runs (after w a) acts v
+
+-- one act
+pub record Does (a : Act) (w v : World) : Type 0 where
+  pub allowed : Allowed w a
+  pub becomes : v ≡ after w a
+
+-- acts that pass the test lead from one world to another
+pub record Reaches (may : Act → Bool) (w v : World) : Type 0 where
+  pub acts : List Act
+  pub all : All (λ (a : Act). may a ≡ true) acts
+  pub run : Runs w acts v
+
+-- whether the act is the begin or the end of something: a line is begun, or an operation completes; before these more may be
+-- ready, or spare
+abbrev pub opens_event : Act → Bool
+opens_event (Begins line opened) = true
+opens_event (Ends done now) = true
+opens_event (EndsFlush done now) = true
+opens_event (Readies now) = true
+opens_event (Grows v) = true
+opens_event _ = false
+
+-- whether more may be owed after it: a piece enters, or a line waits for a write
+abbrev pub owes_more : Act → Bool
+owes_more (Enters line piece sectors ticket entry) = true
+owes_more (Awaits line pv) = true
+owes_more _ = false
+
+-- whether it carries a line on that was begun, and whether it follows once an operation has completed
+abbrev pub carries_on : Act → Bool
+carries_on a = not (opens_event a)
+
+abbrev pub follows : Act → Bool
+follows a = not (opens_event a) && not (owes_more a)
+
+-- how much is left to do: operations in flight, and those that may still be submitted
+abbrev pub left_in : World → ℕ
+left_in w = length w.shelf.in_flight + w.core.owed.ops
