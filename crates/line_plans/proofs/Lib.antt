@@ -1,0 +1,10 @@
+mod Judged
+mod FoundRows
+mod ListedRows
+mod Writable
+mod PlacedPieces
+mod NewPieces
+mod PieceRooms
+mod Planned
+mod Reserved
+mod Prepared

@@ -1,0 +1,12 @@
+use Rattle.std.proofs.Common.{◌≡◌, map, take}
+use Rattle.std.specs.Prelude.{All}
+use Rattle.line_plans.specs.declared.preparing.NewPiece.{NewPiece}
+use Rattle.line_plans.specs.Plans.{IsBroughtBy}
+use Rattle.line_plans.proofs.preparing.write_pieces.Given as goal
+
+abbrev pub invariant-loop-piece : goal.invariant-loop-piece
+invariant-loop-piece l =
+    record {
+      cut : map (λ (new : NewPiece). new.piece) l.pieces.items ≡ take l.piece-index l.piece-items;
+      each : All (IsBroughtBy l.command) l.pieces.items;
+    }
