@@ -1,0 +1,69 @@
+-- Events that go on by further acts: what they reach is orderly and plain as before.
+use Rattle.std.proofs.Common.{◌≡◌, ℕ, true, [], None, sym, ap, subst, ◌∙◌}
+use Rattle.command_table.specs.declared.command.Command.{Command}
+use Rattle.command_table.specs.declared.command.Command.TheVariants as command
+use Rattle.lvm_script.specs.declared.line.Line.{Line}
+use Rattle.disk_model.specs.State.{State}
+use Rattle.disk_model.specs.declared.ops.Done.{Done}
+use Rattle.flush_plan.specs.Plans.{flight_of}
+use Rattle.flush_waits.specs.Waits.{Waits, disk_waits}
+use Rattle.world_acts.specs.declared.open_line.OpenLine.{OpenLine}
+use Rattle.world_acts.specs.declared.state.Core.{Core}
+use Rattle.world_acts.specs.Acts.{Begins, Reaches, World, after, carries_on, follows}
+use Rattle.world_acts.specs.OpenLines.{is_whole}
+use Rattle.world_acts.specs.Orderly.{AreReleased, IsOrderly}
+use Rattle.world_acts.proofs.Orderly.{orderly_after, orderly_reaches}
+use Rattle.world_acts.proofs.Reaching.{reaches_both, reaches_carried}
+use Rattle.line_plans.specs.declared.preparing.Plan.{Plan}
+use Rattle.io_core.specs.Events.{BeginsIn, Follows, ending}
+use Rattle.line_plans.specs.Plans.{MayBeBegun, opened_for}
+use Rattle.io_core.specs.Rest.{IsCalm, IsPlain, IsSettled, NoneReady, no_one}
+use Rattle.io_core.proofs.Plain.{plain_after, plain_reaches}
+
+-- ---- a line is begun
+
+pub begins_orderly : (w v : World) (line : Line) → IsOrderly w → BeginsIn w line v → IsOrderly v
+begins_orderly w v line o is = orderly_reaches is.goes (orderly_after w (Begins line is.opened) o is.may)
+
+pub begins_plain : (w v : World) (line : Line) → IsPlain w.core → BeginsIn w line v → IsPlain v.core
+begins_plain w v line plain is = plain_reaches is.goes (plain_after w (Begins line is.opened) is.may plain)
+
+pub begins_on : (w v u : World) (line : Line) → BeginsIn w line v → Reaches follows v u → BeginsIn w line u
+begins_on w v u line is goes = record {
+  opened = is.opened;
+  is = is.is;
+  may = is.may;
+  goes = reaches_both carries_on (after w (Begins line is.opened)) v u is.goes (reaches_carried v u goes);
+}
+
+-- a line that waits for all others takes place as a whole
+pub wait_whole : (w : World) (line : Line) (plan : Plan) → MayBeBegun w line plan → line.command ≡ command.Wait
+    → is_whole plan.opened.work ≡ true
+wait_whole w line plan may is =
+    ap (λ (o : OpenLine). is_whole o.work) may.planned.opened
+    ∙ ap (λ (c : Command). is_whole (opened_for w.core.volumes c).work) is
+
+-- ---- an operation has completed
+
+pub follows_orderly : (w v : World) (done : Done) (now : State) → IsOrderly w → Follows w done now v → IsOrderly v
+follows_orderly w v done now o is = orderly_reaches is.goes (orderly_after w (ending is.piece done now) o is.allowed)
+
+pub follows_plain : (w v : World) (done : Done) (now : State) → IsPlain w.core → Follows w done now v → IsPlain v.core
+follows_plain w v done now plain is = plain_reaches is.goes (plain_after w (ending is.piece done now) is.allowed plain)
+
+pub follows_on : (w v u : World) (done : Done) (now : State) → Follows w done now v → Reaches follows v u → Follows w done now u
+follows_on w v u done now is goes = record {
+  piece = is.piece;
+  allowed = is.allowed;
+  goes = reaches_both follows (after w (ending is.piece done now)) v u is.goes goes;
+}
+
+-- ---- what is settled, once what may start has started
+
+pub settled_after : (c d : Core) → IsCalm no_one no_one d → NoneReady d → d.waits ≡ c.waits → AreReleased c → IsSettled d
+settled_after c d calm ready same released = record {
+  calm = calm;
+  ready = ready;
+  released =
+      subst (λ (ws : Waits). (pv : ℕ) → flight_of ws.plan pv ≡ None → (disk_waits ws pv).served ≡ []) (sym same) released;
+}

@@ -1,0 +1,321 @@
+-- A line that waits for flushes.
+use Rattle.std.proofs.Common.{◌≡◌, ◌≤◌, ◌<◌, ◌⊎◌, ℕ, ◌+◌, ◌*◌, ◌^◌, Bool, true, false, cond, nat_eq, List, [], length, Option, None, Some}
+use Rattle.std.proofs.Common.{inl, inr, is_some, refl, sym, ap, subst, ◌∙◌, arith}
+use Rattle.std.proofs.lemmas.Bool.{eqb-false, eqb-true, eq-eqb}
+use Rattle.std.proofs.lemmas.List.{get_or-set_other, get_or-set_same}
+use Rattle.std.proofs.lemmas.Option.{none-some}
+use Rattle.line_answers.specs.declared.answer.Answer.TheVariants.{PvFailed}
+use Rattle.flush_plan.specs.Plans.{flight_of, marks_of}
+use Rattle.flush_plan.specs.declared.records.Flush.{Flush}
+use Rattle.flush_waits.specs.declared.ticket.Waiter.TheVariants as waiter
+use Rattle.flush_waits.specs.declared.ticket.Waiting.{Waiting}
+use Rattle.flush_waits.specs.declared.waits.Awaited.{Awaited}
+use Rattle.flush_waits.specs.declared.waits.Awaited.TheVariants.{Served, Unserved}
+use Rattle.flush_waits.specs.Steps.{with_waiting}
+use Rattle.flush_waits.specs.Waits.{DiskWaits, awaited, dirty_at, disk_waits, none_waits, serves}
+use Rattle.world_acts.specs.declared.state.Core.{Core}
+use Rattle.world_acts.specs.declared.open_line.OpenLine.{OpenLine}
+use Rattle.world_acts.specs.declared.room.Room.{Room}
+use Rattle.world_acts.specs.Acts.{Awaits, IsBorne, LineFails, MayAwait, Reaches, World, after, carries_on, world}
+use Rattle.world_acts.specs.OpenLines.{is_whole, left_of, open_at, open_of}
+use Rattle.world_acts.specs.Orderly.{AreReleased, IsOrderly}
+use Rattle.world_acts.specs.Rooms.{more}
+use Rattle.world_acts.specs.Steps.{after_awaits, after_line_fails}
+use Rattle.world_acts.specs.Volumes.{lv_of}
+use Rattle.world_acts.proofs.Awaiting.{WaitsMore, unended, waits_served, waits_unserved}
+use Rattle.world_acts.proofs.Lasting.{sizes_reach, volumes_reach}
+use Rattle.world_acts.proofs.LinesKept.{hit, line_added, line_failed, open_is}
+use Rattle.world_acts.proofs.Orderly.{orderly_reaches}
+use Rattle.world_acts.proofs.Reaching.{reaches_act, reaches_both, reaches_none}
+use Rattle.world_acts.proofs.Tables.{some_of}
+use Rattle.line_plans.specs.Plans.{AreForDisks, AreTickets, flushes_room}
+use Rattle.io_core.specs.Rest.{IsCalm, SameLines, just, no_one}
+use Rattle.io_core.proofs.Calm.{asked_same, others_failed, others_set, unfinished_but}
+use Rattle.io_core.proofs.LineKinds.{same_added, same_both, same_failed, same_lines}
+use Rattle.io_core.proofs.RoomsBorne.{borne_less, borne_same, covers_last}
+use Rattle.io_core.proofs.SameKinds.{KindKept, kept_kind}
+
+-- ---- one disk
+
+-- what a line leaves that waits on a disk, or has no need to
+pub record WaitsOn (line : ℕ) (w v : World) : Type 0 where
+  pub reaches : Reaches carries_on w v
+  pub room : (r : Room) → IsBorne w (more w.core.owed (more (flushes_room 1) r)) → IsBorne v (more v.core.owed r)
+  pub calm : IsCalm no_one (just line) w.core → IsCalm no_one (just line) v.core
+  pub released : AreReleased w.core → AreReleased v.core
+  pub opens : SameLines w.core.opens v.core.opens
+  pub pieces : v.core.pieces ≡ w.core.pieces
+  pub barrier : v.core.barrier ≡ w.core.barrier
+  pub left : left_of v.core.opens line ≤ left_of w.core.opens line + 1
+
+waits_none : (line : ℕ) (w : World) → WaitsOn line w w
+waits_none line w = record {
+  reaches = reaches_none carries_on w;
+  room =
+      λ r b. borne_less w (more w.core.owed (more (flushes_room 1) r)) (more w.core.owed r)
+      (covers_last w.core.owed (flushes_room 1) r) b;
+  calm = λ k. k;
+  released = λ k. k;
+  opens = same_lines w.core.opens;
+  pieces = refl;
+  barrier = refl;
+  left = omega arith;
+}
+
+waits_failed : (line pv : ℕ) (w : World) → is_some (open_at w.core.opens line) ≡ true
+    → WaitsOn line w (after w (LineFails line (PvFailed pv)))
+waits_failed line pv w opened =
+    let c : Core = w.core in
+    let d : Core = after_line_fails c line (PvFailed pv) in
+    let found : (x : OpenLine) × (open_at c.opens line ≡ Some x) = some_of (open_at c.opens line) opened in
+    record {
+      reaches = reaches_act carries_on w (LineFails line (PvFailed pv)) refl opened;
+      room = λ r b. borne_same w (after w (LineFails line (PvFailed pv))) (more c.owed (more (flushes_room 1) r)) (more c.owed r)
+          (covers_last c.owed (flushes_room 1) r) refl refl refl refl b;
+      calm = λ k. record {
+        quiet = record {
+          asked = asked_same no_one no_one c d refl (λ q apart is. is) (λ q not. not) k.quiet.asked;
+          unfinished =
+              unfinished_but (just line) c d line (eq-eqb line line refl) (others_failed c.opens line (PvFailed pv)) refl
+              k.quiet.unfinished;
+        };
+        others = k.others;
+      };
+      released = λ k. k;
+      opens = same_failed c.opens line found.0 (PvFailed pv) found.1;
+      pieces = refl;
+      barrier = refl;
+      left = let e = (line_failed c.opens line found.0 (PvFailed pv) found.1).left line in omega (arith, e);
+    }
+
+hit_most : (b : Bool) → hit b ≤ 1
+hit_most true = omega arith
+hit_most false = omega arith
+
+waits_on : (w : World) (line pv : ℕ) → IsOrderly w → (m : MayAwait w line pv) → WaitsOn line w (after w (Awaits line pv))
+waits_on w line pv o m =
+    let c : Core = w.core in
+    let v : World = after w (Awaits line pv) in
+    let place : ℕ = dirty_at c.waits (open_of c.opens line).key pv in
+    let x : DiskWaits = disk_waits c.waits pv in
+    let it : Waiting = record { waiter = waiter.Line line; place = place } in
+    let a : Awaited = awaited c.waits pv place in
+    let key : dirty_at c.waits m.opened.key pv ≡ place =
+    ap (λ (y : OpenLine). dirty_at c.waits y.key pv) (sym (open_is c.opens line m.opened m.is_open)) in
+    let behind : (marks_of c.waits.plan pv).ended < place = let far = m.behind in omega (arith, far, key) in
+    let is : a ≡ cond (serves (flight_of c.waits.plan pv) place) Served Unserved =
+    unended c.waits pv place o.tidy.flushes.reached behind in
+    let k : WaitsMore x it a = subst (λ (y : Awaited). WaitsMore x it y) (sym is)
+    (elim (serves (flight_of c.waits.plan pv) place) as (λ b. WaitsMore x it (cond b Served Unserved)) [
+      | true ↦ waits_served x it
+      | false ↦ waits_unserved x it
+    ]) in
+    let within : pv < length c.waits.disks = let disk = m.disk in omega (arith, disk, o.backed.places.many) in
+    record {
+      reaches = reaches_act carries_on w (Awaits line pv) refl m;
+      room = λ r b. record {
+        counted = record {
+          ops = omega (arith, b.counted.ops, k.one);
+          sectors = omega (arith, b.counted.sectors, k.no_sectors);
+          writes = omega (arith, b.counted.writes, k.no_writes);
+          waits = omega (arith, b.counted.waits, k.no_waits);
+          entries = omega (arith, b.counted.entries, k.no_entries);
+        };
+        ops = omega (arith, b.ops, k.one);
+        sectors = omega (arith, b.sectors, k.no_sectors);
+        writes = omega (arith, b.writes, k.no_writes);
+        waits = omega (arith, b.waits, k.no_waits);
+        entries = omega (arith, b.entries, k.no_entries);
+        owners = omega (arith, b.owners, k.one);
+      };
+      calm = λ z. record {
+        quiet = record {
+          asked = asked_same no_one no_one c v.core refl (λ q apart y. y) (λ q not. not) z.quiet.asked;
+          unfinished =
+              unfinished_but (just line) c v.core line (eq-eqb line line refl)
+              (others_set c.opens line (Some (record (open_of c.opens line) { left = (open_of c.opens line).left + 1 }))) refl
+              z.quiet.unfinished;
+        };
+        others = z.others;
+      };
+      released =
+          λ released q none. elim (nat_eq pv q) as (λ b. nat_eq pv q ≡ b → (disk_waits v.core.waits q).served ≡ []) [
+            | true ↦ λ t.
+                let here : pv ≡ q = eqb-true pv q t in
+                let flight : flight_of c.waits.plan pv ≡ None = subst (λ (n : ℕ). flight_of c.waits.plan n ≡ None) (sym here) none in
+                let unserved : a ≡ Unserved =
+                is ∙ ap (λ (f : Option Flush). cond (serves f place) Served Unserved) flight in
+                subst (λ (n : ℕ). (disk_waits v.core.waits n).served ≡ []) here
+                (ap (λ (d : DiskWaits). d.served) (get_or-set_same c.waits.disks pv (with_waiting x it a) none_waits within)
+                ∙ ap (λ (y : Awaited). (with_waiting x it y).served) unserved ∙ released pv flight)
+            | false ↦ λ t.
+                ap (λ (d : DiskWaits). d.served)
+                (get_or-set_other c.waits.disks pv q (with_waiting x it a) none_waits (λ e. eqb-false pv q t (sym e))) ∙ released q none
+          ] refl;
+      opens = same_added c.opens line m.opened m.is_open;
+      pieces = refl;
+      barrier = refl;
+      left =
+          let e = (line_added c.opens line m.opened m.is_open).left line in
+          omega (arith, e, hit_most (nat_eq line line));
+    }
+
+-- what `await_flush` asks
+pub record MayAwaitFlush (w : World) (line pv : ℕ) : Type 0 where
+  pub orderly : IsOrderly w
+  pub opened : is_some (open_at w.core.opens line) ≡ true
+  pub whole : is_whole (open_of w.core.opens line).work ≡ true
+  pub stands : is_some (lv_of w.core.volumes (open_of w.core.opens line).key) ≡ true
+  pub disk : pv < length w.core.waits.disks
+  pub other : w.core.barrier ≡ None
+  pub room : IsBorne w (more w.core.owed (flushes_room 1))
+  pub few : left_of w.core.opens line + 1 < 2 ^ 64
+
+-- the volume's last write on a disk has its place
+pub last_within : (w : World) (line pv : ℕ) (o : OpenLine) → MayAwaitFlush w line pv → open_at w.core.opens line ≡ Some o
+    → o.key * length w.core.waits.disks + pv < length w.core.waits.dirty
+last_within w line pv o m at =
+    let is : open_of w.core.opens line ≡ o = open_is w.core.opens line o at in
+    let found : (lv : ℕ) × (lv_of w.core.volumes o.key ≡ Some lv) =
+    some_of (lv_of w.core.volumes o.key) (subst (λ (x : OpenLine). is_some (lv_of w.core.volumes x.key) ≡ true) is m.stands) in
+    let most = m.orderly.tidy.flushes.dirty o.key found.0 found.1 in
+    omega (arith, most, m.disk)
+
+-- what comes of it
+pub awaits_so : (w : World) (line pv place : ℕ) (d : Core) → MayAwaitFlush w line pv
+    → place ≡ dirty_at w.core.waits (open_of w.core.opens line).key pv
+    → (d ≡ w.core) ⊎ ((d ≡ after_line_fails w.core line (PvFailed pv))
+    ⊎ (((marks_of w.core.waits.plan pv).ended < place) × (d ≡ after_awaits w.core line pv place)))
+    → WaitsOn line w (world w.shelf d)
+awaits_so w line pv place d m at (inl same) =
+    subst (λ (x : Core). WaitsOn line w (world w.shelf x)) (sym same) (waits_none line w)
+awaits_so w line pv place d m at (inr (inl fails)) =
+    subst (λ (x : Core). WaitsOn line w (world w.shelf x)) (sym fails) (waits_failed line pv w m.opened)
+awaits_so w line pv place d m at (inr (inr waits)) =
+    let found : (x : OpenLine) × (open_at w.core.opens line ≡ Some x) = some_of (open_at w.core.opens line) m.opened in
+    let is : open_of w.core.opens line ≡ found.0 = open_is w.core.opens line found.0 found.1 in
+    let key : dirty_at w.core.waits found.0.key pv ≡ dirty_at w.core.waits (open_of w.core.opens line).key pv =
+    ap (λ (x : OpenLine). dirty_at w.core.waits x.key pv) (sym is) in
+    let behind : (marks_of w.core.waits.plan pv).ended < place = waits.0 in
+    let may : MayAwait w line pv = record {
+      opened = found.0;
+      is_open = found.1;
+      whole = ap (λ (x : OpenLine). is_whole x.work) (sym is) ∙ m.whole;
+      disk = omega (arith, m.disk, m.orderly.backed.places.many);
+      behind = omega (arith, behind, key, at);
+      other = λ e. none-some line (sym m.other ∙ e);
+      room = let some = m.room.waits in omega (arith, some);
+      spare =
+          borne_less w (more w.core.owed (flushes_room 1))
+          (more w.core.owed (record { ops = 1; sectors = 0; writes = 0; waits = 0; entries = 0 }))
+          (record { ops = omega arith; sectors = omega arith; writes = omega arith; waits = omega arith; entries = omega arith }) m.room;
+    } in
+    subst (λ (x : Core). WaitsOn line w (world w.shelf x)) (sym (waits.1 ∙ ap (λ (n : ℕ). after_awaits w.core line pv n) at))
+    (waits_on w line pv m.orderly may)
+
+-- ---- all disks
+
+-- what `await_flushes` asks
+pub record MayAwaitFlushes (w : World) (line many : ℕ) : Type 0 where
+  pub orderly : IsOrderly w
+  pub opened : is_some (open_at w.core.opens line) ≡ true
+  pub tickets : AreTickets w.core.volumes w.shelf.sizes (open_of w.core.opens line) many
+  pub other : w.core.barrier ≡ None
+  pub room : IsBorne w (more w.core.owed (flushes_room many))
+  pub few : left_of w.core.opens line + many < 2 ^ 64
+
+-- what it leaves
+pub record HasWaited (line : ℕ) (w v : World) (waited many : ℕ) : Type 0 where
+  pub reaches : Reaches carries_on w v
+  pub none : many ≡ 0 → v.core ≡ w.core
+  pub calm : IsCalm no_one (just line) w.core → IsCalm no_one (just line) v.core
+  pub released : AreReleased w.core → AreReleased v.core
+  pub opens : SameLines w.core.opens v.core.opens
+  pub pieces : v.core.pieces ≡ w.core.pieces
+  pub barrier : v.core.barrier ≡ None
+  pub left : left_of v.core.opens line ≤ left_of w.core.opens line + waited
+
+-- the line has waited on so many of the disks, and waits on so many more
+pub record Waited (line : ℕ) (w v : World) (pv rest many : ℕ) : Type 0 where
+  pub count : pv + rest ≡ many
+  pub room : IsBorne v (more v.core.owed (flushes_room rest))
+  pub has : HasWaited line w v pv many
+
+pub waited_none : (line many : ℕ) (w : World) → MayAwaitFlushes w line many → Waited line w w 0 many many
+waited_none line many w m = record {
+  count = omega arith;
+  room = m.room;
+  has = record {
+    reaches = reaches_none carries_on w;
+    none = λ is. refl;
+    calm = λ k. k;
+    released = λ k. k;
+    opens = same_lines w.core.opens;
+    pieces = refl;
+    barrier = m.other;
+    left = omega arith;
+  };
+}
+
+for_disks : (w : World) (line many : ℕ) → (many ≡ 0 → ⊥) → AreTickets w.core.volumes w.shelf.sizes (open_of w.core.opens line) many
+    → AreForDisks w.core.volumes w.shelf.sizes (open_of w.core.opens line) many
+for_disks w line many some (inl none) = absurd (some none)
+for_disks w line many some (inr are) = are
+
+-- the next one may be awaited
+pub waited_next : (line : ℕ) (w v : World) (pv rest more_rest many : ℕ) → MayAwaitFlushes w line many → more_rest ≡ rest + 1
+    → Waited line w v pv more_rest many
+    → MayAwaitFlush v line pv
+waited_next line w v pv rest more_rest many m next k =
+    let are = for_disks w line many (λ none. omega (arith, none, next, k.count)) m.tickets in
+    let kind : KindKept (open_at w.core.opens line) (open_at v.core.opens line) =
+    kept_kind w.core.opens v.core.opens line k.has.opens m.opened in
+    let o : IsOrderly v = orderly_reaches k.has.reaches m.orderly in
+    let sizes : length v.shelf.sizes ≡ length w.shelf.sizes = ap (λ (l : List ℕ). length l) (sizes_reach carries_on w v k.has.reaches) in
+    record {
+      orderly = o;
+      opened = kind.opened;
+      whole = ap is_whole kind.work ∙ are.whole;
+      stands =
+          (λ i. is_some (lv_of (volumes_reach carries_on w v k.has.reaches i) (kind.key i))) ∙ are.stands;
+      disk = omega (arith, next, k.count, are.many, sizes, o.backed.places.many);
+      other = k.has.barrier;
+      room =
+          borne_less v (more v.core.owed (flushes_room more_rest)) (more v.core.owed (flushes_room 1))
+          (record {
+            ops = omega (arith, next);
+            sectors = omega arith;
+            writes = omega arith;
+            waits = omega (arith, next);
+            entries = omega arith;
+          }) k.room;
+      few = omega (arith, m.few, k.has.left, k.count, next);
+    }
+
+-- and was
+pub waited_more : (line : ℕ) (w v u : World) (pv rest more_rest many : ℕ) → more_rest ≡ rest + 1 → Waited line w v pv more_rest many
+    → WaitsOn line v u
+    → Waited line w u (pv + 1) rest many
+waited_more line w v u pv rest more_rest many next k s = record {
+  count = omega (arith, next, k.count);
+  room =
+      s.room (flushes_room rest)
+      (borne_less v (more v.core.owed (flushes_room more_rest)) (more v.core.owed (more (flushes_room 1) (flushes_room rest)))
+      (record {
+        ops = omega (arith, next);
+        sectors = omega arith;
+        writes = omega arith;
+        waits = omega (arith, next);
+        entries = omega arith;
+      }) k.room);
+  has = record {
+    reaches = reaches_both carries_on w v u k.has.reaches s.reaches;
+    none = λ is. absurd (omega (arith, is, next, k.count));
+    calm = λ z. s.calm (k.has.calm z);
+    released = λ z. s.released (k.has.released z);
+    opens = same_both w.core.opens v.core.opens u.core.opens k.has.opens s.opens;
+    pieces = s.pieces ∙ k.has.pieces;
+    barrier = s.barrier ∙ k.has.barrier;
+    left = omega (arith, s.left, k.has.left);
+  };
+}

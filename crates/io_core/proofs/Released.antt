@@ -1,0 +1,278 @@
+-- What a disk's last flush served is released, one by one.
+use Rattle.std.proofs.Common.{◌≡◌, ◌≢◌, ◌≤◌, ◌<◌, ℕ, ◌+◌, Bool, true, false, cond, nat_eq, List, [], ◌∷◌, length, get_or, set, drop}
+use Rattle.std.proofs.Common.{Option, None, Some, count_by, is_some, option_map, slice_get, refl, sym, ap, subst, ◌∙◌, arith}
+use Rattle.std.specs.Option.{option_map_or}
+use Rattle.std.proofs.lemmas.Bool.{cond_both, eq-eqb, eqb-false, eqb-true}
+use Rattle.std.proofs.lemmas.List.{get_or-set_other, get_or-set_same, length-drop, length-set, set-get_or}
+use Rattle.std.proofs.lemmas.List.Sums.{get_or-le-sum_by}
+use Rattle.std.proofs.lemmas.Option.{none-some, same_Some}
+use Rattle.line_answers.specs.declared.answer.Answer.{Answer}
+use Rattle.flush_plan.specs.Plans.{flight_of}
+use Rattle.flush_waits.specs.declared.ticket.Waiter.{Waiter}
+use Rattle.flush_waits.specs.declared.ticket.Waiter.TheVariants as waiter
+use Rattle.flush_waits.specs.declared.ticket.Waiting.{Waiting}
+use Rattle.flush_waits.specs.Steps.{after_release}
+use Rattle.flush_waits.specs.Waits.{DiskWaits, Waits, disk_waits, none_waits}
+use Rattle.piece_table.specs.declared.live.LivePiece.{LivePiece}
+use Rattle.piece_table.specs.declared.live.Stage.TheVariants.{Taken}
+use Rattle.piece_table.specs.Pieces.{live_at}
+use Rattle.piece_table.specs.Steps.{live_of}
+use Rattle.world_acts.specs.declared.state.Core.{Core}
+use Rattle.world_acts.specs.declared.open_line.OpenLine.{OpenLine}
+use Rattle.world_acts.specs.Acts.{LineFails, Marks, Reaches, Releases, World, core_released, follows, released_at, world}
+use Rattle.world_acts.specs.Counts.{is_line, is_piece, waiting}
+use Rattle.world_acts.specs.OpenLines.{after_finished, left_of, open_at}
+use Rattle.world_acts.specs.Orderly.{AreReleased, IsOrderly, IsTidy}
+use Rattle.world_acts.specs.Steps.{after_line_fails, after_marks, after_released}
+use Rattle.world_acts.proofs.LinesKept.{hit, line_failed}
+use Rattle.world_acts.proofs.PiecesKept.{PieceAt, awaiting_taken}
+use Rattle.world_acts.proofs.Reaching.{reaches_act, reaches_both, reaches_none}
+use Rattle.world_acts.proofs.Tables.{some_of}
+use Rattle.world_acts.proofs.WaitsKept.{count_first, waiting_on}
+use Rattle.io_core.specs.Rest.{AreReleasedBut, IsCalm, just, line_of_waiter, line_released, no_one}
+use Rattle.io_core.proofs.CalmActs.{calm_weaker, line_fails_calm, released_calm, same_calm}
+use Rattle.io_core.proofs.LiveLines.{finished_open, left_other}
+use Rattle.io_core.proofs.Settled.{OfLine, of_line_at}
+
+-- ---- who is the first
+
+first_of : (l : List Waiting) (it : Waiting) → slice_get l 0 ≡ Some it → (rest : List Waiting) × (l ≡ it ∷ rest)
+first_of [] it at = absurd (none-some it at)
+first_of (x ∷ xs) it at = (xs, ap (λ (y : Waiting). y ∷ xs) (same_Some x it at))
+
+-- it is counted among those that wait
+waits_some : (disks : List DiskWaits) (pv : ℕ) (it : Waiting) (test : Waiting → Bool) → pv < length disks
+    → slice_get (get_or disks pv none_waits).served 0 ≡ Some it
+    → test it ≡ true
+    → 0 < waiting test disks
+waits_some disks pv it test within at passes =
+    let p = first_of (get_or disks pv none_waits).served it at in
+    let most : waiting_on test (get_or disks pv none_waits) ≤ waiting test disks =
+    get_or-le-sum_by (waiting_on test) disks pv none_waits within in
+    let here : count_by test (get_or disks pv none_waits).served ≡ hit (test it) + count_by test p.0 =
+    ap (λ (l : List Waiting). count_by test l) p.1 ∙ count_first test it p.0 in
+    let one : ◌≡◌ {A = ℕ} (hit (test it)) 1 = ap hit passes in
+    omega (arith, most, here, one)
+
+-- a piece took place, and has no operation in flight; of a line something is left
+pub released_piece : (c : Core) (pv number : ℕ) (it : Waiting) → IsTidy c → pv < length c.waits.disks → released_at c pv ≡ Some it
+    → it.waiter ≡ waiter.Piece number
+    → (awaited : ℕ) × PieceAt c.pieces.lives number (Taken awaited)
+released_piece c pv number it t within at who =
+    let its : is_piece number it ≡ true =
+    ap (λ (x : Waiter). is_piece number (record it { waiter = x })) who ∙ eq-eqb number number refl in
+    let some : 0 < waiting (is_piece number) c.waits.disks = waits_some c.waits.disks pv it (is_piece number) within at its in
+    awaiting_taken c.pieces.lives number (omega (arith, some, t.counts.awaited number))
+
+pub released_line : (c : Core) (pv line : ℕ) (it : Waiting) → IsTidy c → pv < length c.waits.disks → released_at c pv ≡ Some it
+    → it.waiter ≡ waiter.Line line
+    → 0 < left_of c.opens line
+released_line c pv line it t within at who =
+    let its : is_line line it ≡ true =
+    ap (λ (x : Waiter). is_line line (record it { waiter = x })) who ∙ eq-eqb line line refl in
+    let some : 0 < waiting (is_line line) c.waits.disks = waits_some c.waits.disks pv it (is_line line) within at its in
+    omega (arith, some, t.counts.left line)
+
+left_open : (x : Option OpenLine) → 0 < option_map_or (λ (o : OpenLine). o.left) x 0 → is_some x ≡ true
+left_open None some = absurd (omega (arith, some))
+left_open (Some o) some = refl
+
+-- ---- one is released
+
+-- what waits on the disks without it
+abbrev pub without_first : Waits → ℕ → List DiskWaits
+without_first old pv = set old.disks pv (record (disk_waits old pv) { served = drop 1 (disk_waits old pv).served })
+
+-- the first waits no more: its line is open, but may have nothing left
+pub record ReleasesOne (w : World) (pv line : ℕ) (v : World) : Type 0 where
+  pub reaches : Reaches follows w v
+  pub calm : IsCalm no_one (just line) v.core
+  pub opened : is_some (open_at v.core.opens line) ≡ true
+  pub other : v.core.barrier ≢ Some line
+  pub flights : (q : ℕ) → flight_of v.core.waits.plan q ≡ flight_of w.core.waits.plan q
+  pub disks : v.core.waits.disks ≡ without_first w.core.waits pv
+
+pub releases_one : (w : World) (pv line : ℕ) → IsOrderly w → pv < length w.core.waits.disks → flight_of w.core.waits.plan pv ≡ None
+    → Some line ≡ line_released w.core pv
+    → IsCalm no_one no_one w.core
+    → ReleasesOne w pv line (world w.shelf (core_released w.core pv (released_at w.core pv)))
+releases_one w pv line o within ended is calm = by (released_at w.core pv) refl is
+  where
+    reaches : (it : Waiting) → released_at w.core pv ≡ Some it → Reaches follows w (world w.shelf (after_released w.core it.waiter pv))
+    reaches it at =
+        subst (λ (x : Option Waiting). Reaches follows w (world w.shelf (core_released w.core pv x))) at
+        (reaches_act follows w (Releases pv) refl (ended, ap is_some at))
+
+    there : (it : Waiting) → released_at w.core pv ≡ Some it → (number : ℕ) → it.waiter ≡ waiter.Piece number
+        → is_some (live_at w.core.pieces.lives number) ≡ true
+    there it at number who = ap is_some (released_piece w.core pv number it o.tidy within at who).1.at
+
+    made : (it : Waiting) (who : Waiter) → it.waiter ≡ who → released_at w.core pv ≡ Some it → line ≡ line_of_waiter w.core who
+        → Reaches follows w (world w.shelf (after_released w.core who pv))
+        → IsCalm no_one (just line) (after_released w.core who pv)
+        → ReleasesOne w pv line (world w.shelf (after_released w.core who pv))
+    made it (waiter.Line n) who at same goes quiet =
+        let some : 0 < left_of w.core.opens n = released_line w.core pv n it o.tidy within at who in
+        let p = some_of (open_at w.core.opens n) (left_open (open_at w.core.opens n) some) in
+        record {
+          reaches = goes;
+          calm = quiet;
+          opened =
+              subst (λ (k : ℕ). is_some (open_at (after_finished w.core.opens n) k) ≡ true) (sym same)
+              (finished_open w.core.opens n p.0 p.1);
+          other = subst (λ (k : ℕ). w.core.barrier ≢ Some k) (sym same) (left_other w n o some);
+          flights = λ q. refl;
+          disks = refl;
+        }
+    made it (waiter.Piece number) who at same goes quiet =
+        let p : OfLine w number = of_line_at w number o (there it at number who) in
+        let its : line ≡ p.live.line = same ∙ ap (λ (l : LivePiece). l.line) p.is in
+        record {
+          reaches = goes;
+          calm = quiet;
+          opened =
+              subst (λ (k : ℕ). is_some (open_at (after_finished w.core.opens (live_of w.core.pieces number).line) k) ≡ true) (sym same)
+              (subst (λ (l : LivePiece). is_some (open_at (after_finished w.core.opens l.line) l.line) ≡ true) (sym p.is)
+              (finished_open w.core.opens p.live.line p.of_line.opened p.of_line.is_open));
+          other = subst (λ (k : ℕ). w.core.barrier ≢ Some k) (sym its) (left_other w p.live.line o p.left);
+          flights = λ q. refl;
+          disks = refl;
+        }
+
+    by : (x : Option Waiting) → released_at w.core pv ≡ x
+        → Some line ≡ option_map (λ (it : Waiting). line_of_waiter w.core it.waiter) x
+        → ReleasesOne w pv line (world w.shelf (core_released w.core pv x))
+    by None at is = absurd (none-some line (sym is))
+    by (Some it) at is =
+        let same : line ≡ line_of_waiter w.core it.waiter = same_Some line (line_of_waiter w.core it.waiter) is in
+        made it it.waiter refl at same (reaches it at)
+        (released_calm w.core it.waiter pv (just line) o.tidy.pieces.single (there it at)
+        (eq-eqb (line_of_waiter w.core it.waiter) line (sym same))
+        (calm_weaker no_one no_one no_one (just line) w.core (λ q not. not) (λ q not. refl) calm))
+
+-- its line fails too, where the flush did
+pub warned : (w : World) (pv line : ℕ) (c : Core) (why : Answer) (well : Bool) → ReleasesOne w pv line (world w.shelf c)
+    → ReleasesOne w pv line (world w.shelf (cond well c (after_line_fails c line why)))
+warned w pv line c why well r =
+    let v : World = world w.shelf c in
+    let d : Core = after_line_fails c line why in
+    let p = some_of (open_at c.opens line) r.opened in
+    let q = (line_failed c.opens line p.0 why p.1).lines line p.0 p.1 in
+    cond_both well c d (λ (x : Core). ReleasesOne w pv line (world w.shelf x)) (λ t. r)
+    (λ t. record {
+      reaches =
+          reaches_both follows w v (world w.shelf d) r.reaches (reaches_act follows v (LineFails line why) refl r.opened);
+      calm = line_fails_calm c line why no_one (just line) (eq-eqb line line refl) r.calm;
+      opened = ap is_some q.1;
+      other = r.other;
+      flights = r.flights;
+      disks = r.disks;
+    })
+
+-- what the disk's failure leaves
+pub marked_reaches : (w : World) (pv : ℕ) (well : Bool) → pv < length w.shelf.sizes
+    → Reaches follows w (world w.shelf (cond well w.core (after_marks w.core pv)))
+marked_reaches w pv well disk =
+    cond_both well w.core (after_marks w.core pv) (λ (x : Core). Reaches follows w (world w.shelf x)) (λ t. reaches_none follows w)
+    (λ t. reaches_act follows w (Marks pv) refl disk)
+
+-- what waits on the disks, and what is calm, is the same
+pub record IsMarked (c d : Core) : Type 0 where
+  pub waits : d.waits ≡ c.waits
+  pub calm : IsCalm no_one no_one c → IsCalm no_one no_one d
+
+pub is_marked : (c : Core) (pv : ℕ) (well : Bool) → IsMarked c (cond well c (after_marks c pv))
+is_marked c pv well =
+    cond_both well c (after_marks c pv) (λ (x : Core). IsMarked c x) (λ t. record { waits = refl; calm = λ is. is })
+    (λ t. record { waits = refl; calm = λ is. same_calm c (after_marks c pv) no_one no_one refl refl refl refl is })
+
+-- ---- all are released
+
+-- what goes on on the disks, where one was released of a disk
+pub record WaitsLess (old new : Waits) (pv : ℕ) : Type 0 where
+  pub ended : flight_of new.plan pv ≡ None
+  pub disk : pv < length new.disks
+  pub fewer : length (disk_waits new pv).served < length (disk_waits old pv).served
+  pub flights : (q : ℕ) → flight_of new.plan q ≡ flight_of old.plan q
+  pub others : (q : ℕ) → nat_eq q pv ≡ false → disk_waits new q ≡ disk_waits old q
+
+pub waits_less : (old new : Waits) (pv : ℕ) → pv < length old.disks → flight_of old.plan pv ≡ None → 0 < length (disk_waits old pv).served
+    → ((q : ℕ) → flight_of new.plan q ≡ flight_of old.plan q)
+    → new.disks ≡ without_first old pv
+    → WaitsLess old new pv
+waits_less old new pv within ended some flights disks =
+    let d : DiskWaits = record (disk_waits old pv) { served = drop 1 (disk_waits old pv).served } in
+    let own : disk_waits new pv ≡ d =
+    ap (λ (l : List DiskWaits). get_or l pv none_waits) disks ∙ get_or-set_same old.disks pv d none_waits within in
+    let long : length new.disks ≡ length old.disks = ap (λ (l : List DiskWaits). length l) disks ∙ length-set old.disks pv d in
+    let served : length (disk_waits new pv).served ≡ length (drop 1 (disk_waits old pv).served) =
+    ap (λ (x : DiskWaits). length x.served) own in
+    record {
+      ended = flights pv ∙ ended;
+      disk = omega (arith, within, long);
+      fewer = omega (arith, served, length-drop 1 (disk_waits old pv).served, some);
+      flights = flights;
+      others =
+          λ q apart. ap (λ (l : List DiskWaits). get_or l q none_waits) disks
+          ∙ get_or-set_other old.disks pv q d none_waits (eqb-false q pv apart);
+    }
+
+-- something was served where one is released
+pub served_some : (c : Core) (pv line : ℕ) → Some line ≡ line_released c pv → 0 < length (disk_waits c.waits pv).served
+served_some c pv line is = by (disk_waits c.waits pv).served is
+  where
+    by : (l : List Waiting) → Some line ≡ option_map (λ (it : Waiting). line_of_waiter c it.waiter) (slice_get l 0) → 0 < length l
+    by [] is = absurd (none-some line (sym is))
+    by (it ∷ rest) is = omega arith
+
+-- and none where none is
+pub served_none : (c : Core) (pv : ℕ) → None ≡ line_released c pv → (disk_waits c.waits pv).served ≡ []
+served_none c pv is = by (disk_waits c.waits pv).served is
+  where
+    by : (l : List Waiting) → None ≡ option_map (λ (it : Waiting). line_of_waiter c it.waiter) (slice_get l 0) → l ≡ []
+    by [] is = refl
+    by (it ∷ rest) is = absurd (none-some (line_of_waiter c it.waiter) is)
+
+pub stays_but : (c d : Core) (pv : ℕ) → WaitsLess c.waits d.waits pv → AreReleasedBut pv c → AreReleasedBut pv d
+stays_but c d pv less are q apart none =
+    ap (λ (x : DiskWaits). x.served) (less.others q apart) ∙ are q apart (sym (less.flights q) ∙ none)
+
+pub all_released : (c : Core) (pv : ℕ) → (disk_waits c.waits pv).served ≡ [] → AreReleasedBut pv c → AreReleased c
+all_released c pv none are q ended =
+    elim (nat_eq q pv) as (λ b. nat_eq q pv ≡ b → (disk_waits c.waits q).served ≡ []) [
+      | true ↦ λ t. subst (λ (n : ℕ). (disk_waits c.waits n).served ≡ []) (sym (eqb-true q pv t)) none
+      | false ↦ λ t. are q t ended
+    ] refl
+
+-- where none is released nothing changes
+pub released_none : (c : Core) (pv : ℕ) → None ≡ line_released c pv → core_released c pv (released_at c pv) ≡ c
+released_none c pv is = by (released_at c pv) is
+  where
+    by : (x : Option Waiting) → None ≡ option_map (λ (it : Waiting). line_of_waiter c it.waiter) x → core_released c pv x ≡ c
+    by None is = refl
+    by (Some it) is = absurd (none-some (line_of_waiter c it.waiter) is)
+
+-- nor of what waits
+pub unserved_release : (old : Waits) (pv : ℕ) → None ≡ slice_get (disk_waits old pv).served 0 → after_release old pv ≡ old
+unserved_release old pv is =
+    let d : DiskWaits = disk_waits old pv in
+    let none : d.served ≡ [] = empty d.served is in
+    let same : record d { served = drop 1 d.served } ≡ d =
+    λ i. record d { served = (ap (λ (l : List Waiting). drop 1 l) none ∙ sym none) i } in
+    ap (λ (l : List DiskWaits). record old { disks = l })
+    (ap (λ (x : DiskWaits). set old.disks pv x) same ∙ set-get_or old.disks pv none_waits)
+  where
+    empty : (l : List Waiting) → None ≡ slice_get l 0 → l ≡ []
+    empty [] is = refl
+    empty (it ∷ rest) is = absurd (none-some it is)
+
+-- ---- the steps of the code
+
+-- the first is a piece, or a line
+pub released_as : (c : Core) (pv : ℕ) (it : Waiting) (who : Waiter) → Some it ≡ released_at c pv → it.waiter ≡ who
+    → (after_released c who pv ≡ core_released c pv (released_at c pv)) × (Some (line_of_waiter c who) ≡ line_released c pv)
+released_as c pv it who at is = (
+  ap (λ (x : Waiter). after_released c x pv) (sym is) ∙ ap (λ (x : Option Waiting). core_released c pv x) at,
+  ap (λ (x : Waiter). Some (line_of_waiter c x)) (sym is)
+      ∙ ap (λ (x : Option Waiting). option_map (λ (w : Waiting). line_of_waiter c w.waiter) x) at,
+)

@@ -1,0 +1,67 @@
+use Rattle.std.proofs.Common.{◌≡◌, ◌∷◌, [], List, reverse, sym, ap, subst, ◌∙◌}
+use Rattle.std.proofs.lemmas.List.{reverse-append, reverse-reverse}
+use Rattle.world_acts.specs.Acts.{World, world}
+use Rattle.line_plans.specs.declared.preparing.NewPiece.{NewPiece}
+use Rattle.io_core.proofs.PieceEnters.{MayEnterPiece, PiecesEnter, first_enters, none_entered, one_entered}
+use Rattle.io_core.proofs.beginning.enter_pieces.Goals as goal
+
+pub loop-new-init : goal.loop-new-init
+loop-new-init g c =
+    let w : World = world (g.S.Shelf.state c.args.shelf.now) c.args.core.now in
+    subst (λ (l : List NewPiece). PiecesEnter c.args.line w w l)
+    (sym (ap (λ (l : List NewPiece). reverse l) c.reverse.ensures.items ∙ reverse-reverse c.args.pieces.items))
+    (none_entered c.args.line w c.args.pieces.items
+    (record {
+      orderly = c.requires.orderly;
+      opened = c.requires.opened;
+      each = c.requires.each;
+      room = c.requires.room;
+      spare = c.requires.spare;
+      few = c.requires.few;
+    }))
+
+pub enter_piece-by-requires : goal.enter_piece-by-requires
+enter_piece-by-requires g c =
+    let v : World = world (g.S.Shelf.state c.loop-new.shelf) c.loop-new.core in
+    let rest : List NewPiece = c.pop.new.self.items in
+    let next : reverse c.loop-new.rest.items ≡ c.in-Some.new ∷ reverse rest =
+    ap (λ (l : List NewPiece). reverse l) c.in-Some.ensures.items ∙ reverse-append rest (c.in-Some.new ∷ []) in
+    let all = subst (λ (l : List NewPiece). PiecesEnter c.args.line
+    (world (g.S.Shelf.state c.args.shelf.now) c.args.core.now) v l) next c.loop-new.invariant in
+    let is : MayEnterPiece v c.args.line c.in-Some.new = first_enters c.args.line v c.in-Some.new (reverse rest) all.may in
+    record { orderly = is.orderly; opened = is.opened; may = is.may; room = is.room; spare = is.spare; few = is.few }
+
+pub loop-new-preserved : goal.loop-new-preserved
+loop-new-preserved g c =
+    let w : World = world (g.S.Shelf.state c.args.shelf.now) c.args.core.now in
+    let v : World = world (g.S.Shelf.state c.loop-new.shelf) c.loop-new.core in
+    let u : World = world (g.S.Shelf.state c.enter_piece-by.new.shelf) c.enter_piece-by.new.core in
+    let rest : List NewPiece = c.pop.new.self.items in
+    let next : reverse c.loop-new.rest.items ≡ c.in-Some.new ∷ reverse rest =
+    ap (λ (l : List NewPiece). reverse l) c.in-Some.ensures.items ∙ reverse-append rest (c.in-Some.new ∷ []) in
+    let is = c.enter_piece-by.ensures in
+    one_entered c.args.line w v u c.in-Some.new (reverse rest)
+    (subst (λ (l : List NewPiece). PiecesEnter c.args.line w v l) next c.loop-new.invariant)
+    (record {
+      reaches = is.reaches;
+      room = is.room;
+      spare = is.spare;
+      calm = is.calm;
+      ready = is.ready;
+      opens = is.opens;
+      barrier = is.barrier;
+      waits = is.waits;
+      left = is.left;
+    })
+
+pub returns : goal.returns
+returns g c =
+    let is = c.loop-new.invariant.has in
+    record {
+      reaches = is.reaches;
+      calm = is.calm;
+      ready = is.ready;
+      opens = is.opens;
+      barrier = is.barrier;
+      waits = is.waits;
+    }

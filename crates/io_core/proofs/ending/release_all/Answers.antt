@@ -1,0 +1,147 @@
+use Rattle.std.proofs.Common.{◌≡◌, ◌≤◌, ◌<◌, ℕ, None, [], false, nat_eq, length, sym, subst, ◌∙◌, arith}
+use Rattle.line_answers.specs.declared.answer.Answer.TheVariants.{PvFailed}
+use Rattle.flush_plan.specs.Plans.{flight_of}
+use Rattle.flush_waits.specs.Waits.{Waits, disk_waits}
+use Rattle.world_acts.specs.declared.state.Core.{Core}
+use Rattle.world_acts.specs.Acts.{Reaches, World, follows, world}
+use Rattle.world_acts.specs.Orderly.{AreReleased}
+use Rattle.world_acts.proofs.Orderly.{orderly_reaches}
+use Rattle.world_acts.proofs.Reaching.{reaches_both}
+use Rattle.io_core.specs.Rest.{IsCalm, no_one}
+use Rattle.io_core.proofs.Released.{IsMarked, ReleasesOne, WaitsLess, all_released, is_marked, marked_reaches, released_none, releases_one}
+use Rattle.io_core.proofs.Released.{served_none, served_some, stays_but, waits_less, warned}
+use Rattle.io_core.proofs.ending.release_all.Goals as goal
+
+pub note-requires : goal.note-requires
+note-requires g c =
+    let many : length c.args.core.now.waits.disks ≡ length (g.S.Shelf.state c.args.shelf.now).sizes =
+    c.requires.orderly.backed.places.many in
+    let few : length (g.S.Shelf.state c.args.shelf.now).sizes ≤ 64 = c.requires.orderly.backed.places.few in
+    omega (arith, c.requires.disk, many, few)
+
+pub loop-line-init : goal.loop-line-init
+loop-line-init g c =
+    let s = g.S.Shelf.state c.args.shelf.now in
+    let core : Core = c.args.core.now in
+    let pv : ℕ = c.args.pv in
+    let m : IsMarked core c.note.new.core =
+    subst (λ (x : Core). IsMarked core x) (sym c.note.ensures) (is_marked core pv c.args.well) in
+    let many : length core.waits.disks ≡ length s.sizes = c.requires.orderly.backed.places.many in
+    let goes : Reaches follows (world s core) (world s c.note.new.core) =
+    subst (λ (x : Core). Reaches follows (world s core) (world s x)) (sym c.note.ensures)
+    (marked_reaches (world s core) pv c.args.well (omega (arith, c.requires.disk, many))) in
+    record {
+      orderly = orderly_reaches goes c.requires.orderly;
+      calm = m.calm c.requires.calm;
+      reaches = goes;
+      ended = subst (λ (x : Waits). flight_of x.plan pv ≡ None) (sym m.waits) c.requires.ended;
+      disk = subst (λ (x : Waits). pv < length x.disks) (sym m.waits) c.requires.disk;
+      released =
+          λ are. subst (λ (x : Waits). (q : ℕ) → nat_eq q pv ≡ false → flight_of x.plan q ≡ None → (disk_waits x q).served ≡ [])
+          (sym m.waits) are;
+    }
+
+pub release-requires-clause-tidy : goal.release-requires-clause-tidy
+release-requires-clause-tidy g c = c.loop-line.invariant.orderly.tidy
+
+pub warn-requires : goal.warn-requires
+warn-requires g c =
+    let w : World = world (g.S.Shelf.state c.args.shelf.now) c.loop-line.core in
+    let kept = c.loop-line.invariant in
+    let r : ReleasesOne w c.args.pv c.in-Some.line (world w.shelf c.release.new.core) =
+    subst (λ (x : Core). ReleasesOne w c.args.pv c.in-Some.line (world w.shelf x)) (sym c.in-Some.ensures.after)
+    (releases_one w c.args.pv c.in-Some.line kept.orderly kept.disk kept.ended c.in-Some.ensures.line kept.calm) in
+    r.opened
+
+pub close_line-requires-clause-orderly : goal.close_line-requires-clause-orderly
+close_line-requires-clause-orderly g c =
+    let w : World = world (g.S.Shelf.state c.args.shelf.now) c.loop-line.core in
+    let kept = c.loop-line.invariant in
+    let r : ReleasesOne w c.args.pv c.in-Some.line (world w.shelf c.release.new.core) =
+    subst (λ (x : Core). ReleasesOne w c.args.pv c.in-Some.line (world w.shelf x)) (sym c.in-Some.ensures.after)
+    (releases_one w c.args.pv c.in-Some.line kept.orderly kept.disk kept.ended c.in-Some.ensures.line kept.calm) in
+    let q : ReleasesOne w c.args.pv c.in-Some.line (world w.shelf c.warn.new.core) =
+    subst (λ (x : Core). ReleasesOne w c.args.pv c.in-Some.line (world w.shelf x)) (sym c.warn.ensures)
+    (warned w c.args.pv c.in-Some.line c.release.new.core (PvFailed c.args.pv) c.args.well r) in
+    orderly_reaches q.reaches kept.orderly
+
+pub close_line-requires-clause-opened : goal.close_line-requires-clause-opened
+close_line-requires-clause-opened g c =
+    let w : World = world (g.S.Shelf.state c.args.shelf.now) c.loop-line.core in
+    let kept = c.loop-line.invariant in
+    let r : ReleasesOne w c.args.pv c.in-Some.line (world w.shelf c.release.new.core) =
+    subst (λ (x : Core). ReleasesOne w c.args.pv c.in-Some.line (world w.shelf x)) (sym c.in-Some.ensures.after)
+    (releases_one w c.args.pv c.in-Some.line kept.orderly kept.disk kept.ended c.in-Some.ensures.line kept.calm) in
+    let q : ReleasesOne w c.args.pv c.in-Some.line (world w.shelf c.warn.new.core) =
+    subst (λ (x : Core). ReleasesOne w c.args.pv c.in-Some.line (world w.shelf x)) (sym c.warn.ensures)
+    (warned w c.args.pv c.in-Some.line c.release.new.core (PvFailed c.args.pv) c.args.well r) in
+    q.opened
+
+pub close_line-requires-clause-other : goal.close_line-requires-clause-other
+close_line-requires-clause-other g c =
+    let w : World = world (g.S.Shelf.state c.args.shelf.now) c.loop-line.core in
+    let kept = c.loop-line.invariant in
+    let r : ReleasesOne w c.args.pv c.in-Some.line (world w.shelf c.release.new.core) =
+    subst (λ (x : Core). ReleasesOne w c.args.pv c.in-Some.line (world w.shelf x)) (sym c.in-Some.ensures.after)
+    (releases_one w c.args.pv c.in-Some.line kept.orderly kept.disk kept.ended c.in-Some.ensures.line kept.calm) in
+    let q : ReleasesOne w c.args.pv c.in-Some.line (world w.shelf c.warn.new.core) =
+    subst (λ (x : Core). ReleasesOne w c.args.pv c.in-Some.line (world w.shelf x)) (sym c.warn.ensures)
+    (warned w c.args.pv c.in-Some.line c.release.new.core (PvFailed c.args.pv) c.args.well r) in
+    q.other
+
+pub loop-line-preserved : goal.loop-line-preserved
+loop-line-preserved g c =
+    let w : World = world (g.S.Shelf.state c.args.shelf.now) c.loop-line.core in
+    let kept = c.loop-line.invariant in
+    let r : ReleasesOne w c.args.pv c.in-Some.line (world w.shelf c.release.new.core) =
+    subst (λ (x : Core). ReleasesOne w c.args.pv c.in-Some.line (world w.shelf x)) (sym c.in-Some.ensures.after)
+    (releases_one w c.args.pv c.in-Some.line kept.orderly kept.disk kept.ended c.in-Some.ensures.line kept.calm) in
+    let q : ReleasesOne w c.args.pv c.in-Some.line (world w.shelf c.warn.new.core) =
+    subst (λ (x : Core). ReleasesOne w c.args.pv c.in-Some.line (world w.shelf x)) (sym c.warn.ensures)
+    (warned w c.args.pv c.in-Some.line c.release.new.core (PvFailed c.args.pv) c.args.well r) in
+    let first : World = world w.shelf c.args.core.now in
+    let z : World = world w.shelf c.close_line.new.core in
+    let less : WaitsLess w.core.waits z.core.waits c.args.pv =
+    subst (λ (x : Waits). WaitsLess w.core.waits x c.args.pv) (sym c.close_line.ensures.waits)
+    (waits_less w.core.waits c.warn.new.core.waits c.args.pv kept.disk kept.ended
+    (served_some w.core c.args.pv c.in-Some.line c.in-Some.ensures.line) q.flights q.disks) in
+    record {
+      orderly = orderly_reaches c.close_line.ensures.reaches (orderly_reaches q.reaches kept.orderly);
+      calm = c.close_line.ensures.calm q.calm;
+      reaches =
+          reaches_both follows first w z kept.reaches
+          (reaches_both follows w (world w.shelf c.warn.new.core) z q.reaches c.close_line.ensures.reaches);
+      ended = less.ended;
+      disk = less.disk;
+      released = λ are. stays_but w.core z.core c.args.pv less (kept.released are);
+    }
+
+pub loop-line-smaller : goal.loop-line-smaller
+loop-line-smaller g c =
+    let w : World = world (g.S.Shelf.state c.args.shelf.now) c.loop-line.core in
+    let kept = c.loop-line.invariant in
+    let r : ReleasesOne w c.args.pv c.in-Some.line (world w.shelf c.release.new.core) =
+    subst (λ (x : Core). ReleasesOne w c.args.pv c.in-Some.line (world w.shelf x)) (sym c.in-Some.ensures.after)
+    (releases_one w c.args.pv c.in-Some.line kept.orderly kept.disk kept.ended c.in-Some.ensures.line kept.calm) in
+    let q : ReleasesOne w c.args.pv c.in-Some.line (world w.shelf c.warn.new.core) =
+    subst (λ (x : Core). ReleasesOne w c.args.pv c.in-Some.line (world w.shelf x)) (sym c.warn.ensures)
+    (warned w c.args.pv c.in-Some.line c.release.new.core (PvFailed c.args.pv) c.args.well r) in
+    let less : WaitsLess w.core.waits c.close_line.new.core.waits c.args.pv =
+    subst (λ (x : Waits). WaitsLess w.core.waits x c.args.pv) (sym c.close_line.ensures.waits)
+    (waits_less w.core.waits c.warn.new.core.waits c.args.pv kept.disk kept.ended
+    (served_some w.core c.args.pv c.in-Some.line c.in-Some.ensures.line) q.flights q.disks) in
+    less.fewer
+
+pub returns : goal.returns
+returns g c =
+    let s = g.S.Shelf.state c.args.shelf.now in
+    let core : Core = c.loop-line.core in
+    let kept = c.loop-line.invariant in
+    let same : c.release.new.core ≡ core = c.in_default.ensures.after ∙ released_none core c.args.pv c.in_default.ensures.line in
+    record {
+      reaches = subst (λ (x : Core). Reaches follows (world s c.args.core.now) (world s x)) (sym same) kept.reaches;
+      calm = subst (λ (x : Core). IsCalm no_one no_one x) (sym same) kept.calm;
+      released =
+          λ are. subst (λ (x : Core). AreReleased x) (sym same)
+          (all_released core c.args.pv (served_none core c.args.pv c.in_default.ensures.line) (kept.released are));
+    }

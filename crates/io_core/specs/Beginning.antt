@@ -1,0 +1,23 @@
+-- A line that was begun, and is carried on.
+use Rattle.std.specs.Prelude.{◌≡◌, ◌≤◌, All, ℕ, true, is_some, List, length, None, slice_get}
+use Rattle.world_acts.specs.Acts.{IsBorne, World}
+use Rattle.world_acts.specs.OpenLines.{left_of, open_at, open_of}
+use Rattle.world_acts.specs.Orderly.{AreReleased, IsOrderly}
+use Rattle.world_acts.specs.Rooms.{more}
+use Rattle.line_plans.specs.declared.preparing.NewPiece.{NewPiece}
+use Rattle.line_plans.specs.Plans.{AreTickets, MayBeOf, flushes_room, pieces_room}
+use Rattle.io_core.specs.Rest.{IsCalm, NoneReady, just, no_one}
+
+-- nothing is left of the line so far, which has these pieces and so many tickets, and there is room for them
+pub record MayCarryOn (w : World) (line : ℕ) (pieces : List NewPiece) (many : ℕ) : Type 0 where
+  pub orderly : IsOrderly w
+  pub opened : is_some (open_at w.core.opens line) ≡ true
+  pub none : left_of w.core.opens line ≡ 0
+  pub free : w.core.barrier ≡ None
+  pub each : All (MayBeOf w.core.volumes w.shelf.sizes (open_of w.core.opens line) (slice_get w.core.lines.begun line)) pieces
+  pub tickets : AreTickets w.core.volumes w.shelf.sizes (open_of w.core.opens line) many
+  pub room : IsBorne w (more w.core.owed (more (flushes_room many) (pieces_room pieces)))
+  pub spare : length pieces ≤ w.core.pieces.claims.spare
+  pub calm : IsCalm no_one (just line) w.core
+  pub ready : NoneReady w.core
+  pub released : AreReleased w.core

@@ -1,0 +1,4 @@
+pub mod Beginning
+pub mod Rest
+pub mod Worlds
+pub mod Events
