@@ -106,18 +106,17 @@ each_beside start end sector (area ∷ areas) from to none =
     let parts = or_parts (meets_area start end (area_shape area)) (list_any (meets_area start end) (map area_shape areas)) none in
     (one_beside start end sector area from to parts.0, each_beside start end sector areas from to parts.1)
 
-beside_on : (start end sector sectors : ℕ) (header : PvHeader) → start ≤ sector → sector < end
+-- extents that aren't misplaced end within their disk, begin behind its first eight sectors and meet none of these areas
+unmisplaced : (start end sectors : ℕ) (header : PvHeader) → start < end
     → is_misplaced start end (record { sectors = sectors; pv = Some (pv_shape header) }) (pv_shape header) ≡ false
-    → IsBeside header.areas sector
-beside_on start end sector sectors header from to none =
-    let some : nat_lt start end ≡ true = lt-ltb start end (omega (arith, from, to)) in
+    → (end ≤ sectors) × (8 ≤ start) × (list_any (meets_area start end) (map area_shape header.areas) ≡ false)
+unmisplaced start end sectors header from none =
     let rest =
     and_right (nat_lt start end) (nat_lt sectors end
-    || (nat_lt start 8 || list_any (meets_area start end) (map area_shape header.areas))) some none in
+    || (nat_lt start 8 || list_any (meets_area start end) (map area_shape header.areas))) (lt-ltb start end from) none in
     let inside = or_parts (nat_lt sectors end) (nat_lt start 8 || list_any (meets_area start end) (map area_shape header.areas)) rest in
     let parts = or_parts (nat_lt start 8) (list_any (meets_area start end) (map area_shape header.areas)) inside.1 in
-    let begins : 8 ≤ start = ltb-false start 8 parts.0 in
-    record { behind = omega (arith, begins, from); beside = each_beside start end sector header.areas from to parts.1 }
+    (ltb-false sectors end inside.0, ltb-false start 8 parts.0, parts.1)
 
 -- none of the volumes on a disk is misplaced
 any_at : {X : Type 0} (p : X → Bool) (xs : List X) (k : ℕ) (x : X) → slice_get xs k ≡ Some x → list_any p xs ≡ false → p x ≡ false
@@ -159,10 +158,11 @@ present true y is = absurd (true≢false is)
 present false true is = refl
 present false false is = absurd (true≢false is)
 
--- the disk of a place, and what stands there
+-- the disk of a place, which has that sector, and what stands there
 pub record IsPlaceOn (disks : List Disk) (number sector : ℕ) : Type 0 where
   pub disk : Disk
   pub there : slice_get disks number ≡ Some disk
+  pub within : sector < disk.sectors
   pub header : PvHeader
   pub is : header_on disk.contents ≡ Some header
   pub beside : IsBeside header.areas sector
@@ -191,12 +191,19 @@ extent_beside group disks placed there at e =
     and_right (bytes_eq pv.1.id d.header.id) (is_misplaced pv.1.pe_start end (disk_shape d.disk) (pv_shape d.header))
     (same_bytes_to pv.1.id d.header.id (sym d.same)) own
     in
+    let inside = unmisplaced pv.1.pe_start end d.disk.sectors d.header (omega (arith, e.from, e.to)) misplaced in
+    let reach : end ≤ d.disk.sectors = inside.0 in
+    let behind : 8 ≤ pv.1.pe_start = inside.1 in
     record {
       disk = d.disk;
       there = ap (slice_get disks) number ∙ d.there;
+      within = omega (arith, reach, e.to);
       header = d.header;
       is = d.is;
-      beside = beside_on pv.1.pe_start end at.sector d.disk.sectors d.header e.from e.to misplaced;
+      beside = record {
+        behind = omega (arith, behind, e.from);
+        beside = each_beside pv.1.pe_start end at.sector d.header.areas e.from e.to inside.2;
+      };
     }
 
 pub place_beside : (group : Group) (disks : List Disk) → IsAccepted group → first_misplaced group (shapes disks) ≡ None

@@ -8,6 +8,7 @@ mod Checking
 mod EachNamed
 mod FlushedAndScanned
 mod InTime
+mod LiesOnDisks
 mod LookedFirst
 mod MeantWords
 mod NamedDisks

@@ -1,0 +1,7 @@
+mod Cuts
+mod FirstWords
+mod FrontLines
+mod Refusing
+mod RunCommands
+mod RunLines
+mod Unbegun

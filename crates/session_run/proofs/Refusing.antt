@@ -1,0 +1,60 @@
+-- The first refused line of a script.
+use Rattle.std.proofs.Common.{◌≡◌, ◌∙◌, ◌-◌, ℕ, List, take, Option, Result, MatchResult, None, Some, Ok, Err, ap, sym}
+use Rattle.std.specs.Option.{option_map_or}
+use Rattle.command_table.specs.declared.command.Command.{Command}
+use Rattle.command_table.specs.declared.line_fault.LineFault.TheVariants.{UnknownWord}
+use Rattle.lvm_script.specs.declared.line.Line.{Line}
+use Rattle.lvm_script.specs.declared.script_refusal.ScriptRefusal.{ScriptRefusal}
+use Rattle.lvm_script.specs.declared.script_refusal.ScriptRefusal.TheVariants.{LineRefused, NoMemory}
+use Rattle.lvm_script.specs.Script.{AreLines, IsScriptRefusal, commands_from, lines_in}
+use Rattle.session_run.specs.SessionScript.{first_unrun, refused_at, session_commands}
+
+-- the commands of a script, by its first line that begins with a name which doesn't run
+commands_by : (text : List ℕ) (unrun : Option (ℕ × ℕ)) → first_unrun 1 (lines_in text) ≡ unrun
+    → session_commands text
+    ≡ option_map_or (λ (unrun : ℕ × ℕ). refused_at unrun (commands_from (take (unrun.0 - 1) (lines_in text)) 1 0)) unrun
+        (commands_from (lines_in text) 1 0)
+commands_by text unrun is =
+    ap (λ (u : Option (ℕ × ℕ)).
+    option_map_or (λ (unrun : ℕ × ℕ). refused_at unrun (commands_from (take (unrun.0 - 1) (lines_in text)) 1 0)) u
+    (commands_from (lines_in text) 1 0))
+    is
+
+-- without one they are those of all lines
+pub all_commands : (text : List ℕ) → first_unrun 1 (lines_in text) ≡ None → session_commands text ≡ commands_from (lines_in text) 1 0
+all_commands text none = commands_by text None none
+
+commands_before : (text front : List ℕ) (number place : ℕ) → first_unrun 1 (lines_in text) ≡ Some (number, place)
+    → lines_in front ≡ take (number - 1) (lines_in text)
+    → session_commands text ≡ refused_at (number, place) (commands_from (lines_in front) 1 0)
+commands_before text front number place first before =
+    commands_by text (Some (number, place)) first
+    ∙ ap (λ (lines : List (List ℕ)). refused_at (number, place) (commands_from lines 1 0)) (sym before)
+
+-- no line before it is refused
+pub refused_there : (text front : List ℕ) (number place : ℕ) → first_unrun 1 (lines_in text) ≡ Some (number, place)
+    → lines_in front ≡ take (number - 1) (lines_in text)
+    → (commands : List (ℕ × Command)) × (commands_from (lines_in front) 1 0 ≡ Ok commands)
+    → session_commands text ≡ Err (number, UnknownWord, place)
+refused_there text front number place first before (commands, is) =
+    commands_before text front number place first before ∙ ap (refused_at (number, place)) is
+
+-- a line before it is refused
+pub refused_before : (text front : List ℕ) (number place : ℕ) → first_unrun 1 (lines_in text) ≡ Some (number, place)
+    → lines_in front ≡ take (number - 1) (lines_in text)
+    → (refusal : ScriptRefusal) → IsScriptRefusal (commands_from (lines_in front) 1 0) refusal
+    → IsScriptRefusal (session_commands text) refusal
+refused_before text front number place first before NoMemory is = tt
+refused_before text front number place first before (LineRefused line fault at) is =
+    commands_before text front number place first before ∙ ap (refused_at (number, place)) is
+
+-- whether there is a refusal, without the lines
+pub script_read : (text : List ℕ) (before after : ℕ → List ℕ) (result : Result (List Line) ScriptRefusal)
+    → MatchResult result
+      (λ script. (commands : List (ℕ × Command)) × (commands_from (lines_in text) 1 0 ≡ Ok commands)
+      × AreLines before commands script after)
+      (IsScriptRefusal (commands_from (lines_in text) 1 0))
+    → MatchResult result (λ script. (commands : List (ℕ × Command)) × (commands_from (lines_in text) 1 0 ≡ Ok commands))
+      (IsScriptRefusal (commands_from (lines_in text) 1 0))
+script_read text before after (Ok script) (commands, is, are) = (commands, is)
+script_read text before after (Err refusal) is = is

@@ -1,0 +1,3 @@
+pub mod SessionScript
+pub mod Running
+pub mod Status
