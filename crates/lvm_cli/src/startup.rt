@@ -8,7 +8,7 @@ ghost use Rattle.lvm_cli.specs.Startup.{changes_disks, opening_status};
 use command_table::Request;
 use disk_model::Shelf;
 use file_shelf::{FileShelf, ImageFile, OpenFault};
-use lvm_run::is_built;
+use lvm_run::{is_built, is_built_session};
 use lvm_words::{CommandLine, WordsRefusal, read_command_line};
 use std::alloc::{AllocError, Global};
 use std::fs::Files;
@@ -24,7 +24,8 @@ pub const WORDS_REFUSED: u8 = 3;
 /// The exit status where what a run needs of the system isn't to be had.
 pub const NOT_TO_BE_HAD: u8 = 6;
 
-/// Opens these disks to be changed where the words ask for a command that runs and changes something, and else to be read.
+/// Opens these disks to be changed where the words ask for a command that runs and changes something, or for a session that runs,
+/// and else to be read.
 pub fn open_images<F: ImageFile + Drop, R: Files<File = F> + Clock + Eprint>(
     rt: &R,
     alloc: Global,
@@ -41,7 +42,7 @@ pub fn open_images<F: ImageFile + Drop, R: Files<File = F> + Clock + Eprint>(
     }
 }
 
-// Whether the words ask for a command that runs and changes something.
+// Whether the words ask for a command that runs and changes something, or for a session that runs.
 fn changes_disks(alloc: Global, words: &[String]) -> Result<bool, AllocError>
     ensures { IfOk result (λ changes. changes ≡ changes_disks (command_line_of (words_of words.now))) }
 {
@@ -58,7 +59,8 @@ fn changes_disk(line: &CommandLine) -> bool
 {
     match &line.request {
         Request::One(command) => is_built(command) && command.changes(),
-        _ => false,
+        Request::Session(session) => is_built_session(session),
+        Request::Demo { .. } => false,
     }
 }
 

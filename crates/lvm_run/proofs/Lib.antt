@@ -18,6 +18,10 @@ mod PromisedReports
 mod Refusals
 mod Reporting
 mod ScannedEntries
+mod SessionCauses
+mod SessionWords
 mod SourcedLines
+mod Statuses
 mod Undone
+mod Unread
 mod ValuesWritten

@@ -12,4 +12,5 @@ pub mod Runs
 pub mod Scan
 pub mod ScanEndings
 pub mod ScanReport
+pub mod Sessions
 pub mod Sourced

@@ -58,7 +58,7 @@ RunsLine names line now text from to old outcome new =
     MatchBool (is_built line.command) (MeetsSourced names line now text from to old outcome new
     ⊎ EndsUnread line.command from to old outcome new) (IsRefusedUnread from to old outcome new)
 
--- what is asked for was done or refused; sessions and the demo are refused until they are built
+-- what is asked for was done or refused; the demo is refused until it is built, and what a session does is told in `Sessions`
 abbrev pub RunsRequest : List Word → Request → (ℕ → List ℕ) → ℕ → List ℕ → SourceState → SourceState → State → Outcome → State → Type 0
 RunsRequest names (One command) ids now text from to old outcome new =
     RunsLine names (line_of 1 command ids) now text from to old outcome new

@@ -98,8 +98,8 @@ fn change_whole<S: Shelf>(
     }
 }
 
-// How the run ends where the disks can't be repaired.
-fn ending_of(fault: RepairFault) -> Ending
+/// How the run ends where the disks can't be repaired.
+pub fn ending_of(fault: RepairFault) -> Ending
     ensures { result ≡ ending_of fault }
 {
     match fault {

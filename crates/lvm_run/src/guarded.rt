@@ -1,14 +1,11 @@
 //! A run that takes no disk which is in use, unless it is told to.
-ghost use Rattle.std.specs.Prelude.{◌≡◌, ◌<◌, ◌^◌, ℕ, false, List, length, IfErr, IfOk, IfSome, MatchOption, MatchResult};
+ghost use Rattle.std.specs.Prelude.{◌≡◌, ◌<◌, ◌^◌, false, length, IfErr, IfOk, IfSome, MatchOption, MatchResult};
 ghost use Rattle.command_table.specs.Options.{words_of};
 ghost use Rattle.disk_model.specs.State.{State};
 ghost use Rattle.lvm_run.specs.declared.not_run.NotRun.TheVariants.{InUse as Used, Untold};
-ghost use Rattle.lvm_run.specs.declared.outcome.Outcome.{Outcome as OutcomeRecord};
 ghost use Rattle.lvm_run.specs.Disks.{HasDisks};
 ghost use Rattle.lvm_run.specs.Guarded.{AreFree, IsWhyNotRun, LeavesUsed, LooksAtMost, NamesOne};
-ghost use Rattle.lvm_run.specs.History.{HasEntered};
-ghost use Rattle.lvm_run.specs.Outcomes.{Ends};
-ghost use Rattle.lvm_run.specs.Runs.{RunsWords, names_of};
+ghost use Rattle.lvm_run.specs.Sessions.{ProgramRuns};
 ghost use Rattle.lvm_run.specs.Sourced.{source};
 
 use crate::not_run::NotRun;
@@ -51,11 +48,11 @@ pub fn guarded_run<
     // What was run was run on the disks as they were handed in, which were looked at at most.
     ensures run { MatchResult result
         (λ ended. (start : State) × LooksAtMost (S.state shelf) start
-        × ((outcome : OutcomeRecord) × (text : List ℕ)
-        × RunsWords (words_of words.now.items) now text (source (R.left script.old) (R.fault_count script.old)) (source (R.left script.new) (R.fault_count script.new))
-        (N.upcoming ids.old) start outcome (N.upcoming ids.new) (S.state ended.shelf)
-        × Ends (names_of (words_of words.now.items)) outcome ended.status (W.written out.old) (W.fault_count out.old) (W.written out.new) (W.fault_count out.new)
-        × HasEntered (words_of words.now.items) now text (N.upcoming ids.old) start outcome ended.entered.journal.items ended.entered.answers.items (S.state ended.shelf)))
+        × ProgramRuns (words_of words.now.items) now S.state
+        (source (R.left script.old) (R.fault_count script.old)) (source (R.left script.new) (R.fault_count script.new))
+        (N.upcoming ids.old) (N.upcoming ids.new) start
+        ended.status (W.written out.old) (W.fault_count out.old) (W.written out.new) (W.fault_count out.new)
+        ended.entered.journal.items ended.entered.answers.items ended.shelf)
         (λ refused. LooksAtMost (S.state shelf) (S.state refused.1) × (forced ≡ false)
         × IsWhyNotRun (words_of words.now.items) (S.state shelf) refused.0 (S.state refused.1)) }
 

@@ -17,10 +17,11 @@ mod outcome;
 mod output;
 mod run;
 mod scanned;
+mod session;
 mod sourced;
 mod timed_outcome;
 
-pub use built::{BUILT, is_built};
+pub use built::{BUILT, is_built, is_built_session};
 pub use guarded::guarded_run;
 pub use not_run::NotRun;
 pub use run::{Ended, lvm_run};

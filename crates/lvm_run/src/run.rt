@@ -1,18 +1,18 @@
 //! All that the program does, over any row of disks, streams and sources of ids.
-ghost use Rattle.std.specs.Prelude.{◌≡◌, ◌≢◌, ◌≤◌, ◌<◌, ◌^◌, ℕ, true, false, List, [], ◌∷◌, length, None, Some};
+ghost use Rattle.std.specs.Prelude.{◌≡◌, ◌≢◌, ◌≤◌, ◌<◌, ◌^◌, ℕ, true, false, List, [], ◌∷◌, length, None, Option, Some};
 ghost use Rattle.std.specs.Option.{option_map_or};
 ghost use Rattle.command_table.specs.Commands.{changes};
-ghost use Rattle.command_table.specs.Options.{words_of};
+ghost use Rattle.command_table.specs.Options.{Word, words_of};
 ghost use Rattle.line_answers.specs.declared.answer.Answer.{Answer as AnswerRecord};
 ghost use Rattle.lvm_script.specs.Lines.{with_text};
-ghost use Rattle.lvm_run.specs.declared.outcome.Outcome.{Outcome as OutcomeRecord};
 ghost use Rattle.lvm_run.specs.Commands.{is_built, spec_of};
 ghost use Rattle.lvm_run.specs.Disks.{AreDisks, HasDisks};
-ghost use Rattle.lvm_run.specs.History.{HasEntered, HasRoom, IsNothing, IsEntered, journal_by, lines_by, lines_of_task, lines_of_words, said_of};
+ghost use Rattle.lvm_run.specs.History.{HasRoom, IsNothing, IsEntered, journal_by, lines_by, lines_of_task, lines_of_words, said_of};
 ghost use Rattle.lvm_run.specs.Meets.{Meets};
 ghost use Rattle.lvm_run.specs.Outcomes.{Ends, IsOfLineOne, output_of};
 ghost use Rattle.lvm_run.specs.Runs.{AreNamed, CanPlan, CanPlanTask, RunsLine, RunsTask, RunsWords, context_with, names_of};
-ghost use Rattle.lvm_run.specs.Sourced.{source};
+ghost use Rattle.lvm_run.specs.Sessions.{ProgramRuns, SingleRuns};
+ghost use Rattle.lvm_run.specs.Sourced.{SourceState, source};
 
 use crate::built::is_built;
 use crate::changing::run_change;
@@ -22,16 +22,17 @@ use crate::commands::vgcfgbackup::run_vgcfgbackup;
 use crate::ending::Ending;
 use crate::entered::Entered;
 use crate::outcome::Outcome;
+use crate::session::run_session;
 use crate::sourced::with_source;
 use crate::timed_outcome::TimedOutcome;
 use byte_streams::{Failed, Sink, Source};
-use command_table::Command;
+use command_table::{Command, Request};
 use disk_model::Shelf;
 use line_answers::DiskNames;
 use line_table::{Answers, Journal};
 use lvm_id::Words64;
 use lvm_script::Line;
-use lvm_words::{Asked, Task, WordsRefusal, read_words};
+use lvm_words::{Asked, Task, WordsRefusal, read_command_line, read_words};
 use std::alloc::{AllocError, Global};
 use std::sync::Wait;
 use std::thread::Threads;
@@ -42,7 +43,7 @@ use table_lock::Gate;
 pub struct Ended<S> {
     pub status: u8,
     pub shelf: S,
-    entered: Entered,
+    pub(crate) entered: Entered,
 }
 
 impl<S> Ended<S> {
@@ -64,7 +65,7 @@ impl<S> Ended<S> {
 
 /// Runs the program's words. Where they name disks, `shelf` has these in that order, each of 8 to 2^40 sectors, with nothing
 /// in flight. The output goes to `out`, the ids of what is created are drawn from `ids`, and `now` is the time in seconds.
-/// Of the commands that are built vgcfgrestore alone reads `script`, to its end, and none starts a thread.
+/// A session and vgcfgrestore read `script`, to its end, and no other command that is built does. None starts a thread.
 pub fn lvm_run<
     T: Threads + Wait + Sync,
     S: Shelf + Send,
@@ -81,19 +82,61 @@ pub fn lvm_run<
     shelf: S,
     ids: &mut N,
     now: u64,
-    _gate: &G,
+    gate: &G,
 ) -> Ended<S>
     requires disks { HasDisks (words_of words.now.items) (S.state shelf) }
     requires time { now < 2 ^ 48 }
 
-    // The run comes to an outcome by what is said of its words and of the text that the source gives, the output and the status
-    // are the outcome's, unless the sink failed, the output of a line that answered is its answer's line, and the journal and
-    // the answers keep the promise.
-    ensures run { (outcome : OutcomeRecord) × (text : List ℕ)
-        × RunsWords (words_of words.now.items) now text (source (R.left script.old) (R.fault_count script.old)) (source (R.left script.new) (R.fault_count script.new))
-        (N.upcoming ids.old) (S.state shelf) outcome (N.upcoming ids.new) (S.state result.shelf)
-        × Ends (names_of (words_of words.now.items)) outcome result.status (W.written out.old) (W.fault_count out.old) (W.written out.new) (W.fault_count out.new)
-        × HasEntered (words_of words.now.items) now text (N.upcoming ids.old) (S.state shelf) outcome result.entered.journal.items result.entered.answers.items (S.state result.shelf) }
+    // A session does what is said of sessions, and other words what is said of them.
+    ensures run { ProgramRuns (words_of words.now.items) now S.state
+        (source (R.left script.old) (R.fault_count script.old)) (source (R.left script.new) (R.fault_count script.new))
+        (N.upcoming ids.old) (N.upcoming ids.new) (S.state shelf)
+        result.status (W.written out.old) (W.fault_count out.old) (W.written out.new) (W.fault_count out.new)
+        result.entered.journal.items result.entered.answers.items result.shelf }
+{
+    match read_command_line(alloc, words) {
+        Ok(line) => match &line.request {
+            Request::Session(session) => {
+                run_session(alloc, script, out, shelf, ids, &line.names, session, gate)
+            }
+            Request::One(_) => run_single(alloc, words, script, out, shelf, ids, now),
+            Request::Demo { .. } => run_single(alloc, words, script, out, shelf, ids, now),
+        },
+        Err(WordsRefusal::NoMeaning) => run_single(alloc, words, script, out, shelf, ids, now),
+        Err(WordsRefusal::NoMemory) => end_unread(alloc, shelf),
+    }
+}
+
+// Ends a run for whose words memory was wanting: nothing is read, done or printed.
+fn end_unread<S: Shelf>(alloc: Global, shelf: S) -> Ended<S>
+    ensures { (words : List Word) (now : ℕ) (from : SourceState) (ids : ℕ → List ℕ) (written : Option (List ℕ)) (faults : ℕ) → HasDisks words (S.state shelf)
+        → ProgramRuns words now S.state from from ids ids (S.state shelf) result.status written faults written faults
+        result.entered.journal.items result.entered.answers.items result.shelf }
+{
+    Ended {
+        status: 2,
+        shelf,
+        entered: Entered::none(alloc),
+    }
+}
+
+// Runs words that ask for one command, or for nothing that runs.
+fn run_single<S: Shelf, R: Source, W: Sink, N: Words64>(
+    alloc: Global,
+    words: &Vec<String>,
+    script: &mut R,
+    out: &mut W,
+    shelf: S,
+    ids: &mut N,
+    now: u64,
+) -> Ended<S>
+    requires disks { HasDisks (words_of words.now.items) (S.state shelf) }
+    requires time { now < 2 ^ 48 }
+    ensures run { SingleRuns (words_of words.now.items) now
+        (source (R.left script.old) (R.fault_count script.old)) (source (R.left script.new) (R.fault_count script.new))
+        (N.upcoming ids.old) (N.upcoming ids.new) (S.state shelf)
+        result.status (W.written out.old) (W.fault_count out.old) (W.written out.new) (W.fault_count out.new)
+        result.entered.journal.items result.entered.answers.items (S.state result.shelf) }
 {
     let mut shelf = shelf;
     let (ran, names, mut entered) = run_words(alloc, words, script, &mut shelf, ids, now);

@@ -1,0 +1,77 @@
+use Rattle.std.proofs.Common.{◌∙◌, ℕ, length, refl, sym, ap, subst, arith}
+use Rattle.lvm_run.specs.Disks.{AreDisks}
+use Rattle.lvm_run.specs.Sessions.{NoLines, Ran, Unbegun, Unbuilt, Unready}
+use Rattle.lvm_run.specs.declared.ending.Ending.TheVariants.{NoMemory, WordsRefused}
+use Rattle.lvm_run.proofs.SessionCauses.{ended}
+use Rattle.lvm_run.proofs.session.run_session.Goals as goal
+
+pub returns-then-not-is_built_session : goal.returns-then-not-is_built_session
+returns-then-not-is_built_session g c =
+    let e = c.end_before.ensures in
+    ended c.end_before.result.entered WordsRefused c.args.shelf
+    (Unbuilt (record {
+      unbuilt = sym c.is_built_session.ensures ∙ c.if-not-is_built_session.true;
+      refused = refl;
+      unread = refl;
+      undrawn = refl;
+      nothing = refl;
+    })) e.shelf e.nothing e.ends
+
+pub returns-in-Err : goal.returns-in-Err
+returns-in-Err g c =
+    let e = c.end_before-in-Err.ensures in
+    ended c.end_before-in-Err.result.entered c.in-Err.ending c.args.shelf
+    (NoLines (sym c.is_built_session.ensures ∙ c.if-not-is_built_session.false) c.in-Err.ensures refl) e.shelf e.nothing e.ends
+
+pub open_whole-requires-clause-disks : goal.open_whole-requires-clause-disks
+open_whole-requires-clause-disks g c =
+    subst (λ (n : ℕ). AreDisks n (g.S.Shelf.state c.args.shelf)) (sym c.requires.disks.many) c.requires.disks
+
+pub open_whole-requires-clause-some : goal.open_whole-requires-clause-some
+open_whole-requires-clause-some g c = omega (arith, c.requires.disks.many, c.requires.some)
+
+pub open_whole-requires-clause-few : goal.open_whole-requires-clause-few
+open_whole-requires-clause-few g c = omega (arith, c.requires.disks.many, c.requires.few)
+
+pub returns-in-Err-open_whole : goal.returns-in-Err-open_whole
+returns-in-Err-open_whole g c =
+    let e = c.end_before-in-Err-open_whole.ensures in
+    ended c.end_before-in-Err-open_whole.result.entered c.in-Err-open_whole.ending c.open_whole.new.shelf
+    (Unready (sym c.is_built_session.ensures ∙ c.if-not-is_built_session.false) c.in-Ok.lines.items c.in-Ok.ensures
+    c.in-Err-open_whole.ensures.ready) e.shelf e.nothing e.ends
+
+pub run_lines-requires-clause-few : goal.run_lines-requires-clause-few
+run_lines-requires-clause-few g c =
+    omega (arith, ap length c.open_whole.ensures.again.sizes, c.requires.disks.many, c.requires.few)
+
+pub returns-in-Ok-run_lines : goal.returns-in-Ok-run_lines
+returns-in-Ok-run_lines g c =
+    let e = c.end_lines.ensures in
+    let ran = c.in-Ok-run_lines.ran in
+    record {
+      outcome = Ran ran.answers.items ran.unbegun.items;
+      cause = record {
+        built = sym c.is_built_session.ensures ∙ c.if-not-is_built_session.false;
+        lines = c.in-Ok.lines.items;
+        reads = c.in-Ok.ensures;
+        repaired = c.in-Ok-open_whole.whole;
+        ready = c.open_whole.new.shelf;
+        opened = c.in-Ok-open_whole.ensures.ready;
+        ran = ran;
+        runs = c.in-Ok-run_lines.ensures;
+        begun_is = refl;
+        unbegun_is = refl;
+        journal_is = e.journal;
+        answers_is = e.answers;
+        shelf_is = e.shelf;
+      };
+      ends = e.ends;
+    }
+
+pub returns-in-Err-run_lines : goal.returns-in-Err-run_lines
+returns-in-Err-run_lines g c =
+    let e = c.end_before-in-Err-run_lines.ensures in
+    ended c.end_before-in-Err-run_lines.result.entered NoMemory c.open_whole.new.shelf
+    (Unbegun (sym c.is_built_session.ensures ∙ c.if-not-is_built_session.false) c.in-Ok.lines.items c.in-Ok.ensures
+    (record { wanting = refl; repaired = c.in-Ok-open_whole.whole; ready = c.in-Ok-open_whole.ensures.ready }))
+    (e.shelf ∙ c.in-Err-run_lines.ensures) e.nothing e.ends
