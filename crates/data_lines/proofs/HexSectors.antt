@@ -30,8 +30,8 @@ hex_at (high ∷ low ∷ rest) (suc k) lt =
     ∙ ap (λ (n : ℕ). byte_of (get_or (high ∷ low ∷ rest) (2 * suc k) 0) (get_or (high ∷ low ∷ rest) n 0)) second
 
 -- bytes that each are of their two digits are all that the digits say
-pub is_hex : (digits bytes : List ℕ) (n : ℕ) → length digits ≡ 2 * n → length bytes ≡ n → ((k : ℕ) → k < n → get_or bytes k 0 ≡ hex_byte digits k)
-    → bytes ≡ bytes_of_hex digits
+pub is_hex : (digits bytes : List ℕ) (n : ℕ) → length digits ≡ 2 * n → length bytes ≡ n
+    → ((k : ℕ) → k < n → get_or bytes k 0 ≡ hex_byte digits k) → bytes ≡ bytes_of_hex digits
 is_hex digits bytes n many long each =
     same_number_lists bytes (bytes_of_hex digits) (long ∙ sym (hex_length digits n many))
     (λ k lt. each k (omega arith) ∙ sym (hex_at digits k (omega arith)))

@@ -16,7 +16,8 @@ eight_bytes : (n : ℕ) → map (λ (i : ℕ). byte_at i n) (range_with_len 0 8)
 unfolding le_bytes
 eight_bytes n = refl
 
-tiled : (f : ℕ → ℕ) → map (λ (i : ℕ). get_or (map f (range_with_len 0 8)) (i % 8) 0) (range_with_len 0 512) ≡ copies (map f (range_with_len 0 8))
+tiled : (f : ℕ → ℕ) → map (λ (i : ℕ). get_or (map f (range_with_len 0 8)) (i % 8) 0) (range_with_len 0 512)
+    ≡ copies (map f (range_with_len 0 8))
 tiled f = refl
 
 -- each byte is that of the number's eight with the place's rest
@@ -25,7 +26,8 @@ pub is_number_sector : (number : ℕ) (word bytes : List ℕ) → number < 2 ^ 6
 is_number_sector number word bytes small is long each =
     let eight : List ℕ = map (λ (i : ℕ). byte_at i number) (range_with_len 0 8) in
     fill_by_all (λ (k : ℕ). get_or eight (k % 8) 0) bytes 512 0 long (λ k lt. each k lt ∙ ap (λ (w : List ℕ). get_or w (k % 8) 0) is)
-    ∙ tiled (λ (i : ℕ). byte_at i number) ∙ ap copies (eight_bytes number) ∙ ap (λ (n : ℕ). copies (le_bytes 8 n)) (sym (mod-eq_of_lt small))
+    ∙ tiled (λ (i : ℕ). byte_at i number) ∙ ap copies (eight_bytes number)
+    ∙ ap (λ (n : ℕ). copies (le_bytes 8 n)) (sym (mod-eq_of_lt small))
 
 -- what is beyond 2^64 is left out
 pub wrapped_sector : (n m : ℕ) → m ≡ n % 2 ^ 64 → number_sector m ≡ number_sector n

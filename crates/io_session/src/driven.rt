@@ -58,19 +58,18 @@ pub trait Driven<L> {
     fn is_due(&self) -> bool
         ensures { result ≡ is_due self.now };
 
-    /// Starts the commit that is due. Only memory can be wanting; then nothing changes but what is spare.
+    /// Starts the commit that is due; where none is, nothing is done. Only memory can be wanting; then nothing changes but what is
+    /// spare.
     fn tend(&mut self) -> Result<(), AllocError>
-        requires { is_due self.old ≡ true }
-        ensures made { OnOk result (makes self.old Tends self.new × (left self.new < left self.old)) }
+        ensures made { OnOk result (MatchBool (is_due self.old) (makes self.old Tends self.new × (left self.new < left self.old)) (self.new ≡ self.old)) }
         ensures begun { begun self.new ≡ begun self.old }
         ensures longer { IsPrefix (journal self.old) (journal self.new) }
-        ensures refused { OnErr result (makes self.old RefusesCommit self.new) }
+        ensures refused { OnErr result ((is_due self.old ≡ true) × makes self.old RefusesCommit self.new) }
         ensures kept { OnErr result (KeepsAll begun journal in_flight left is_due is_done allows self.old self.new) };
 
-    /// Gives the move up whose commit is due.
+    /// Gives the move up whose commit is due; where none is, nothing is done.
     fn halt_move(&mut self)
-        requires { is_due self.old ≡ true }
-        ensures made { makes self.old Halts self.new × (left self.new < left self.old) }
+        ensures made { MatchBool (is_due self.old) (makes self.old Halts self.new × (left self.new < left self.old)) (self.new ≡ self.old) }
         ensures begun { begun self.new ≡ begun self.old }
         ensures longer { IsPrefix (journal self.old) (journal self.new) };
 

@@ -156,6 +156,9 @@ impl<S: Shelf> Driven<Line> for SmallWorld<S> {
     }
 
     fn tend(&mut self) -> Result<(), AllocError> {
+        if self.commits_due == 0 {
+            return Ok(());
+        }
         self.shelf.reserve(8, 0)?;
         if !self.limits.has_commit_memory {
             return Err(AllocError);
@@ -165,8 +168,10 @@ impl<S: Shelf> Driven<Line> for SmallWorld<S> {
     }
 
     fn halt_move(&mut self) {
-        self.commits_due -= 1;
-        self.is_halted = true;
+        if 0 < self.commits_due {
+            self.commits_due -= 1;
+            self.is_halted = true;
+        }
     }
 
     fn turn(&mut self) -> bool {
