@@ -121,6 +121,7 @@ impl<S: Shelf> World<S> {
     ghost use Rattle.world_acts.specs.Acts.{left_in, world};
     ghost use Rattle.io_core.specs.Events.{Makes};
     ghost use Rattle.io_core.specs.Rest.{LiesOn};
+    ghost use Rattle.io_core.specs.Worlds.{IsOpenedOn};
 
     /// The world of what a scan found, which lies on the shelf's disks. Only memory can be wanting; then what it was to be made of
     /// comes back.
@@ -128,7 +129,7 @@ impl<S: Shelf> World<S> {
         requires idle { (S.state shelf).in_flight ≡ [] }
         requires few { length (S.state shelf).sizes ≤ 64 }
         requires lies { LiesOn (S.state shelf).sizes whole }
-        ensures opened { IfOk result (λ w. (w.shelf ≡ shelf) × (w.core.lines.begun ≡ []) × (w.core.lines.journal ≡ [])) }
+        ensures opened { IfOk result (λ w. (w.shelf ≡ shelf) × IsOpenedOn whole (length (S.state shelf).sizes) w.core) }
         ensures refused { IfErr result (λ refused. (refused.whole ≡ whole) × (refused.shelf ≡ shelf)) }
     {
         see_accepted(&whole.found().group);

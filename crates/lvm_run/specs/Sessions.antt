@@ -206,7 +206,7 @@ pub record RunsScript {S : Type 0} (session : Session) (state : S → State) (fr
   pub ready : S
   pub opened : OpensAndRepairs old (Ok repaired) (state ready)
   pub ran : RanLines S
-  pub runs : RunsLines state ready lines ran
+  pub runs : RunsLines state repaired ready lines ran
   pub begun_is : begun ≡ ran.answers.items
   pub unbegun_is : unbegun ≡ ran.unbegun.items
   pub journal_is : journal ≡ ran.journal.items

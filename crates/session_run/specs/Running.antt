@@ -6,11 +6,12 @@ use Rattle.line_answers.specs.declared.answer.Answer.TheVariants.{NoMemory}
 use Rattle.lvm_script.specs.declared.line.Line.{Line}
 use Rattle.disk_model.specs.State.{State}
 use Rattle.line_table.specs.Steps.{is_open}
+use Rattle.vg_found.specs.declared.found.Found.{Found}
 use Rattle.io_session.specs.Runs.{IsCarriedOut}
 use Rattle.io_session.specs.declared.session.Run.{Run}
 use Rattle.world_acts.specs.Acts.{world}
 use Rattle.io_core.specs.Events.{Makes}
-use Rattle.io_core.specs.Worlds.{WorldOn}
+use Rattle.io_core.specs.Worlds.{IsOpenedOn, WorldOn}
 use Rattle.session_run.specs.declared.running.RanLines.{RanLines}
 
 -- the line for which memory was wanted, if it was for one
@@ -33,13 +34,12 @@ IsRun state start script run =
     (λ w. not (list_any is_open w.core.lines.answers)) (λ w line. is_none w.core.barrier)
     (λ old event new. Makes (world (state old.shelf) old.core) event (world (state new.shelf) new.core)) start script run
 
--- The lines were run on this shelf, in a world in which nothing was begun before, and that is what they came to.
-pub record RunsLines {S : Type 0} (state : S → State) (shelf : S) (lines : List Line) (ran : RanLines S) : Type 0 where
+-- The lines were run on this shelf, in a world of what was found there, and that is what they came to.
+pub record RunsLines {S : Type 0} (state : S → State) (found : Found) (shelf : S) (lines : List Line) (ran : RanLines S) : Type 0 where
   pub start : WorldOn S
   pub run : Run (WorldOn S) Line
   pub over : start.shelf ≡ shelf
-  pub none_begun : start.core.lines.begun ≡ []
-  pub none_entered : start.core.lines.journal ≡ []
+  pub opened : IsOpenedOn found (length (state shelf).sizes) start.core
   pub carried : IsRun state start lines run
   pub disks : ran.shelf ≡ run.world.shelf
   pub journal : ran.journal.items ≡ run.world.core.lines.journal

@@ -39,7 +39,7 @@ pub fn run_lines<S: Shelf, G: Gate>(
     requires idle { (S.state shelf).in_flight ≡ [] }
     requires few { length (S.state shelf).sizes ≤ 64 }
     requires lies { LiesOn (S.state shelf).sizes whole }
-    ensures { MatchResult result (RunsLines S.state shelf lines.items) (λ back. back ≡ shelf) }
+    ensures { MatchResult result (RunsLines S.state whole shelf lines.items) (λ back. back ≡ shelf) }
 {
     let Ok(unbegun) = Vec::with_capacity(alloc, lines.len()) else {
         return Err(shelf);
