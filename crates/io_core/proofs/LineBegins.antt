@@ -163,7 +163,7 @@ pub record MayBeginBy (w : World) (line : Line) (plan : Plan) : Type 0 where
   pub may : MayBeBegun w line plan
 
 none_left : (refusal : Option OpRefusal) (key : ℕ) (work : Work)
-    → (option_map_or opened_refused refusal (opened_on key work)).left ≡ 0
+    → (option_map_or (opened_refused key) refusal (opened_on key work)).left ≡ 0
 none_left None key work = refl
 none_left (Some refusal) key work = refl
 

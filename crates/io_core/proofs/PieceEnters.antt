@@ -227,6 +227,7 @@ module _ (w : World) (line : ℕ) (new : NewPiece) (m : MayEnterPiece w line new
         many = m.may.many;
         brought = m.may.brought;
         through = m.may.through;
+        waits = m.may.waits;
         spare = m.spare;
         room = m.room;
       } in (may, is)

@@ -1,8 +1,10 @@
 -- A line that stays open with its volume and its work: what its pieces are to be.
-use Rattle.std.proofs.Common.{◌≡◌, ℕ, true, List, All, Option, None, Some, is_some, unwrap_or, refl, sym, ap, subst, ◌∙◌, true≢false}
+use Rattle.std.proofs.Common.{◌≡◌, ℕ, false, true, List, All, Option, None, Some, is_some, unwrap_or, refl, sym, ap, subst, ◌∙◌, true≢false}
+use Rattle.std.specs.Option.{option_map_or}
 use Rattle.std.proofs.lemmas.List.Elements.{All-weaker}
 use Rattle.std.proofs.lemmas.Option.{none-some, same_Some}
 use Rattle.lvm_script.specs.declared.line.Line.{Line}
+use Rattle.data_lines.specs.DataLines.{is_through}
 use Rattle.world_acts.specs.declared.open_line.OpenLine.{OpenLine}
 use Rattle.world_acts.specs.declared.open_line.Work.{Work}
 use Rattle.world_acts.specs.declared.volumes.Volumes.{Volumes}
@@ -54,4 +56,5 @@ may_be_still {v} {u} {sizes} {now} {o} {p} {line} {later} pieces same all =
       many = m.many;
       brought = λ writes. m.brought writes ∙ ap (λ (x : Option Line). values_of x new.piece) (sym same.brings);
       through = m.through;
+      waits = m.waits ∙ ap (λ (x : Option Line). option_map_or (λ (l : Line). is_through l.command) x false) (sym same.brings);
     }) pieces all

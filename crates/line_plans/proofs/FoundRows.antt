@@ -4,6 +4,7 @@ use Rattle.std.proofs.Common.{ap, subst, ◌∙◌}
 use Rattle.std.proofs.Common.{arith}
 use Rattle.std.specs.Prelude.{find, nat_eq, option_map, slice_get, IfSome}
 use Rattle.std.specs.List.{list_any}
+use Rattle.std.specs.Str.{bytes_eq}
 use Rattle.std.proofs.lemmas.Bool.{or_right}
 use Rattle.std.proofs.lemmas.Option.{same_Some}
 use Rattle.command_table.specs.declared.command.Path.{Path}
@@ -66,6 +67,12 @@ row_number lv (r ∷ rows) row found = by (nat_eq r.lv lv) refl found (row_numbe
 
 module _ (volumes : Volumes) (group : Group) (path : Path) (lv : ℕ) (here : volumes.group ≡ Some group)
     (named : option_map (λ (v : ℕ × Lv). v.0) (visible_named group path.lv) ≡ Some lv) where
+  -- where its group has the path's name
+  number_is : bytes_eq group.name path.vg ≡ true → number_on volumes.group path ≡ Some lv
+  number_is own =
+      ap (λ (o : Option Group). number_on o path) here
+      ∙ ap (λ (b : Bool). cond b (option_map (λ (v : ℕ × Lv). v.0) (visible_named group path.lv)) None) own ∙ named
+
   -- a volume on a path has a row
   pub has_row : (sizes : List ℕ) → AreLaidOut volumes sizes → None ≡ find (λ (r : VolumeRow). nat_eq r.lv lv) volumes.rows.items → ⊥
   has_row sizes laid none = by (visible_named group path.lv) refl named where
@@ -84,13 +91,12 @@ module _ (volumes : Volumes) (group : Group) (path : Path) (lv : ℕ) (here : vo
         ∙ subst (λ (m : ℕ). list_any (λ (n : ℕ). nat_eq n m) (visible_numbers 0 group.lvs) ≡ true) place among) (sym none)
 
   -- which is the one that is found by its number
-  pub is_found : (range : Option (ℕ × ℕ)) (row : VolumeRow) → Some row ≡ find (λ (r : VolumeRow). nat_eq r.lv lv) volumes.rows.items
+  pub is_found : bytes_eq group.name path.vg ≡ true → (range : Option (ℕ × ℕ)) (row : VolumeRow) → Some row ≡ find (λ (r : VolumeRow). nat_eq r.lv lv) volumes.rows.items
       → IfSome range (λ (r : ℕ × ℕ). r.0 + r.1 ≤ sectors_of group lv) → IsFoundIn volumes path range row
-  is_found range row found within =
+  is_found own range row found within =
       let same : row.lv ≡ lv = row_number lv volumes.rows.items row (sym found) in
       record {
-        number =
-            ap (λ (o : Option Group). number_on o path) here ∙ named ∙ ap (λ (n : ℕ). Some n) (sym same);
+        number = number_is own ∙ ap (λ (n : ℕ). Some n) (sym same);
         listed = ap (λ (n : ℕ). find (λ (r : VolumeRow). nat_eq r.lv n) volumes.rows.items) same ∙ sym found;
         within =
             subst (λ (o : Option Group). IfSome range (λ (r : ℕ × ℕ). IfSome o (λ (g : Group). r.0 + r.1 ≤ sectors_of g row.lv))) (sym here)

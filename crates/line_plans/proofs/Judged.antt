@@ -22,6 +22,20 @@ use Rattle.group_plan.specs.Judging.{IsRefusedBy, first_refusal, refused_if}
 use Rattle.group_plan.specs.declared.refusal.PlanRefusal.{PlanRefusal}
 use Rattle.line_plans.specs.Judging.{may_write, past_end, path_rows}
 
+-- ---- the name of the group
+
+-- a line that isn't refused names the group
+pub names_group : (group : Group) (path : Path) (writes : Bool) (range : Option (ℕ × ℕ))
+    → first_refusal (path_rows group path writes range) ≡ None → bytes_eq group.name path.vg ≡ true
+names_group group path writes range none = by (bytes_eq group.name path.vg) refl where
+  by : (b : Bool) → bytes_eq group.name path.vg ≡ b → bytes_eq group.name path.vg ≡ true
+  by true is = is
+  by false is = absurd (let free = subst (λ (b : Bool). first_refusal (refused_if (not b) (UnknownGroup path.vg)
+      ∷ refused_if (writes && not (may_write group (visible_named group path.lv))) ReadOnly
+      ∷ refused_if (is_none (visible_named group path.lv)) (UnknownVolume path.lv)
+      ∷ option_and_then (λ (volume : ℕ × Lv). option_and_then (λ (r : ℕ × ℕ). past_end group r volume) range) (visible_named group path.lv)
+      ∷ []) ≡ None) is none in cc)
+
 -- ---- the end of the sectors
 
 -- a volume has few sectors

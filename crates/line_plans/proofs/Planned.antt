@@ -14,7 +14,7 @@ use Rattle.command_table.specs.declared.command.Path.{Path}
 use Rattle.line_answers.specs.declared.answer.Answer.TheVariants as answer
 use Rattle.line_answers.specs.declared.op_refusal.OpRefusal.{OpRefusal}
 use Rattle.lvm_script.specs.declared.line.Line.{Line}
-use Rattle.data_lines.specs.DataLines.{range_of, value_for, volume_named, writes, zero_sector}
+use Rattle.data_lines.specs.DataLines.{is_through, range_of, value_for, volume_named, writes, zero_sector}
 use Rattle.meta_model.specs.declared.group.Group.{Group}
 use Rattle.volume_rules.specs.Rules.{IsAccepted}
 use Rattle.list_laws.proofs.Members.{In, has_member, in_list}
@@ -69,7 +69,8 @@ whole_planned core line plan command is none alone sizes laid disks =
     let key : key_for volumes command ≡ 0 =
     ap (λ (o : Option Path). option_map_or (key_of volumes) (option_and_then (number_on volumes.group) o) 0) none in
     let opened : opened_for volumes command ≡ opened_on 0 (work_for volumes command) =
-    ap (λ (o : Option OpRefusal). option_map_or opened_refused o (opened_on (key_for volumes command) (work_for volumes command))) free
+    ap (λ (o : Option OpRefusal). option_map_or (opened_refused (key_for volumes command)) o
+    (opened_on (key_for volumes command) (work_for volumes command))) free
     ∙ ap (λ (k : ℕ). opened_on k (work_for volumes command)) key in
     let range : range_of command ≡ None = no_range command none in
     let pieces : pieces_for volumes command ≡ [] =
@@ -101,16 +102,23 @@ module _ (volumes : Volumes) (command : Command) (path : Path) (range : Option (
       ∙ ap (λ (b : Bool). first_refusal (rows_on volumes.group path b (range_of command))) names.kind
       ∙ ap (λ (r : Option (ℕ × ℕ)). first_refusal (rows_on volumes.group path writing r)) names.sectors
 
+  key_path : key_for volumes command ≡ option_map_or (key_of volumes) (number_on volumes.group path) 0
+  key_path = ap (λ (o : Option Path). option_map_or (key_of volumes) (option_and_then (number_on volumes.group) o) 0) names.volume
+
   -- it is refused
   pub refused_planned : (core : Core) (line : Line) (plan : Plan) (why : PlanRefusal) → core.volumes ≡ volumes → line.command ≡ command
-      → IsRefusedBy (first_refusal (rows_on volumes.group path writing range)) why → IsRefusal why plan → IsPlanFor core line plan
+      → IsRefusedBy (first_refusal (rows_on volumes.group path writing range)) why
+      → IsRefusal (option_map_or (key_of volumes) (number_on volumes.group path) 0) why plan → IsPlanFor core line plan
   refused_planned core line plan NoMemory same is refuses made sizes laid disks = absurd made
   refused_planned core line plan (Refused refusal) same is refuses made sizes laid disks =
       let why : refusal_of volumes.group command ≡ Some refusal = same_refusal ∙ refuses in
       subst (λ (v : Volumes). IsPlanned v sizes line plan) (sym same)
-      (alone_planned volumes sizes line plan (opened_refused refusal)
+      (alone_planned volumes sizes line plan
+      (opened_refused (option_map_or (key_of volumes) (number_on volumes.group path) 0) refusal)
       (sym (ap (opened_for volumes) is
-      ∙ ap (λ (o : Option OpRefusal). option_map_or opened_refused o (opened_on (key_for volumes command) (work_for volumes command))) why))
+      ∙ ap (λ (o : Option OpRefusal). option_map_or (opened_refused (key_for volumes command)) o
+      (opened_on (key_for volumes command) (work_for volumes command))) why
+      ∙ ap (λ (k : ℕ). opened_refused k refusal) key_path))
       (ap (pieces_for volumes) is
       ∙ ap (λ (o : Option OpRefusal). option_map_or (λ (refusal : OpRefusal). []) o
       (option_map_or (λ (r : ℕ × ℕ). pieces_of (key_for volumes command) r.0 r.1 (writes command)) (range_of command) [])) why)
@@ -123,13 +131,14 @@ module _ (volumes : Volumes) (command : Command) (path : Path) (range : Option (
 
     key_is : key_for volumes command ≡ row.key
     key_is =
-        ap (λ (o : Option Path). option_map_or (key_of volumes) (option_and_then (number_on volumes.group) o) 0) names.volume
+        key_path
         ∙ ap (λ (o : Option ℕ). option_map_or (key_of volumes) o 0) found.number
         ∙ ap (λ (o : Option VolumeRow). option_map_or (λ (r : VolumeRow). r.key) o 0) found.listed
 
     opened_is : opened_for volumes command ≡ opened_on row.key (work_for volumes command)
     opened_is =
-        ap (λ (o : Option OpRefusal). option_map_or opened_refused o (opened_on (key_for volumes command) (work_for volumes command))) free
+        ap (λ (o : Option OpRefusal). option_map_or (opened_refused (key_for volumes command)) o
+        (opened_on (key_for volumes command) (work_for volumes command))) free
         ∙ ap (λ (k : ℕ). opened_on k (work_for volumes command)) key_is
 
     pieces_are : pieces_for volumes command
@@ -224,16 +233,18 @@ module _ (volumes : Volumes) (command : Command) (path : Path) (range : Option (
 
 -- ---- reads and writes
 
-read_suits : (volumes : Volumes) (sizes : List ℕ) (line : Line) (key start count : ℕ) (new : NewPiece) → IsReadInto new
+read_suits : (volumes : Volumes) (sizes : List ℕ) (line : Line) (key start count : ℕ) (new : NewPiece) → is_through line.command ≡ false
+    → IsReadInto new
     → IsPieceOf key start count false new.piece → IsPlaced volumes sizes new.piece
     → MayBeOf volumes sizes (opened_on key (Read start (replicate count zero_sector))) (Some line) new
-read_suits volumes sizes line key start count new suits is placed = record {
+read_suits volumes sizes line key start count new plain suits is placed = record {
   key = is.volume;
   part = (is.writing, is.from, (let long = length-replicate count zero_sector in omega (arith, is.to, long)));
   placed = placed;
   many = suits.0;
   brought = (λ write. absurd (false≢true (sym is.writing ∙ write)));
   through = (λ some. absurd (false≢true (sym (ap (λ (o : Option (Unit {0})). is_some o) suits.1) ∙ some)));
+  waits = ap (λ (o : Option (Unit {0})). is_some o) suits.1 ∙ sym plain;
 }
 
 write_suits : (volumes : Volumes) (sizes : List ℕ) (line : Line) (key start count : ℕ) (new : NewPiece) → IsBroughtBy line.command new
@@ -243,9 +254,10 @@ write_suits volumes sizes line key start count new suits is placed = record {
   key = is.volume;
   part = is.writing;
   placed = placed;
-  many = ap length suits ∙ length-map-range_with_len (value_for line.command) new.piece.first new.piece.count;
-  brought = (λ write. suits);
+  many = ap length suits.0 ∙ length-map-range_with_len (value_for line.command) new.piece.first new.piece.count;
+  brought = (λ write. suits.0);
   through = (λ some. is.writing);
+  waits = suits.1;
 }
 
 module _ (core : Core) (line : Line) (path : Path) (row : VolumeRow) (start count : ℕ) (plan : Plan) (cover : PiecesCoverRequest)
@@ -258,7 +270,7 @@ module _ (core : Core) (line : Line) (path : Path) (row : VolumeRow) (start coun
       cut_planned core.volumes (verb.Read path start count) path (Some (start, count)) false
       (record { volume = refl; sectors = refl; kind = refl }) row none found start count refl core line plan
       (Read start (replicate count zero_sector)) IsReadInto refl is refl cover request cuts
-      (λ sizes new suits piece placed. read_suits core.volumes sizes line row.key start count new suits piece placed) made
+      (λ sizes new suits piece placed. read_suits core.volumes sizes line row.key start count new (ap is_through is) suits piece placed) made
 
   pub write_planned : Names line.command path (Some (start, count)) true
       → first_refusal (rows_on core.volumes.group path true (Some (start, count))) ≡ None

@@ -1,5 +1,5 @@
 -- What is judged of a line that reads, writes or flushes a volume, before it is begun.
-use Rattle.std.specs.Prelude.{◌≡◌, ◌≤◌, ℕ, ◌+◌, ◌-◌, ◌^◌, nat_eq, nat_le, Bool, true, not, ◌&&◌, is_none, IfSome, List, [], ◌∷◌, find, min}
+use Rattle.std.specs.Prelude.{◌≡◌, ◌≤◌, ℕ, ◌+◌, ◌-◌, ◌^◌, nat_eq, nat_le, Bool, true, not, ◌&&◌, if◌then◌else◌, is_none, IfSome, List, [], ◌∷◌, find, min}
 use Rattle.std.specs.Prelude.{Option, None, Some}
 use Rattle.std.specs.Prelude.{option_map}
 use Rattle.std.specs.Option.{option_and_then, option_map_or}
@@ -48,7 +48,9 @@ refusal_of group command =
 
 -- the number in the text of the visible volume on a path
 abbrev pub number_on : Option Group → Path → Option ℕ
-number_on group path = option_and_then (λ (g : Group). option_map (λ (v : ℕ × Lv). v.0) (visible_named g path.lv)) group
+number_on group path =
+    option_and_then (λ (g : Group).
+    if bytes_eq g.name path.vg then option_map (λ (v : ℕ × Lv). v.0) (visible_named g path.lv) else None) group
 
 -- the same of a command
 abbrev pub number_named : Option Group → Command → Option ℕ

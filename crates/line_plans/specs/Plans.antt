@@ -1,5 +1,5 @@
 -- What a line is to be, before it is begun.
-use Rattle.std.specs.Prelude.{◌≡◌, ◌≤◌, ◌<◌, ◌⊎◌, All, ℕ, ◌+◌, true, is_some, List, [], ◌∷◌, length, map, replicate, Option, None, Some}
+use Rattle.std.specs.Prelude.{◌≡◌, ◌≤◌, ◌<◌, ◌⊎◌, All, ℕ, ◌+◌, false, true, is_some, List, [], ◌∷◌, length, map, replicate, Option, None, Some}
 use Rattle.std.specs.Prelude.{nat_eq}
 use Rattle.std.specs.Prelude.{find, slice_get}
 use Rattle.std.specs.List.{range_with_len}
@@ -10,7 +10,7 @@ use Rattle.command_table.specs.declared.command.Command.TheVariants as command
 use Rattle.line_answers.specs.declared.answer.Answer.TheVariants as answer
 use Rattle.line_answers.specs.declared.op_refusal.OpRefusal.{OpRefusal}
 use Rattle.lvm_script.specs.declared.line.Line.{Line}
-use Rattle.data_lines.specs.DataLines.{range_of, value_for, writes, zero_sector}
+use Rattle.data_lines.specs.DataLines.{is_through, range_of, value_for, writes, zero_sector}
 use Rattle.meta_model.specs.declared.group.Group.{Group}
 use Rattle.meta_model.specs.declared.lv.Lv.{Lv}
 use Rattle.seg_place.specs.Sectors.{sectors_of}
@@ -39,9 +39,9 @@ use Rattle.line_plans.specs.Judging.{number_named, refusal_of}
 abbrev pub opened_on : ℕ → Work → OpenLine
 opened_on key work = record { key = key; work = work; left = 0; failure = None }
 
--- a line that is refused
-abbrev pub opened_refused : OpRefusal → OpenLine
-opened_refused refusal = record { key = 0; work = Whole answer.Fine; left = 0; failure = Some (answer.Refused refusal) }
+-- the same of one that is refused
+abbrev pub opened_refused : ℕ → OpRefusal → OpenLine
+opened_refused key refusal = record { key = key; work = Whole answer.Fine; left = 0; failure = Some (answer.Refused refusal) }
 
 -- the name of the volume with this number
 abbrev pub name_at : Group → ℕ → List ℕ
@@ -67,14 +67,15 @@ work_for volumes (command.Fill path start count value through) = Write
 work_for volumes (command.Write path start hex through) = Write
 work_for volumes command = Whole answer.Fine
 
--- the key of its volume
+-- the key of the volume that it names, or 0 where it names none, or one that isn't there
 abbrev pub key_for : Volumes → Command → ℕ
 key_for volumes command = option_map_or (key_of volumes) (number_named volumes.group command) 0
 
 -- how the line is open: with what it does, or refused
 abbrev pub opened_for : Volumes → Command → OpenLine
 opened_for volumes command =
-    option_map_or opened_refused (refusal_of volumes.group command) (opened_on (key_for volumes command) (work_for volumes command))
+    option_map_or (opened_refused (key_for volumes command)) (refusal_of volumes.group command)
+    (opened_on (key_for volumes command) (work_for volumes command))
 
 -- its pieces, where it isn't refused and reads or writes
 abbrev pub pieces_for : Volumes → Command → List Piece
@@ -111,6 +112,7 @@ pub record MayBeOf (volumes : Volumes) (sizes : List ℕ) (opened : OpenLine) (l
   pub many : length new.sectors ≡ new.piece.count
   pub brought : new.piece.write ≡ true → new.sectors ≡ values_of line new.piece
   pub through : is_some new.ticket ≡ true → new.piece.write ≡ true
+  pub waits : is_some new.ticket ≡ option_map_or (λ (l : Line). is_through l.command) line false
 
 -- the tickets: none, or, of a line that flushes a volume, one for each disk
 pub record AreForDisks (volumes : Volumes) (sizes : List ℕ) (opened : OpenLine) (tickets : ℕ) : Type 0 where
@@ -136,10 +138,10 @@ pub record IsAlone (line : OpenLine) (plan : Plan) : Type 0 where
   pub pieces : plan.pieces.items ≡ []
   pub tickets : plan.tickets.items ≡ []
 
--- that of a line that is refused so; want of memory makes none
-abbrev pub IsRefusal : PlanRefusal → Plan → Type 0
-IsRefusal NoMemory plan = ⊥
-IsRefusal (Refused refusal) plan = IsAlone (opened_refused refusal) plan
+-- that of a line on the volume with this key that is refused so; want of memory makes none
+abbrev pub IsRefusal : ℕ → PlanRefusal → Plan → Type 0
+IsRefusal key NoMemory plan = ⊥
+IsRefusal key (Refused refusal) plan = IsAlone (opened_refused key refusal) plan
 
 -- that of a line that waits for so many flushes on the volume with this key
 pub record IsFlushing (key disks : ℕ) (plan : Plan) : Type 0 where
@@ -154,12 +156,14 @@ pub record IsCut (line : OpenLine) (pieces : List Piece) (Suits : NewPiece → T
   pub suit : All Suits plan.pieces.items
   pub tickets : plan.tickets.items ≡ []
 
--- a piece that is read has as many sectors as it reads, and one that is written has those that the command brings
+-- a piece that is read has as many sectors as it reads, and one that is written has those that the command brings, and may wait for its
+-- flush where that is through
 abbrev pub IsReadInto : NewPiece → Type 0
 IsReadInto new = (length new.sectors ≡ new.piece.count) × (new.ticket ≡ None)
 
 abbrev pub IsBroughtBy : Command → NewPiece → Type 0
-IsBroughtBy command new = new.sectors ≡ map (value_for command) (range_with_len new.piece.first new.piece.count)
+IsBroughtBy command new =
+    (new.sectors ≡ map (value_for command) (range_with_len new.piece.first new.piece.count)) × (is_some new.ticket ≡ is_through command)
 
 -- it is the line's, over any disks over which the volumes are laid out
 abbrev pub IsPlanFor : Core → Line → Plan → Type 0

@@ -7,11 +7,12 @@ ghost use Rattle.seg_place.specs.Sectors.{sectors_of};
 ghost use Rattle.group_edits.specs.Visible.{visible_named};
 ghost use Rattle.group_plan.specs.Judging.{IsRefusedBy, Judges, first_refusal};
 ghost use Rattle.world_acts.specs.Volumes.{AreLaidOut};
-ghost use Rattle.line_plans.specs.Judging.{IsFoundIn, may_write, past_end, path_rows, rows_on};
+ghost use Rattle.line_plans.specs.Judging.{IsFoundIn, may_write, number_on, past_end, path_rows, rows_on};
+ghost use Rattle.line_plans.specs.Plans.{key_of};
 
 use command_table::Path;
 use group_edits::find_visible;
-use group_plan::{PlanRefusal, copied_text, judge_name, unknown_group};
+use group_plan::{PlanRefusal, copied_text, is_named, judge_name, unknown_group};
 use line_answers::OpRefusal;
 use meta_model::Group;
 use seg_place::sectors;
@@ -45,6 +46,39 @@ pub fn judge(
     match volumes.with_number(lv) {
         Some(row) => Ok(row),
         None => unreachable!(),
+    }
+}
+
+/// The key of the volume on this path, or 0 where there is none.
+pub fn key_on(volumes: &Volumes, path: &Path) -> u32
+    requires { (sizes : List ℕ) × AreLaidOut volumes.now sizes }
+    ensures { result ≡ option_map_or (key_of volumes.now) (number_on volumes.now.group path.now) 0 }
+{
+    match number_on(volumes, path) {
+        Some(lv) => key_of(volumes, lv),
+        None => 0,
+    }
+}
+
+// The number in the text of the volume on this path.
+fn number_on(volumes: &Volumes, path: &Path) -> Option<u32>
+    ensures { result ≡ number_on volumes.now.group path.now }
+{
+    let group = volumes.group.as_ref()?.group();
+    if !is_named(group, &path.vg) {
+        return None;
+    }
+    find_visible(group, &path.lv)
+}
+
+// The key of the volume with this number.
+fn key_of(volumes: &Volumes, lv: u32) -> u32
+    requires { (sizes : List ℕ) × AreLaidOut volumes.now sizes }
+    ensures { result ≡ key_of volumes.now lv }
+{
+    match volumes.with_number(lv) {
+        Some(row) => row.key,
+        None => 0,
     }
 }
 

@@ -1,8 +1,9 @@
 //! What a line needs, before it is begun: all memory of it is taken here.
 ghost use Rattle.std.specs.Prelude.{◌≡◌, ◌<◌, ◌+◌, ◌^◌, All, IfOk, List, ℕ, OnOk, Some, is_some, length, map, replicate, true, false};
+ghost use Rattle.std.specs.Option.{option_map_or};
 ghost use Rattle.command_table.specs.declared.command.Command.TheVariants.{Flush as FlushCommand, List as ListCommand, Read as ReadCommand};
 ghost use Rattle.disk_model.specs.State.{IsLawful, State};
-ghost use Rattle.data_lines.specs.DataLines.{range_of, runs_beside, volume_named, writes, zero_sector};
+ghost use Rattle.data_lines.specs.DataLines.{is_through, range_of, runs_beside, volume_named, writes, zero_sector};
 ghost use Rattle.piece_split.specs.Pieces.{pieces_of};
 ghost use Rattle.world_acts.specs.declared.open_line.Work.TheVariants.{Read, Whole, Write};
 ghost use Rattle.world_acts.specs.declared.volumes.VolumeRow.{VolumeRow as RowRecord};
@@ -13,9 +14,10 @@ ghost use Rattle.world_acts.specs.Volumes.{AreLaidOut};
 ghost use Rattle.line_plans.specs.declared.preparing.NewPiece.{NewPiece as NewRecord};
 ghost use Rattle.line_plans.specs.Plans.{HasRoomFor, HasTables, IsAlone, IsBroughtBy, IsCut, IsFlushing, IsPlanFor, IsReadInto, IsRefusal};
 ghost use Rattle.line_plans.specs.Plans.{MayBeBegun};
-ghost use Rattle.line_plans.specs.Plans.{listed_of, listed_row, name_at, opened_on, plan_room};
+ghost use Rattle.line_plans.specs.Judging.{number_on};
+ghost use Rattle.line_plans.specs.Plans.{key_of, listed_of, listed_row, name_at, opened_on, plan_room};
 
-use crate::judging::judge;
+use crate::judging::{judge, key_on};
 use command_table::{Command, Path};
 use data_lines::contents_for;
 use disk_model::Shelf;
@@ -114,7 +116,7 @@ fn read_line(
     pieces_cover_requests();
     match judge(core.alloc, &core.volumes, path, false, Some((start, count))) {
         Ok(row) => read_plan(core.alloc, row.key, start, count),
-        Err(why) => refused_plan(core.alloc, why),
+        Err(why) => refused_plan(core, path, why),
     }
 }
 
@@ -131,12 +133,13 @@ fn write_line(
     requires volume { volume_named line.now.command ≡ Some path.now }
     requires range { range_of line.now.command ≡ Some (start, count) }
     requires writes { writes line.now.command ≡ true }
+    requires through { through ≡ is_through line.now.command }
     ensures { IfOk result (IsPlanFor core.now line.now) }
 {
     pieces_cover_requests();
     match judge(core.alloc, &core.volumes, path, true, Some((start, count))) {
         Ok(row) => write_plan(core.alloc, &line.command, row.key, start, count, through),
-        Err(why) => refused_plan(core.alloc, why),
+        Err(why) => refused_plan(core, path, why),
     }
 }
 
@@ -148,19 +151,23 @@ fn flush_line(core: &Core, line: &Line, path: &Path) -> Result<Plan, AllocError>
 {
     match judge(core.alloc, &core.volumes, path, false, None) {
         Ok(row) => flush_plan(core.alloc, row.key, core.waits.disks()),
-        Err(why) => refused_plan(core.alloc, why),
+        Err(why) => refused_plan(core, path, why),
     }
 }
 
-// A line that is refused.
-fn refused_plan(alloc: Global, why: PlanRefusal) -> Result<Plan, AllocError>
-    ensures { IfOk result (IsRefusal why) }
+// A line on this path that is refused.
+fn refused_plan(core: &Core, path: &Path, why: PlanRefusal) -> Result<Plan, AllocError>
+    requires { (sizes : List ℕ) × AreLaidOut core.now.volumes sizes }
+    ensures { IfOk result (IsRefusal (option_map_or (key_of core.now.volumes) (number_on core.now.volumes.group path.now) 0) why) }
 {
     match why {
-        PlanRefusal::Refused(refusal) => Ok(alone(
-            alloc,
-            OpenLine::refused(Answer::Refused(refusal)),
-        )),
+        PlanRefusal::Refused(refusal) => {
+            let key = key_on(&core.volumes, path);
+            Ok(alone(
+                core.alloc,
+                OpenLine::refused(key, Answer::Refused(refusal)),
+            ))
+        }
         PlanRefusal::NoMemory => Err(AllocError),
     }
 }
@@ -240,6 +247,7 @@ fn write_plan(
     requires fits { start + count < 2 ^ 64 }
     requires writes { writes command.now ≡ true }
     requires range { range_of command.now ≡ Some (start, count) }
+    requires through { through ≡ is_through command.now }
     ensures { IfOk result (IsCut (opened_on key Write) (pieces_of key start count true) (IsBroughtBy command.now)) }
 {
     let count = counted(count)?;
@@ -263,6 +271,7 @@ fn write_pieces(
     requires fits { start + count < 2 ^ 64 }
     requires writes { writes command.now ≡ true }
     requires range { range_of command.now ≡ Some (start, count) }
+    requires through { through ≡ is_through command.now }
     ensures cut { IfOk result (λ pieces. map (λ (new : NewRecord). new.piece) pieces.items ≡ pieces_of key start count true) }
     ensures each { IfOk result (λ pieces. All (IsBroughtBy command.now) pieces.items) }
 {

@@ -5,6 +5,7 @@ use Rattle.std.specs.Option.{option_map_or}
 use Rattle.sector_base.specs.declared.places.Piece.{Piece}
 use Rattle.line_answers.specs.declared.answer.Answer.{Answer}
 use Rattle.lvm_script.specs.declared.line.Line.{Line}
+use Rattle.data_lines.specs.DataLines.{is_through}
 use Rattle.disk_model.specs.Calls.{Completes, MakesReady, Submits}
 use Rattle.disk_model.specs.Operations.{work_of}
 use Rattle.disk_model.specs.State.{IsLawful, State}
@@ -146,7 +147,8 @@ IsPartOf (Read start buffer) piece = (piece.write ≡ false) × (start ≤ piece
 IsPartOf Write piece = piece.write ≡ true
 IsPartOf (Whole answer) piece = ⊥
 
--- what an entering piece needs: its line is open and does as much, it stands on a disk, and its sectors are its line's
+-- what an entering piece needs: its line is open and does as much, it stands on a disk, its sectors are its line's, and it has a ticket
+-- to wait for its flush exactly where its line is through
 pub record MayEnter (w : World) (line : ℕ) (piece : Piece) (sectors : List (List ℕ)) (ticket : Option (Unit {0})) : Type 0 where
   pub opened : OpenLine
   pub is_open : open_at w.core.opens line ≡ Some opened
@@ -156,6 +158,7 @@ pub record MayEnter (w : World) (line : ℕ) (piece : Piece) (sectors : List (Li
   pub many : length sectors ≡ piece.count
   pub brought : piece.write ≡ true → sectors ≡ values_of (slice_get w.core.lines.begun line) piece
   pub through : is_some ticket ≡ true → piece.write ≡ true
+  pub waits : is_some ticket ≡ option_map_or (λ (l : Line). is_through l.command) (slice_get w.core.lines.begun line) false
   pub spare : 0 < w.core.pieces.claims.spare
   pub room : IsBorne w (more w.core.owed (piece_room piece (is_some ticket)))
 

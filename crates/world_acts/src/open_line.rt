@@ -42,12 +42,12 @@ impl OpenLine {
         }
     }
 
-    /// A line that is refused with this answer.
-    pub fn refused(answer: Answer) -> Self
-        ensures { result ≡ record { key = 0; work = WholeWork Fine; left = 0; failure = Some answer } }
+    /// The line with this key that is refused with this answer.
+    pub fn refused(key: u32, answer: Answer) -> Self
+        ensures { result ≡ record { key = key; work = WholeWork Fine; left = 0; failure = Some answer } }
     {
         OpenLine {
-            key: 0,
+            key,
             work: Work::Whole(Answer::Fine),
             left: 0,
             failure: Some(answer),

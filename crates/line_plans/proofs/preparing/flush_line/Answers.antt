@@ -2,7 +2,7 @@
 use Rattle.std.proofs.Common.{ℕ, false, None, refl, subst}
 use Rattle.std.proofs.lemmas.Result.{IfOk-weaker}
 use Rattle.command_table.specs.declared.command.Command.TheVariants as command
-use Rattle.line_plans.specs.Plans.{IsFlushing, IsPlanFor, IsRefusal}
+use Rattle.line_plans.specs.Plans.{IsFlushing, IsPlanFor}
 use Rattle.line_plans.proofs.Planned.{flush_planned, refused_planned}
 use Rattle.line_plans.proofs.preparing.flush_line.Goals as goal
 
@@ -17,7 +17,7 @@ returns-in-Ok c =
 
 pub returns-in-Err : goal.returns-in-Err
 returns-in-Err c =
-    IfOk-weaker c.refused_plan.result (IsRefusal c.in-Err.why) (IsPlanFor c.args.core.now c.args.line.now)
+    IfOk-weaker c.refused_plan.result _ (IsPlanFor c.args.core.now c.args.line.now)
     (λ plan made. refused_planned c.args.core.now.volumes (command.Flush c.args.path.now) c.args.path.now None false
     (record { volume = refl; sectors = refl; kind = refl }) c.args.core.now c.args.line.now plan c.in-Err.why refl c.requires.flushes
     c.in-Err.ensures made)

@@ -2,7 +2,7 @@
 use Rattle.std.proofs.Common.{false, Some, refl}
 use Rattle.std.proofs.lemmas.Result.{IfOk-weaker}
 use Rattle.command_table.specs.declared.command.Command.TheVariants as command
-use Rattle.line_plans.specs.Plans.{IsPlanFor, IsRefusal}
+use Rattle.line_plans.specs.Plans.{IsPlanFor}
 use Rattle.line_plans.proofs.Planned.{read_planned, refused_planned, sectors_fit}
 use Rattle.line_plans.proofs.preparing.read_line.Goals as goal
 
@@ -21,7 +21,7 @@ returns-in-Ok c =
 
 pub returns-in-Err : goal.returns-in-Err
 returns-in-Err c =
-    IfOk-weaker c.refused_plan.result (IsRefusal c.in-Err.why) (IsPlanFor c.args.core.now c.args.line.now)
+    IfOk-weaker c.refused_plan.result _ (IsPlanFor c.args.core.now c.args.line.now)
     (λ plan made. refused_planned c.args.core.now.volumes (command.Read c.args.path.now c.args.start c.args.count) c.args.path.now
     (Some (c.args.start, c.args.count)) false (record { volume = refl; sectors = refl; kind = refl }) c.args.core.now c.args.line.now plan
     c.in-Err.why refl c.requires.reads c.in-Err.ensures made)

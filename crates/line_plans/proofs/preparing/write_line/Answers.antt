@@ -1,7 +1,7 @@
 -- Its sectors can be counted, and what it is cut into is its plan.
 use Rattle.std.proofs.Common.{true, Some, refl}
 use Rattle.std.proofs.lemmas.Result.{IfOk-weaker}
-use Rattle.line_plans.specs.Plans.{IsPlanFor, IsRefusal}
+use Rattle.line_plans.specs.Plans.{IsPlanFor}
 use Rattle.line_plans.proofs.Planned.{refused_planned, sectors_fit, write_planned}
 use Rattle.line_plans.proofs.preparing.write_line.Goals as goal
 
@@ -22,7 +22,7 @@ returns-in-Ok c =
 
 pub returns-in-Err : goal.returns-in-Err
 returns-in-Err c =
-    IfOk-weaker c.refused_plan.result (IsRefusal c.in-Err.why) (IsPlanFor c.args.core.now c.args.line.now)
+    IfOk-weaker c.refused_plan.result _ (IsPlanFor c.args.core.now c.args.line.now)
     (λ plan made. refused_planned c.args.core.now.volumes c.args.line.now.command c.args.path.now (Some (c.args.start, c.args.count)) true
     (record { volume = c.requires.volume; sectors = c.requires.range; kind = c.requires.writes }) c.args.core.now c.args.line.now plan
     c.in-Err.why refl refl c.in-Err.ensures made)

@@ -45,5 +45,5 @@ loop-piece-preserved c =
           c.in_ok-push.ensures.items c.loop-piece.invariant.cut;
       each =
           each_more (IsBroughtBy c.args.command.now) c.loop-piece.pieces.items c.push.new.self.items new c.in_ok-push.ensures.items
-          c.loop-piece.invariant.each c.in_ok-sectors.ensures;
+          c.loop-piece.invariant.each (c.in_ok-sectors.ensures, c.in_ok-ticket.ensures ∙ c.requires.through);
     }
