@@ -1,5 +1,5 @@
 -- A line is answered, or the one that waits for all others: what the calls ask, and what is quiet then.
-use Rattle.std.proofs.Common.{◌≡◌, ◌≤◌, ◌<◌, ℕ, Bool, true, false, nat_eq, cond, ◌&&◌, get_or, Option, None, Some, IfSome}
+use Rattle.std.proofs.Common.{◌≡◌, ◌≤◌, ◌<◌, ℕ, Bool, true, false, nat_eq, cond, ◌&&◌, filter, get_or, length, Option, None, Some, IfSome}
 use Rattle.std.proofs.Common.{inl, is_none, is_some, sum_by, refl, sym, ap, subst, ◌∙◌, arith}
 use Rattle.std.specs.Option.{option_map_or}
 use Rattle.std.proofs.lemmas.Bool.{and_parts, eqb-false, ne_eqb}
@@ -10,7 +10,7 @@ use Rattle.world_acts.specs.declared.state.Core.{Core}
 use Rattle.world_acts.specs.declared.open_line.OpenLine.{OpenLine}
 use Rattle.world_acts.specs.declared.room.Room.{Room}
 use Rattle.disk_model.specs.State.{State}
-use Rattle.line_table.specs.Steps.{Lines, after_took, last_moment, may_enter, no_piece}
+use Rattle.line_table.specs.Steps.{Lines, after_took, is_open, last_moment, may_enter, no_piece}
 use Rattle.world_acts.specs.Acts.{Answers, Passes, Reaches, World, follows, world}
 use Rattle.world_acts.specs.Counts.{line_entries, room_of}
 use Rattle.world_acts.specs.OpenLines.{IsBarrier, Opens, after_closed, is_whole, left_of, open_at, open_of}
@@ -178,8 +178,8 @@ pub closed_calm : (c mid new : Core) (line moment : ℕ) → is_some (open_at c.
 closed_calm c mid new line moment some is then calm =
     then (subst (λ (d : Core). IsQuiet no_one no_one d) (sym is) (answered_quiet c line moment some calm.quiet))
 
-pub passed_reaches : (s : State) (c new : Core) (line : ℕ) → c.barrier ≡ Some line
+pub passed_reaches : (s : State) (c new : Core) (line : ℕ) → c.barrier ≡ Some line → length (filter is_open c.lines.answers) ≤ 1
     → new ≡ after_answers (record c { barrier = None }) line s.steps
     → Reaches follows (world s c) (world s new)
-passed_reaches s c new line waits is =
-    subst (λ (d : Core). Reaches follows (world s c) (world s d)) (sym is) (reaches_act follows (world s c) (Passes line) refl waits)
+passed_reaches s c new line waits few is =
+    subst (λ (d : Core). Reaches follows (world s c) (world s d)) (sym is) (reaches_act follows (world s c) (Passes line) refl (waits, few))

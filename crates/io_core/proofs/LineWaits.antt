@@ -69,7 +69,7 @@ waits_failed line pv w opened =
     let d : Core = after_line_fails c line (PvFailed pv) in
     let found : (x : OpenLine) × (open_at c.opens line ≡ Some x) = some_of (open_at c.opens line) opened in
     record {
-      reaches = reaches_act carries_on w (LineFails line (PvFailed pv)) refl opened;
+      reaches = reaches_act carries_on w (LineFails line (PvFailed pv)) refl (opened, (pv, refl));
       room = λ r b. borne_same w (after w (LineFails line (PvFailed pv))) (more c.owed (more (flushes_room 1) r)) (more c.owed r)
           (covers_last c.owed (flushes_room 1) r) refl refl refl refl b;
       calm = λ k. record {

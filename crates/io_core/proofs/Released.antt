@@ -7,6 +7,7 @@ use Rattle.std.proofs.lemmas.List.{get_or-set_other, get_or-set_same, length-dro
 use Rattle.std.proofs.lemmas.List.Sums.{get_or-le-sum_by}
 use Rattle.std.proofs.lemmas.Option.{none-some, same_Some}
 use Rattle.line_answers.specs.declared.answer.Answer.{Answer}
+use Rattle.line_answers.specs.declared.answer.Answer.TheVariants.{PvFailed}
 use Rattle.flush_plan.specs.Plans.{flight_of}
 use Rattle.flush_waits.specs.declared.ticket.Waiter.{Waiter}
 use Rattle.flush_waits.specs.declared.ticket.Waiter.TheVariants as waiter
@@ -151,9 +152,10 @@ releases_one w pv line o within ended is calm = by (released_at w.core pv) refl 
         (calm_weaker no_one no_one no_one (just line) w.core (λ q not. not) (λ q not. refl) calm))
 
 -- its line fails too, where the flush did
-pub warned : (w : World) (pv line : ℕ) (c : Core) (why : Answer) (well : Bool) → ReleasesOne w pv line (world w.shelf c)
-    → ReleasesOne w pv line (world w.shelf (cond well c (after_line_fails c line why)))
-warned w pv line c why well r =
+pub warned : (w : World) (pv line : ℕ) (c : Core) (well : Bool) → ReleasesOne w pv line (world w.shelf c)
+    → ReleasesOne w pv line (world w.shelf (cond well c (after_line_fails c line (PvFailed pv))))
+warned w pv line c well r =
+    let why : Answer = PvFailed pv in
     let v : World = world w.shelf c in
     let d : Core = after_line_fails c line why in
     let p = some_of (open_at c.opens line) r.opened in
@@ -161,7 +163,7 @@ warned w pv line c why well r =
     cond_both well c d (λ (x : Core). ReleasesOne w pv line (world w.shelf x)) (λ t. r)
     (λ t. record {
       reaches =
-          reaches_both follows w v (world w.shelf d) r.reaches (reaches_act follows v (LineFails line why) refl r.opened);
+          reaches_both follows w v (world w.shelf d) r.reaches (reaches_act follows v (LineFails line why) refl (r.opened, (pv, refl)));
       calm = line_fails_calm c line why no_one (just line) (eq-eqb line line refl) r.calm;
       opened = ap is_some q.1;
       other = r.other;

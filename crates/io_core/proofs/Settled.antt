@@ -1,7 +1,10 @@
 -- A piece whose operation has ended took place, or fails.
 use Rattle.std.proofs.Common.{◌≡◌, ◌<◌, ℕ, Bool, true, false, cond, nat_eq, nat_le, List, [], length, Option, None, Some, is_some, refl}
 use Rattle.std.proofs.Common.{sym, ap, subst}
-use Rattle.std.proofs.Common.{◌∙◌, arith}
+use Rattle.std.proofs.Common.{◌∙◌, ◌||◌, arith}
+use Rattle.std.specs.Cmp.{nat_cmp_total, unsigned_tied}
+use Rattle.std.specs.FinSet as set
+use Rattle.std.specs.Ordering.{nat_cmp}
 use Rattle.std.proofs.lemmas.Bool.{cond_both, eq-eqb, eqb-false, eqb-true}
 use Rattle.std.proofs.lemmas.List.{get_or-set_other, get_or-set_same}
 use Rattle.sector_base.specs.declared.spans.Span.{Span}
@@ -9,7 +12,7 @@ use Rattle.line_answers.specs.declared.answer.Answer.{Answer}
 use Rattle.disk_model.specs.declared.ops.Op.{Op}
 use Rattle.disk_model.specs.declared.ops.Op.TheVariants.{Flush, Read, Write}
 use Rattle.disk_model.specs.Operations.{Lies, work_of}
-use Rattle.disk_model.specs.Steps.{Flushing, Reading, Writing, sectors_of_work}
+use Rattle.disk_model.specs.Steps.{Flushing, Reading, Work as DiskWork, Writing, sectors_of_work}
 use Rattle.flush_plan.specs.declared.records.Flush.{Flush as InFlight}
 use Rattle.flush_plan.specs.Plans.{flight_of, marks_of}
 use Rattle.flush_waits.specs.declared.ticket.Waiting.{Waiting}
@@ -22,7 +25,8 @@ use Rattle.piece_table.specs.Pieces.{flying_at, is_started, is_started_stage, li
 use Rattle.piece_table.specs.Steps.{live_of}
 use Rattle.world_acts.specs.declared.state.Core.{Core}
 use Rattle.world_acts.specs.declared.open_line.OpenLine.{OpenLine}
-use Rattle.world_acts.specs.Acts.{Allowed, Fails, Marks, Reads, World, Writes, after, follows}
+use Rattle.world_acts.specs.declared.volumes.Volumes.{Volumes}
+use Rattle.world_acts.specs.Acts.{Allowed, Fails, IsFailure, Marks, Reads, World, Writes, after, follows}
 use Rattle.world_acts.specs.OpenLines.{after_failure, after_filled, after_finished, filled as filled_work, left_of, open_at, open_of}
 use Rattle.world_acts.specs.Orderly.{AreReleased, IsOfLine, IsOrderly}
 use Rattle.world_acts.specs.Steps.{after_leaves, after_stays, after_written}
@@ -73,16 +77,23 @@ settles_marked w pv number v disk s =
       released = s.released;
     }
 
+-- a set has what is put into it
+pub insert_has : (failed : set.FinSet nat_cmp) (pv : ℕ) → set.contains (set.insert failed pv) pv ≡ true
+insert_has failed pv =
+    set.contains-insert nat_cmp_total failed pv pv ∙ ap (λ (t : Bool). t || set.contains failed pv) (unsigned_tied pv pv)
+    ∙ ap (λ (t : Bool). t || set.contains failed pv) (eq-eqb pv pv refl)
+
 pub settles_failed : (w : World) (number : ℕ) (why : Answer) → IsOrderly w → is_started w.core.pieces number ≡ true
     → flying_at w.core.pieces number ≡ 0
+    → IsFailure w.core (live_of w.core.pieces number).piece why
     → Settles w number (after w (Fails number why))
-settles_failed w number why o started landed =
+settles_failed w number why o started landed fails =
     let x : LivePiece = live_of w.core.pieces number in
     let p : OfLine w number = started_there w number o started in
     let failed =
     (line_failed w.core.opens p.live.line p.of_line.opened why p.of_line.is_open).lines p.live.line p.of_line.opened p.of_line.is_open in
     record {
-      reaches = reaches_act follows w (Fails number why) refl (started, landed);
+      reaches = reaches_act follows w (Fails number why) refl (started, landed, fails);
       calm =
           λ is. fails_calm w.core number w.shelf.steps why p.live (just x.line) o.tidy.pieces.single p.at (eq-eqb x.line x.line refl)
           (calm_weaker (just number) (just number) no_one (just x.line) w.core (λ q not. not) (λ q not. refl) is);
@@ -187,10 +198,24 @@ settles_wrote w number pv o allowed =
 -- ---- operations
 
 -- what is known of the operation of a piece
-abbrev pub OpIs : List ℕ → LivePiece → Op → Type 0
-OpIs sizes l (Write span sectors) = (l.piece.write ≡ true) × (span.pv < length sizes)
-OpIs sizes l (Read span sectors) = (l.piece.write ≡ false) × (length sectors ≡ l.piece.count)
-OpIs sizes l (Flush pv) = ⊥
+abbrev pub OpIs : List ℕ → Volumes → LivePiece → Op → Type 0
+OpIs sizes volumes l (Write span sectors) =
+    (l.piece.write ≡ true) × (span.pv < length sizes) × ((span_of volumes l.piece).pv ≡ span.pv)
+OpIs sizes volumes l (Read span sectors) =
+    (l.piece.write ≡ false) × (length sectors ≡ l.piece.count) × ((span_of volumes l.piece).pv ≡ span.pv)
+OpIs sizes volumes l (Flush pv) = ⊥
+
+-- the disk of an operation, or 0
+disk_in : DiskWork → ℕ
+disk_in (Writing span sectors) = span.pv
+disk_in (Reading span) = span.pv
+disk_in (Flushing pv) = pv
+
+-- an operation of a piece is on the disk on which that stands
+on_disk : (other : Span) (values : List (List ℕ)) (work : DiskWork) (b : Bool) → work ≡ cond b (Writing other values) (Reading other)
+    → other.pv ≡ disk_in work
+on_disk other values work true same = sym (ap disk_in same)
+on_disk other values work false same = sym (ap disk_in same)
 
 -- a write isn't a read, and a flush is neither
 writing_only : (span other : Span) (sectors values : List (List ℕ)) (b : Bool)
@@ -211,15 +236,17 @@ flushing_never pv other values false same = cc
 
 op_is : (c : Core) (sizes : List ℕ) (l : LivePiece) (op : Op) → IsPlaced c.volumes sizes l.piece → work_of op ≡ piece_work c l
     → Lies sizes op
-    → OpIs sizes l op
+    → OpIs sizes c.volumes l op
 op_is c sizes l (Write span sectors) placed same lies = (
   writing_only span (span_of c.volumes l.piece) sectors (values_of (line_of c l) l.piece) l.piece.write same,
   lies.disk,
+  on_disk (span_of c.volumes l.piece) (values_of (line_of c l) l.piece) (Writing span sectors) l.piece.write same,
 )
 op_is c sizes l (Read span sectors) placed same lies =
     let count : span.count ≡ l.piece.count = ap sectors_of_work same ∙ work_count c sizes l placed in (
       reading_only span (span_of c.volumes l.piece) (values_of (line_of c l) l.piece) l.piece.write same,
       lies.buffer ∙ count,
+      on_disk (span_of c.volumes l.piece) (values_of (line_of c l) l.piece) (Reading span) l.piece.write same,
     )
 op_is c sizes l (Flush pv) placed same lies =
     flushing_never pv (span_of c.volumes l.piece) (values_of (line_of c l) l.piece) l.piece.write same
@@ -227,11 +254,11 @@ op_is c sizes l (Flush pv) placed same lies =
 pub settled_op : (w : World) (number : ℕ) (op : Op) → IsOrderly w → is_started w.core.pieces number ≡ true
     → work_of op ≡ piece_work w.core (live_of w.core.pieces number)
     → Lies w.shelf.sizes op
-    → OpIs w.shelf.sizes (live_of w.core.pieces number) op
+    → OpIs w.shelf.sizes w.core.volumes (live_of w.core.pieces number) op
 settled_op w number op o started works lies =
     let p : OfLine w number = started_there w number o started in
     let placed : IsPlaced w.core.volumes w.shelf.sizes p.live.piece =
     at_number (λ (e : ℕ × LivePiece). IsPlaced w.core.volumes w.shelf.sizes e.1.piece) w.core.pieces.lives number p.live
     o.backed.places.placed p.at in
-    subst (λ (l : LivePiece). OpIs w.shelf.sizes l op) (sym p.is)
+    subst (λ (l : LivePiece). OpIs w.shelf.sizes w.core.volumes l op) (sym p.is)
     (op_is w.core w.shelf.sizes p.live op placed (works ∙ ap (piece_work w.core) p.is) lies)

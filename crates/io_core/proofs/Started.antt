@@ -6,6 +6,7 @@ use Rattle.std.specs.List.{list_any}
 use Rattle.std.specs.Option.{option_map_or}
 use Rattle.line_answers.specs.declared.answer.Answer.{Answer}
 use Rattle.sector_base.specs.declared.places.At.{At}
+use Rattle.sector_base.specs.declared.places.Piece.{Piece}
 use Rattle.disk_model.specs.declared.ops.Op.{Op}
 use Rattle.disk_model.specs.Calls.{Submits}
 use Rattle.disk_model.specs.Operations.{work_of}
@@ -17,7 +18,7 @@ use Rattle.piece_table.specs.Pieces.{AreClaimed, Pieces, flying_at, flying_of, i
 use Rattle.piece_table.specs.Pieces.{live_at, may_start, owner_at}
 use Rattle.piece_table.specs.Steps.{after_flies, live_of, with_stage}
 use Rattle.world_acts.specs.declared.state.Core.{Core}
-use Rattle.world_acts.specs.Acts.{Allowed, Asks, Fails, Reaches, Starts, World, after, follows, world}
+use Rattle.world_acts.specs.Acts.{Allowed, Asks, Fails, IsFailure, Reaches, Starts, World, after, follows, world}
 use Rattle.world_acts.specs.OpenLines.{Opens, after_failure, open_at}
 use Rattle.world_acts.specs.Orderly.{IsOrderly}
 use Rattle.world_acts.specs.declared.room.Room.{Room}
@@ -56,6 +57,7 @@ pub record StartedAt (w : World) (number : ℕ) : Type 0 where
   pub live : LivePiece
   pub at : live_at (after w (Starts number)).core.pieces.lives number ≡ Some live
   pub line : live.line ≡ (live_of w.core.pieces number).line
+  pub piece : live.piece ≡ (live_of w.core.pieces number).piece
   pub started : is_started (after w (Starts number)).core.pieces number ≡ true
   pub landed : flying_at (after w (Starts number)).core.pieces number ≡ 0
   pub orderly : IsOrderly (after w (Starts number))
@@ -72,6 +74,7 @@ started_piece w number l o at waits =
       live = mid;
       at = own_at first;
       line = refl;
+      piece = refl;
       started = ap (λ (x : Option LivePiece). option_map_or (λ (y : LivePiece). is_started_stage y.stage) x false) (own_at first);
       landed = ap (λ (x : Option LivePiece). option_map_or (λ (y : LivePiece). flying_of y.stage) x 0) (own_at first);
       orderly = after_start w number o waits;
@@ -81,14 +84,17 @@ pub starts_failed : (w : World) (number : ℕ) (why : Answer) (l : LivePiece) �
     → is_waiting w.core.pieces number ≡ true
     → list_any (has_number number) w.core.pieces.claims.deferred ≡ false
     → AreClaimed (after w (Starts number)).core.pieces.claims (after w (Starts number)).core.pieces.lives
+    → IsFailure w.core l.piece why
     → StartsIn w number (after (after w (Starts number)) (Fails number why))
-starts_failed w number why l o at waits free claimed =
+starts_failed w number why l o at waits free claimed fails =
     let u : World = after w (Starts number) in
     let v : World = after u (Fails number why) in
     let s : StartedAt w number = started_piece w number l o at waits in
     let x : LivePiece = live_of u.core.pieces number in
     let same : x ≡ s.live = live_is u.core.pieces number s.live s.at in
     let line : x.line ≡ (live_of w.core.pieces number).line = ap (λ (y : LivePiece). y.line) same ∙ s.line in
+    let piece : x.piece ≡ l.piece =
+    ap (λ (y : LivePiece). y.piece) same ∙ s.piece ∙ ap (λ (y : LivePiece). y.piece) (live_is w.core.pieces number l at) in
     let its : x.line ≡ l.line = line ∙ ap (λ (y : LivePiece). y.line) (live_is w.core.pieces number l at) in
     let f = live_open w number l o at in
     let here : open_at w.core.opens x.line ≡ Some f.opened = ap (λ (n : ℕ). open_at w.core.opens n) its ∙ f.is_open in
@@ -97,7 +103,8 @@ starts_failed w number why l o at waits free claimed =
     record {
       reaches =
           reaches_both follows w u v (reaches_act follows w (Starts number) refl waits)
-          (reaches_act follows u (Fails number why) refl (s.started, s.landed));
+          (reaches_act follows u (Fails number why) refl
+          (s.started, s.landed, subst (λ (p : Piece). IsFailure u.core p why) (sym piece) fails));
       calm =
           λ lines exempt is. fails_calm u.core number w.shelf.steps why s.live lines s.orderly.tidy.pieces.single s.at
           (ap lines line ∙ exempt) (starts_calm w.core number l lines o.tidy.pieces.single at is);
@@ -186,14 +193,15 @@ pub fails_so : (s : State) (c d : Core) (number : ℕ) (l : LivePiece) (why : An
     → room ≡ start_room l.piece
     → r ≡ fewer c.owed room
     → AreClaimed p.claims p.lives
+    → IsFailure c l.piece why
     → d ≡ after_fails (record c { pieces = p; owed = r }) number why s.steps
     → StartsIn (world s c) number (world s d)
-fails_so s c d number l why p r room o at may pieces used owes claimed after =
+fails_so s c d number l why p r room o at may pieces used owes claimed fails after =
     let m : MayStartNow c.pieces number = may_start_now c.pieces number may in
     let is : record c { pieces = p; owed = r } ≡ after_starts c number = started_core c number l p r room at pieces used owes in
     subst (λ (x : Core). StartsIn (world s c) number (world s x))
     (sym (after ∙ ap (λ (x : Core). after_fails x number why s.steps) is))
-    (starts_failed (world s c) number why l o at m.waits m.free (subst (λ (x : Pieces). AreClaimed x.claims x.lives) pieces claimed))
+    (starts_failed (world s c) number why l o at m.waits m.free (subst (λ (x : Pieces). AreClaimed x.claims x.lives) pieces claimed) fails)
 
 pub asks_so : (s now : State) (c : Core) (number tag : ℕ) (l : LivePiece) (at : At) (sectors : List (List ℕ)) (op : Op) (p q : Pieces)
     (r room : Room)

@@ -9,6 +9,7 @@ ghost use Rattle.world_acts.specs.Acts.{Reaches, core_released, follows, release
 ghost use Rattle.world_acts.specs.OpenLines.{left_of, open_at};
 ghost use Rattle.world_acts.specs.Orderly.{AreReleased, IsOrderly, IsTidy};
 ghost use Rattle.world_acts.specs.Owners.{piece_work};
+ghost use Rattle.world_acts.specs.Volumes.{span_of};
 ghost use Rattle.world_acts.specs.Steps.{after_leaves, after_line_fails, after_marks, after_reads, after_wrote};
 ghost use Rattle.io_core.specs.Rest.{AreReleasedBut, IsCalm, Settles, just, line_released, no_one};
 
@@ -61,6 +62,7 @@ fn settle_write<S: Shelf>(shelf: &S, core: &mut Core, number: u64, pv: u32, well
     requires landed { flying_at core.old.pieces number ≡ 0 }
     requires write { (live_of core.old.pieces number).piece.write ≡ true }
     requires disk { pv < length core.old.waits.disks }
+    requires place { (span_of core.old.volumes (live_of core.old.pieces number).piece).pv ≡ pv }
     ensures { Settles (world (S.state shelf.now) core.old) number (world (S.state shelf.now) core.new) }
 {
     if well {
@@ -85,6 +87,7 @@ fn settle_read<S: Shelf>(
     requires landed { flying_at core.old.pieces number ≡ 0 }
     requires read { (live_of core.old.pieces number).piece.write ≡ false }
     requires many { length sectors.now ≡ (live_of core.old.pieces number).piece.count }
+    requires place { (span_of core.old.volumes (live_of core.old.pieces number).piece).pv ≡ pv }
     ensures { Settles (world (S.state shelf.now) core.old) number (world (S.state shelf.now) core.new) }
 {
     if well {

@@ -202,7 +202,7 @@ after_hold w line o allowed = with_others w w.core.pieces.claims w.core.failed (
 
 pub after_pass : (w : World) (line : ℕ) → IsOrderly w → Allowed w (Passes line) → IsOrderly (after w (Passes line))
 after_pass w line o allowed =
-    let is : IsBarrier w.core.opens line = subst (λ (x : Option ℕ). IfSome x (IsBarrier w.core.opens)) allowed o.tidy.lines.holds in
+    let is : IsBarrier w.core.opens line = subst (λ (x : Option ℕ). IfSome x (IsBarrier w.core.opens)) allowed.0 o.tidy.lines.holds in
     let left : left_of w.core.opens line ≡ is.opened.left =
     ap (λ (x : Option OpenLine). option_map_or (λ (y : OpenLine). y.left) x 0) is.is_open in
     after_answered (record w { core = record w.core { barrier = None } }) line (with_others w w.core.pieces.claims w.core.failed None o tt)

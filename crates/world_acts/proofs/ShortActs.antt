@@ -73,7 +73,7 @@ pub after_line_failure : (w : World) (line : ℕ) (why : Answer) → IsOrderly w
     → IsOrderly (after w (LineFails line why))
 after_line_failure w line why o allowed =
     let c : Core = w.core in
-    let found : (x : OpenLine) × (open_at c.opens line ≡ Some x) = some_of (open_at c.opens line) allowed in
+    let found : (x : OpenLine) × (open_at c.opens line ≡ Some x) = some_of (open_at c.opens line) allowed.0 in
     let stay : LinesStay line never never c.opens (after_failure c.opens line why) = line_failed c.opens line found.0 why found.1 in
     let t = o.tidy in
     let b = o.backed in

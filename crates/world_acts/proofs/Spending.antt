@@ -294,7 +294,7 @@ answer_spends w barrier line o stands =
 
 pass_spends : (w : World) (line : ℕ) → IsOrderly w → Allowed w (Passes line) → Spends w (after w (Passes line))
 pass_spends w line o allowed =
-    let is : IsBarrier w.core.opens line = subst (λ (x : Option ℕ). IfSome x (IsBarrier w.core.opens)) allowed o.tidy.lines.holds in
+    let is : IsBarrier w.core.opens line = subst (λ (x : Option ℕ). IfSome x (IsBarrier w.core.opens)) allowed.0 o.tidy.lines.holds in
     answer_spends w None line o (ap is_some is.is_open)
 
 -- ---- flushes

@@ -1,9 +1,11 @@
 -- Acts: an event is a list of them, and each adds one step of the shelf or one entry at the most.
 use Rattle.std.specs.Prelude.{◌≡◌, ◌≤◌, ◌<◌, ◌≢◌, All, ℕ, ◌+◌, Bool, true, false, not, ◌&&◌, IsTrue, List, [], ◌∷◌, length, Option}
-use Rattle.std.specs.Prelude.{None, Some, is_some, slice_get}
+use Rattle.std.specs.Prelude.{None, Some, filter, is_some, slice_get}
+use Rattle.std.specs.FinSet as set
 use Rattle.std.specs.Option.{option_map_or}
 use Rattle.sector_base.specs.declared.places.Piece.{Piece}
 use Rattle.line_answers.specs.declared.answer.Answer.{Answer}
+use Rattle.line_answers.specs.declared.answer.Answer.TheVariants.{PvFailed, ReadFailed}
 use Rattle.lvm_script.specs.declared.line.Line.{Line}
 use Rattle.data_lines.specs.DataLines.{is_through}
 use Rattle.disk_model.specs.Calls.{Completes, MakesReady, Submits}
@@ -12,6 +14,7 @@ use Rattle.disk_model.specs.State.{IsLawful, State}
 use Rattle.disk_model.specs.declared.ops.Done.{Done}
 use Rattle.disk_model.specs.declared.ops.Op.{Op}
 use Rattle.disk_model.specs.declared.ops.Op.TheVariants.{Flush}
+use Rattle.line_table.specs.Steps.{is_open}
 use Rattle.claim_table.specs.Claims.{IsEntry, ready_at}
 use Rattle.claim_table.specs.declared.claim.Entry.{Entry}
 use Rattle.flush_plan.specs.Plans.{flight_of, marks_of}
@@ -28,7 +31,7 @@ use Rattle.world_acts.specs.declared.room.Room.{Room}
 use Rattle.world_acts.specs.Rooms.{IsCounted, line_room, more, piece_room, work_entries}
 use Rattle.world_acts.specs.OpenLines.{IsBarrier, is_whole, left_of, open_at, open_of}
 use Rattle.world_acts.specs.Owners.{piece_work, values_of}
-use Rattle.world_acts.specs.Volumes.{IsPlaced}
+use Rattle.world_acts.specs.Volumes.{IsPlaced, span_of}
 use Rattle.world_acts.specs.Steps.{after_answers, after_asks, after_awaits, after_begins, after_ends, after_enters, after_fails}
 use Rattle.world_acts.specs.Steps.{after_flush, after_flushed, after_line_fails, after_marks, after_reads, after_released, after_starts}
 use Rattle.world_acts.specs.Steps.{after_wakes, after_wrote, grown}
@@ -173,16 +176,26 @@ pub record MayAwait (w : World) (line pv : ℕ) : Type 0 where
   pub room : w.core.owed.waits < w.core.waits.room
   pub spare : IsBorne w (more w.core.owed (record { ops = 1; sectors = 0; writes = 0; waits = 0; entries = 0 }))
 
+-- what a piece that fails makes its line answer: that the disk on which it stands has failed, or, of a read, that it couldn't be read there
+abbrev pub IsFailure : Core → Piece → Answer → Type 0
+IsFailure c piece (PvFailed pv) = ((span_of c.volumes piece).pv ≡ pv) × (set.contains c.failed pv ≡ true)
+IsFailure c piece (ReadFailed pv) = ((span_of c.volumes piece).pv ≡ pv) × (piece.write ≡ false)
+IsFailure c piece _ = ⊥
+
+-- the answer says that a disk has failed
+abbrev pub TellsDisk : Answer → Type 0
+TellsDisk why = (pv : ℕ) × (why ≡ PvFailed pv)
+
 -- when an act may be
 abbrev pub Allowed : World → Act → Type 0
 Allowed w (Begins line opened) = MayBegin w opened
 Allowed w (Enters line piece sectors ticket entry) =
     MayEnter w line piece sectors ticket × IsEntry w.core.pieces.claims (claim_of w.core.pieces.next piece None) entry
 Allowed w (Awaits line pv) = MayAwait w line pv
-Allowed w (LineFails line why) = IsTrue (is_some (open_at w.core.opens line))
+Allowed w (LineFails line why) = IsTrue (is_some (open_at w.core.opens line)) × TellsDisk why
 Allowed w (Answers line) = IsTrue (is_some (open_at w.core.opens line)) × (left_of w.core.opens line ≡ 0) × (w.core.barrier ≢ Some line)
 Allowed w (Holds line) = (w.core.barrier ≡ None) × IsBarrier w.core.opens line
-Allowed w (Passes line) = w.core.barrier ≡ Some line
+Allowed w (Passes line) = (w.core.barrier ≡ Some line) × (length (filter is_open w.core.lines.answers) ≤ 1)
 Allowed w Wakes = ready_at w.core.pieces.claims < length w.core.pieces.claims.deferred
 Allowed w (Starts number) = IsTrue (is_waiting w.core.pieces number)
 Allowed w (Asks number op tag now) =
@@ -190,7 +203,9 @@ Allowed w (Asks number op tag now) =
     (work_of op ≡ piece_work w.core (live_of w.core.pieces number))
 Allowed w (Ends done now) = Completes w.shelf done now × IsLawful now × IsTrue (is_some (owner_at w.core.pieces.owners done.tag))
 Allowed w (Marks pv) = pv < length w.shelf.sizes
-Allowed w (Fails number why) = IsTrue (is_started w.core.pieces number) × (flying_at w.core.pieces number ≡ 0)
+Allowed w (Fails number why) =
+    IsTrue (is_started w.core.pieces number) × (flying_at w.core.pieces number ≡ 0)
+    × IsFailure w.core (live_of w.core.pieces number).piece why
 Allowed w (Writes number pv) =
     IsTrue (is_started w.core.pieces number) × (flying_at w.core.pieces number ≡ 0) × (pv < length w.shelf.sizes)
     × ((live_of w.core.pieces number).piece.write ≡ true)

@@ -14,7 +14,7 @@ answer_line-requires g c = record {
 pub returns-clause-reaches : goal.returns-clause-reaches
 returns-clause-reaches g c =
     passed_reaches (g.S.Shelf.state c.args.shelf.now) c.args.core.now c.answer_line.new.core c.in-Some.line c.in-Some.is
-    c.answer_line.ensures
+    ?few c.answer_line.ensures
 
 pub returns-clause-calm : goal.returns-clause-calm
 returns-clause-calm g c =

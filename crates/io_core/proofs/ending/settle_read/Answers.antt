@@ -17,4 +17,5 @@ pub returns : goal.returns
 returns g c =
     let w : World = world (g.S.Shelf.state c.args.shelf.now) c.args.core.now in
     subst (λ (x : Core). Settles w c.args.number (world (g.S.Shelf.state c.args.shelf.now) x)) (sym c.fail.ensures)
-    (settles_failed w c.args.number (ReadFailed c.args.pv) c.requires.orderly c.requires.started c.requires.landed)
+    (settles_failed w c.args.number (ReadFailed c.args.pv) c.requires.orderly c.requires.started c.requires.landed
+    (c.requires.place, c.requires.read))

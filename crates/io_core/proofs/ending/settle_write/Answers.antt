@@ -6,7 +6,7 @@ use Rattle.world_acts.specs.Orderly.{IsOrderly}
 use Rattle.world_acts.specs.Steps.{after_fails, after_marks}
 use Rattle.world_acts.proofs.ShortActs.{after_mark}
 use Rattle.io_core.specs.Rest.{Settles}
-use Rattle.io_core.proofs.Settled.{settles_failed, settles_marked, settles_wrote}
+use Rattle.io_core.proofs.Settled.{insert_has, settles_failed, settles_marked, settles_wrote}
 use Rattle.io_core.proofs.ending.settle_write.Goals as goal
 
 pub returns-then-well : goal.returns-then-well
@@ -51,4 +51,4 @@ returns g c =
     (after_fails (after_marks c.args.core.now c.args.pv) c.args.number (PvFailed c.args.pv) (g.S.Shelf.state c.args.shelf.now).steps))
     disk
     (settles_failed u c.args.number (PvFailed c.args.pv) (after_mark w c.args.pv c.requires.orderly) c.requires.started
-    c.requires.landed))
+    c.requires.landed (c.requires.place, insert_has w.core.failed c.args.pv)))
