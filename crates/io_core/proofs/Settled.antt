@@ -206,7 +206,7 @@ OpIs sizes volumes l (Read span sectors) =
 OpIs sizes volumes l (Flush pv) = ⊥
 
 -- the disk of an operation, or 0
-disk_in : DiskWork → ℕ
+abbrev disk_in : DiskWork → ℕ
 disk_in (Writing span sectors) = span.pv
 disk_in (Reading span) = span.pv
 disk_in (Flushing pv) = pv

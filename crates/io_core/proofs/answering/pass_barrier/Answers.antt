@@ -1,4 +1,4 @@
-use Rattle.std.proofs.Common.{sym, subst}
+use Rattle.std.proofs.Common.{sym, subst, arith}
 use Rattle.world_acts.specs.declared.state.Core.{Core}
 use Rattle.io_core.specs.Rest.{IsCalm, no_one}
 use Rattle.io_core.proofs.AnsweredLines.{barrier_over, barrier_some, free_orderly, passed_calm, passed_reaches}
@@ -14,7 +14,7 @@ answer_line-requires g c = record {
 pub returns-clause-reaches : goal.returns-clause-reaches
 returns-clause-reaches g c =
     passed_reaches (g.S.Shelf.state c.args.shelf.now) c.args.core.now c.answer_line.new.core c.in-Some.line c.in-Some.is
-    ?few c.answer_line.ensures
+    (omega (arith, c.open_count.ensures, c.if-open_count-gt1.false)) c.answer_line.ensures
 
 pub returns-clause-calm : goal.returns-clause-calm
 returns-clause-calm g c =

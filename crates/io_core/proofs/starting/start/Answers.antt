@@ -1,4 +1,5 @@
-use Rattle.std.proofs.Common.{◌≡◌, ◌≤◌, ◌<◌, None, true, sym, subst}
+use Rattle.std.proofs.Common.{◌≡◌, ◌≤◌, ◌<◌, None, Option, true, ap, sym, subst, ◌∙◌}
+use Rattle.sector_base.specs.declared.places.At.{At}
 use Rattle.line_answers.specs.declared.answer.Answer.TheVariants.{PvFailed}
 use Rattle.disk_model.specs.declared.ops.Op.{Op}
 use Rattle.disk_model.specs.Operations.{Lies, sectors_of}
@@ -6,12 +7,14 @@ use Rattle.piece_table.specs.declared.live.LivePiece.{LivePiece}
 use Rattle.piece_table.specs.Pieces.{Pieces, flying_at, is_started, is_waiting_stage, live_at, owner_at}
 use Rattle.world_acts.specs.declared.state.Core.{Core}
 use Rattle.world_acts.specs.declared.room.Room.{Room}
-use Rattle.world_acts.specs.Acts.{World, world}
+use Rattle.world_acts.specs.Acts.{IsFailure, World, world}
 use Rattle.world_acts.specs.Orderly.{IsOrderly}
 use Rattle.world_acts.specs.Rooms.{Covers}
+use Rattle.world_acts.specs.Volumes.{span_at}
 use Rattle.io_core.proofs.PieceAsks.{MayStart, found, has_room, inside_at, may_start_at, start_covered}
 use Rattle.io_core.proofs.Started.{asks_so, fails_so, may_fly, started_core, started_piece}
 use Rattle.io_core.proofs.Waking.{may_start_now}
+use Rattle.io_core.proofs.starting.start.Given.{Over}
 use Rattle.io_core.proofs.starting.start.Goals as goal
 
 pub primary-at-requires-clause-inside : goal.primary-at-requires-clause-inside
@@ -51,29 +54,36 @@ fail-requires-clause-landed g c =
     (started_piece w c.args.number c.get.result.now c.requires.orderly c.get.ensures
     (may_start_now c.args.core.now.pieces c.args.number c.requires.waiting).waits).landed
 
+its_disk : (g : Over) (c : goal.After-drop-sectors-inside g)
+    → IsFailure c.args.core.now c.get.result.now.piece (PvFailed c.primary-at.result.pv)
+its_disk g c = (
+  ap (λ (o : Option At). (span_at c.get.result.now.piece.count o).pv) c.primary-at.ensures,
+  sym c.contains.ensures ∙ c.if-contains.true,
+)
+
 pub returns-then-contains-clause-reaches : goal.returns-then-contains-clause-reaches
 returns-then-contains-clause-reaches g c =
     (fails_so (g.S.Shelf.state c.args.shelf.now) c.args.core.now c.fail.new.core c.args.number c.get.result.now
     (PvFailed c.primary-at.result.pv) c.start-sectors.new.self c.shrink.new.self c.of_start.result c.requires.orderly c.get.ensures
-    c.requires.waiting c.start-sectors.ensures.after c.of_start.ensures c.shrink.ensures c.agree.ensures.claimed ?failure c.fail.ensures).reaches
+    c.requires.waiting c.start-sectors.ensures.after c.of_start.ensures c.shrink.ensures c.agree.ensures.claimed (its_disk g c) c.fail.ensures).reaches
 
 pub returns-then-contains-clause-calm : goal.returns-then-contains-clause-calm
 returns-then-contains-clause-calm g c =
     (fails_so (g.S.Shelf.state c.args.shelf.now) c.args.core.now c.fail.new.core c.args.number c.get.result.now
     (PvFailed c.primary-at.result.pv) c.start-sectors.new.self c.shrink.new.self c.of_start.result c.requires.orderly c.get.ensures
-    c.requires.waiting c.start-sectors.ensures.after c.of_start.ensures c.shrink.ensures c.agree.ensures.claimed ?failure c.fail.ensures).calm
+    c.requires.waiting c.start-sectors.ensures.after c.of_start.ensures c.shrink.ensures c.agree.ensures.claimed (its_disk g c) c.fail.ensures).calm
 
 pub returns-then-contains-clause-opens : goal.returns-then-contains-clause-opens
 returns-then-contains-clause-opens g c =
     (fails_so (g.S.Shelf.state c.args.shelf.now) c.args.core.now c.fail.new.core c.args.number c.get.result.now
     (PvFailed c.primary-at.result.pv) c.start-sectors.new.self c.shrink.new.self c.of_start.result c.requires.orderly c.get.ensures
-    c.requires.waiting c.start-sectors.ensures.after c.of_start.ensures c.shrink.ensures c.agree.ensures.claimed ?failure c.fail.ensures).opens
+    c.requires.waiting c.start-sectors.ensures.after c.of_start.ensures c.shrink.ensures c.agree.ensures.claimed (its_disk g c) c.fail.ensures).opens
 
 pub returns-then-contains-clause-deferred : goal.returns-then-contains-clause-deferred
 returns-then-contains-clause-deferred g c =
     (fails_so (g.S.Shelf.state c.args.shelf.now) c.args.core.now c.fail.new.core c.args.number c.get.result.now
     (PvFailed c.primary-at.result.pv) c.start-sectors.new.self c.shrink.new.self c.of_start.result c.requires.orderly c.get.ensures
-    c.requires.waiting c.start-sectors.ensures.after c.of_start.ensures c.shrink.ensures c.agree.ensures.claimed ?failure c.fail.ensures).deferred
+    c.requires.waiting c.start-sectors.ensures.after c.of_start.ensures c.shrink.ensures c.agree.ensures.claimed (its_disk g c) c.fail.ensures).deferred
 
 pub submit-tag-requires-clause-lies : goal.submit-tag-requires-clause-lies
 submit-tag-requires-clause-lies g c =
