@@ -9,12 +9,13 @@ use Rattle.line_table.specs.Steps.{is_open}
 use Rattle.disk_model.specs.State.{State}
 use Rattle.disk_model.specs.declared.ops.Done.{Done}
 use Rattle.world_acts.specs.declared.state.Core.{Core}
-use Rattle.world_acts.specs.Acts.{Act, Allowed, Begins, IsGrown, Reaches, World, after, follows, left_in}
+use Rattle.world_acts.specs.Acts.{Act, Allowed, Begins, IsGrown, Reaches, World, after, carries_on, follows, left_in}
 use Rattle.world_acts.specs.Orderly.{IsOrderly}
 use Rattle.world_acts.proofs.Lasting.{begun_reaches, journal_reaches}
 use Rattle.world_acts.proofs.Left.{left_ended, left_flushed, left_reaches}
 use Rattle.world_acts.proofs.Orderly.{orderly_after}
 use Rattle.world_acts.proofs.Reaching.{reaches_act, reaches_both, reaches_carried, reaches_none}
+use Rattle.io_core.proofs.Continued.{carried_reaches}
 use Rattle.io_core.specs.Events.{Follows, IsBegun, IsCompleted, IsIdle, ending}
 
 -- ---- a line is begun
@@ -22,7 +23,7 @@ use Rattle.io_core.specs.Events.{Follows, IsBegun, IsCompleted, IsIdle, ending}
 pub begun_more : (w v : World) (line : Line) → IsBegun w line v → v.core.lines.begun ≡ w.core.lines.begun ++ line ∷ []
 begun_more w v line is =
     let b = is.begins in
-    begun_reaches (after is.grown (Begins line b.opened)) v b.goes
+    begun_reaches (after is.grown (Begins line b.opened)) v (carried_reaches b.carried)
     ∙ ap (λ (c : Core). c.lines.begun ++ line ∷ []) is.grows.core
 
 pub begun_longer : (w v : World) (line : Line) → IsBegun w line v → IsPrefix w.core.lines.journal v.core.lines.journal
@@ -30,7 +31,8 @@ begun_longer w v line is =
     let b = is.begins in
     let any : Act → Bool = λ a. true in
     let mid : World = after is.grown (Begins line b.opened) in
-    let goes : Reaches any mid v = record { acts = b.goes.acts; all = λ k d within. refl; run = b.goes.run } in
+    let on : Reaches carries_on mid v = carried_reaches b.carried in
+    let goes : Reaches any mid v = record { acts = on.acts; all = λ k d within. refl; run = on.run } in
     subst (λ (es : List JournalEntry). IsPrefix es v.core.lines.journal) (ap (λ (c : Core). c.lines.journal) is.grows.core)
     (journal_reaches any is.grown v
     (reaches_both any is.grown mid v (reaches_act any is.grown (Begins line b.opened) refl b.may) goes))

@@ -1,12 +1,15 @@
 -- A line that begins, waits for its flushes and enters its pieces.
-use Rattle.std.proofs.Common.{◌≡◌, ◌<◌, ℕ, zero, suc, Bool, true, List, [], ◌∷◌, ◌++◌, length, get_or, map, All, Option}
+use Rattle.std.proofs.Common.{◌≡◌, ◌≤◌, ◌<◌, ◌+◌, ℕ, zero, suc, Bool, true, List, [], ◌∷◌, ◌++◌, length, get_or, map, All, Option}
 use Rattle.std.proofs.Common.{None, Some, filter, inl, inr, is_some, slice_get, unwrap_or, refl, sym, ap, subst, ◌∙◌, arith, true≢false}
 use Rattle.std.specs.Option.{option_map_or}
 use Rattle.std.proofs.lemmas.Bool.{eq-eqb, eqb-false}
 use Rattle.std.proofs.lemmas.List.{get_or_push, length-map, length_push}
-use Rattle.std.proofs.lemmas.List.Elements.{All-head, All-nil}
+use Rattle.std.proofs.lemmas.List.Elements.{All-head, All-nil, filter-append}
 use Rattle.std.proofs.lemmas.Option.{none-some, slice_get-get_or}
 use Rattle.sector_base.specs.declared.places.Piece.{Piece}
+use Rattle.command_table.specs.declared.command.Command.{Command}
+use Rattle.command_table.specs.declared.command.Command.TheVariants.{Wait}
+use Rattle.line_answers.specs.declared.answer.Answer.{Answer}
 use Rattle.line_answers.specs.declared.op_refusal.OpRefusal.{OpRefusal}
 use Rattle.lvm_script.specs.declared.line.Line.{Line}
 use Rattle.line_table.specs.Steps.{is_open}
@@ -19,21 +22,21 @@ use Rattle.world_acts.specs.declared.open_line.OpenLine.{OpenLine}
 use Rattle.world_acts.specs.declared.open_line.Work.{Work}
 use Rattle.world_acts.specs.declared.open_line.Work.TheVariants.{Read, Whole, Write}
 use Rattle.world_acts.specs.declared.volumes.Volumes.{Volumes}
-use Rattle.world_acts.specs.Acts.{Begins, Holds, IsPartOf, MayBegin, Reaches, World, after, carries_on, follows, world}
+use Rattle.world_acts.specs.Acts.{Begins, Holds, IsPartOf, MayBegin, Prepares, Reaches, World, after, follows, world}
 use Rattle.world_acts.specs.OpenLines.{IsBarrier, is_whole, left_of, no_open, open_at, open_of}
 use Rattle.world_acts.specs.Orderly.{IsOrderly}
 use Rattle.world_acts.specs.Rooms.{more}
 use Rattle.world_acts.proofs.Orderly.{orderly_after, orderly_reaches}
-use Rattle.world_acts.proofs.Reaching.{reaches_act, reaches_both, reaches_carried}
+use Rattle.world_acts.proofs.Reaching.{prepared_carried, prepares_both, prepares_none, reaches_act}
 use Rattle.line_plans.specs.declared.preparing.NewPiece.{NewPiece}
 use Rattle.line_plans.specs.declared.preparing.Plan.{Plan}
 use Rattle.io_core.specs.Beginning.{MayCarryOn}
-use Rattle.io_core.specs.Events.{BeginsIn}
-use Rattle.line_plans.specs.Plans.{AreTickets, MayBeBegun, MayBeOf, flushes_room, opened_on, opened_refused, pieces_room}
+use Rattle.io_core.specs.Events.{BeginsIn, IsPreparedAndGoes}
+use Rattle.line_plans.specs.Plans.{AreTickets, MayBeBegun, MayBeOf, flushes_room, opened_on, opened_refused, pieces_for, pieces_room}
 use Rattle.io_core.specs.Rest.{IsCalm, IsSettled, just, no_one}
 use Rattle.io_core.proofs.Calm.{OthersStay, asked_same, unfinished_changed}
 use Rattle.io_core.proofs.LineWaits.{HasWaited, MayAwaitFlushes}
-use Rattle.io_core.proofs.PieceEnters.{HasEntered, MayEnterPieces}
+use Rattle.io_core.proofs.PieceEnters.{HasEntered, MayEnterPieces, pieces_in}
 use Rattle.io_core.proofs.RoomsBorne.{borne_less, borne_owed, covers_first, covers_last, pieces_ops}
 use Rattle.io_core.proofs.SameKinds.{KindKept, kept_kind, may_be_still}
 
@@ -74,7 +77,7 @@ no_pieces volumes sizes o line (new ∷ pieces) is all =
 
 then_by : (w : World) (line : ℕ) (pieces : List NewPiece) (tickets : ℕ) (d : Core) → MayCarryOn w line pieces tickets
     → HasWaited line w (world w.shelf d) tickets tickets
-    → AreTickets w.core.volumes w.shelf.sizes (open_of w.core.opens line) tickets
+    → AreTickets w.core.volumes w.shelf.sizes (open_of w.core.opens line) (slice_get w.core.lines.begun line) tickets
     → MayEnterPieces (world w.shelf d) line pieces
 then_by w line pieces tickets d m s (inl none) =
     subst (λ (x : Core). MayEnterPieces (world w.shelf x) line pieces) (sym (s.none none))
@@ -90,7 +93,7 @@ then_by w line pieces tickets d m s (inl none) =
     })
 then_by w line pieces tickets d m s (inr are) =
     let v : World = world w.shelf d in
-    let o : IsOrderly v = orderly_reaches s.reaches m.orderly in
+    let o : IsOrderly v = orderly_reaches (prepared_carried line [] w v s.prepares) m.orderly in
     let kind : KindKept (open_at w.core.opens line) (open_at v.core.opens line) =
     kept_kind w.core.opens v.core.opens line s.opens m.opened in
     subst (λ (l : List NewPiece). MayEnterPieces v line l)
@@ -117,7 +120,7 @@ pub record MayClose (w : World) (line : ℕ) : Type 0 where
 
 pub then_closes : (w v u : World) (line tickets : ℕ) (pieces : List NewPiece) → MayCarryOn w line pieces tickets
     → HasWaited line w v tickets tickets
-    → HasEntered line v u
+    → HasEntered line (pieces_in pieces) v u
     → MayClose u line
 then_closes w v u line tickets pieces m s t =
     let first : KindKept (open_at w.core.opens line) (open_at v.core.opens line) =
@@ -125,23 +128,28 @@ then_closes w v u line tickets pieces m s t =
     let later : KindKept (open_at v.core.opens line) (open_at u.core.opens line) =
     kept_kind v.core.opens u.core.opens line t.opens first.opened in
     record {
-      orderly = orderly_reaches t.reaches (orderly_reaches s.reaches m.orderly);
+      orderly =
+          orderly_reaches (prepared_carried line (pieces_in pieces) v u t.prepares)
+          (orderly_reaches (prepared_carried line [] w v s.prepares) m.orderly);
       opened = later.opened;
       other = λ e. none-some line (sym (t.barrier ∙ s.barrier) ∙ e);
     }
 
-pub record IsCarriedOn (w v : World) : Type 0 where
-  pub reaches : Reaches carries_on w v
+pub record IsCarriedOn (line : ℕ) (pieces : List Piece) (w v : World) : Type 0 where
+  pub carried : IsPreparedAndGoes line pieces w v
   pub settled : IsSettled v.core
 
 pub carried_on : (w v u t : World) (line tickets : ℕ) (pieces : List NewPiece) → MayCarryOn w line pieces tickets
     → HasWaited line w v tickets tickets
-    → HasEntered line v u
+    → HasEntered line (pieces_in pieces) v u
     → HasClosed line u t
-    → IsCarriedOn w t
+    → IsCarriedOn line (pieces_in pieces) w t
 carried_on w v u t line tickets pieces m a b c = record {
-  reaches =
-      reaches_both carries_on w v t a.reaches (reaches_both carries_on v u t b.reaches (reaches_carried u t c.reaches));
+  carried = record {
+    mid = u;
+    prepares = prepares_both line [] (pieces_in pieces) (pieces_in pieces) w v u refl a.prepares b.prepares;
+    goes = c.reaches;
+  };
   settled = record {
     calm = c.calm (b.calm (a.calm m.calm));
     ready =
@@ -220,6 +228,12 @@ module _ (w : World) (line : Line) (plan : Plan) (m : MayBeginBy w line plan) wh
   others_open q apart =
       pushed_other w.core.opens.list plan.opened q (λ e. eqb-false place q apart (sym places ∙ e))
 
+  -- a line more is open
+  one_more_open : length (filter is_open begun.core.lines.answers) ≡ length (filter is_open w.core.lines.answers) + 1
+  one_more_open =
+      ap (λ (l : List (ℕ × Option Answer)). length l) (filter-append is_open w.core.lines.answers ((line.number, None) ∷ []))
+      ∙ length_push (filter is_open w.core.lines.answers) (line.number, None)
+
   own_line : slice_get begun.core.lines.begun place ≡ Some line
   own_line =
       slice_get-get_or begun.core.lines.begun place line (omega (arith, length_push w.core.lines.begun line))
@@ -247,8 +261,10 @@ module _ (w : World) (line : Line) (plan : Plan) (m : MayBeginBy w line plan) wh
               brings = own_line;
             }) m.may.planned.pieces;
         tickets =
-            subst (λ (o : OpenLine). AreTickets w.core.volumes w.shelf.sizes o (length plan.tickets.items)) (sym own_is)
-            m.may.planned.tickets;
+            subst (λ (l : Option Line). AreTickets w.core.volumes w.shelf.sizes (open_of begun.core.opens place) l
+            (length plan.tickets.items)) (sym own_line)
+            (subst (λ (o : OpenLine). AreTickets w.core.volumes w.shelf.sizes o (Some line) (length plan.tickets.items)) (sym own_is)
+            m.may.planned.tickets);
         room = record {
           counted = record {
             ops = let most = b.counted.ops in omega (arith, most);
@@ -285,16 +301,27 @@ module _ (w : World) (line : Line) (plan : Plan) (m : MayBeginBy w line plan) wh
       subst (λ (x : Core). MayCarryOn (world w.shelf x) at plan.pieces.items (length plan.tickets.items)) (sym same)
       (subst (λ (n : ℕ). MayCarryOn begun n plan.pieces.items (length plan.tickets.items)) (sym is) carries)
 
-  pub begins_so : (d : Core) (v : World) → d ≡ begun.core → IsCarriedOn (world w.shelf d) v → BeginsIn w line v
-  begins_so d v same k = record {
+  pub begins_so : (d : Core) (v : World) (at : ℕ) → d ≡ begun.core → at ≡ place
+      → IsCarriedOn at (pieces_in plan.pieces.items) (world w.shelf d) v
+      → (line.command ≡ Wait → length (filter is_open d.lines.answers) ≤ 1)
+      → BeginsIn w line v
+  begins_so d v at same is k alone = record {
     opened = plan.opened;
     is = m.may.planned.opened;
     may = may_begin;
-    goes = subst (λ (x : Core). Reaches carries_on (world w.shelf x) v) same k.reaches;
+    carried =
+        subst (λ (ps : List Piece). IsPreparedAndGoes place ps begun v) m.may.planned.cut
+        (subst (λ (n : ℕ). IsPreparedAndGoes n (pieces_in plan.pieces.items) begun v) is
+        (subst (λ (x : Core). IsPreparedAndGoes at (pieces_in plan.pieces.items) (world w.shelf x) v) same k.carried));
+    holds = λ waits others.
+        let few : length (filter is_open begun.core.lines.answers) ≤ 1 =
+        subst (λ (x : Core). length (filter is_open x.lines.answers) ≤ 1) same (alone waits) in
+        absurd (omega (arith, few, others, one_more_open));
   }
 
   -- it waits for all others
-  module _ (whole : is_whole plan.opened.work ≡ true) (others : 1 < length (filter is_open begun.core.lines.answers)) where
+  module _ (waits : line.command ≡ Wait) (whole : is_whole plan.opened.work ≡ true)
+      (others : 1 < length (filter is_open begun.core.lines.answers)) where
     abbrev held : World
     held = after begun (Holds place)
 
@@ -306,7 +333,14 @@ module _ (w : World) (line : Line) (plan : Plan) (m : MayBeginBy w line plan) wh
           opened = plan.opened;
           is = m.may.planned.opened;
           may = may_begin;
-          goes = reaches_act carries_on begun (Holds place) refl (m.free, barrier);
+          carried = record {
+            mid = begun;
+            prepares =
+                subst (λ (ps : List Piece). Prepares place ps begun begun)
+                (sym (ap (λ (c : Command). pieces_for w.core.volumes c) waits)) (prepares_none place begun);
+            goes = reaches_act follows begun (Holds place) refl (m.free, barrier);
+          };
+          holds = λ waits others. refl;
         }
 
     held_settled : IsSettled held.core
@@ -329,15 +363,19 @@ pub record IsHeld (w : World) (line : Line) (v : World) : Type 0 where
   pub begins : BeginsIn w line v
   pub settled : IsSettled v.core
 
-pub holds_so : (w : World) (line : Line) (plan : Plan) (d : Core) (at : ℕ) → MayBeginBy w line plan → is_whole plan.opened.work ≡ true
+pub holds_so : (w : World) (line : Line) (plan : Plan) (d : Core) (at : ℕ) → MayBeginBy w line plan → line.command ≡ Wait
+    → is_whole plan.opened.work ≡ true
     → d ≡ (after w (Begins line plan.opened)).core
     → at ≡ length w.core.lines.begun
     → 1 < length (filter is_open d.lines.answers)
     → IsHeld w line (world w.shelf (record d { barrier = Some at }))
-holds_so w line plan d at m whole same is others =
+holds_so w line plan d at m waits whole same is others =
     let c : Core = (after w (Begins line plan.opened)).core in
     let more : 1 < length (filter is_open c.lines.answers) =
     subst (λ (x : Core). 1 < length (filter is_open x.lines.answers)) same others in
     subst (λ (x : Core). IsHeld w line (world w.shelf (record x { barrier = Some at }))) (sym same)
     (subst (λ (n : ℕ). IsHeld w line (world w.shelf (record c { barrier = Some n }))) (sym is)
-    (record { begins = held_begins w line plan m whole more; settled = held_settled w line plan m whole more }))
+    (record {
+      begins = held_begins w line plan m waits whole more;
+      settled = held_settled w line plan m waits whole more;
+    }))

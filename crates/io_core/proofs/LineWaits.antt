@@ -1,10 +1,13 @@
 -- A line that waits for flushes.
 use Rattle.std.proofs.Common.{◌≡◌, ◌≤◌, ◌<◌, ◌⊎◌, ℕ, ◌+◌, ◌*◌, ◌^◌, Bool, true, false, cond, nat_eq, List, [], length, Option, None, Some}
-use Rattle.std.proofs.Common.{inl, inr, is_some, refl, sym, ap, subst, ◌∙◌, arith}
+use Rattle.std.proofs.Common.{inl, inr, is_some, slice_get, refl, sym, ap, subst, ◌∙◌, arith}
+use Rattle.std.specs.Option.{option_map_or}
 use Rattle.std.proofs.lemmas.Bool.{eqb-false, eqb-true, eq-eqb}
 use Rattle.std.proofs.lemmas.List.{get_or-set_other, get_or-set_same}
 use Rattle.std.proofs.lemmas.Option.{none-some}
 use Rattle.line_answers.specs.declared.answer.Answer.TheVariants.{PvFailed}
+use Rattle.lvm_script.specs.declared.line.Line.{Line}
+use Rattle.data_lines.specs.DataLines.{is_flush}
 use Rattle.flush_plan.specs.Plans.{flight_of, marks_of}
 use Rattle.flush_plan.specs.declared.records.Flush.{Flush}
 use Rattle.flush_waits.specs.declared.ticket.Waiter.TheVariants as waiter
@@ -16,17 +19,17 @@ use Rattle.flush_waits.specs.Waits.{DiskWaits, awaited, dirty_at, disk_waits, no
 use Rattle.world_acts.specs.declared.state.Core.{Core}
 use Rattle.world_acts.specs.declared.open_line.OpenLine.{OpenLine}
 use Rattle.world_acts.specs.declared.room.Room.{Room}
-use Rattle.world_acts.specs.Acts.{Awaits, IsBorne, LineFails, MayAwait, Reaches, World, after, carries_on, world}
+use Rattle.world_acts.specs.Acts.{Awaits, IsBorne, LineFails, MayAwait, Prepares, Reaches, World, after, carries_on, world}
 use Rattle.world_acts.specs.OpenLines.{is_whole, left_of, open_at, open_of}
 use Rattle.world_acts.specs.Orderly.{AreReleased, IsOrderly}
 use Rattle.world_acts.specs.Rooms.{more}
 use Rattle.world_acts.specs.Steps.{after_awaits, after_line_fails}
 use Rattle.world_acts.specs.Volumes.{lv_of}
 use Rattle.world_acts.proofs.Awaiting.{WaitsMore, unended, waits_served, waits_unserved}
-use Rattle.world_acts.proofs.Lasting.{sizes_reach, volumes_reach}
+use Rattle.world_acts.proofs.Lasting.{begun_reaches, sizes_reach, volumes_reach}
 use Rattle.world_acts.proofs.LinesKept.{hit, line_added, line_failed, open_is}
 use Rattle.world_acts.proofs.Orderly.{orderly_reaches}
-use Rattle.world_acts.proofs.Reaching.{reaches_act, reaches_both, reaches_none}
+use Rattle.world_acts.proofs.Reaching.{prepared_carried, prepares_act, prepares_both, prepares_none}
 use Rattle.world_acts.proofs.Tables.{some_of}
 use Rattle.line_plans.specs.Plans.{AreForDisks, AreTickets, flushes_room}
 use Rattle.io_core.specs.Rest.{IsCalm, SameLines, just, no_one}
@@ -39,7 +42,7 @@ use Rattle.io_core.proofs.SameKinds.{KindKept, kept_kind}
 
 -- what a line leaves that waits on a disk, or has no need to
 pub record WaitsOn (line : ℕ) (w v : World) : Type 0 where
-  pub reaches : Reaches carries_on w v
+  pub prepares : Prepares line [] w v
   pub room : (r : Room) → IsBorne w (more w.core.owed (more (flushes_room 1) r)) → IsBorne v (more v.core.owed r)
   pub calm : IsCalm no_one (just line) w.core → IsCalm no_one (just line) v.core
   pub released : AreReleased w.core → AreReleased v.core
@@ -50,7 +53,7 @@ pub record WaitsOn (line : ℕ) (w v : World) : Type 0 where
 
 waits_none : (line : ℕ) (w : World) → WaitsOn line w w
 waits_none line w = record {
-  reaches = reaches_none carries_on w;
+  prepares = prepares_none line w;
   room =
       λ r b. borne_less w (more w.core.owed (more (flushes_room 1) r)) (more w.core.owed r)
       (covers_last w.core.owed (flushes_room 1) r) b;
@@ -69,7 +72,7 @@ waits_failed line pv w opened =
     let d : Core = after_line_fails c line (PvFailed pv) in
     let found : (x : OpenLine) × (open_at c.opens line ≡ Some x) = some_of (open_at c.opens line) opened in
     record {
-      reaches = reaches_act carries_on w (LineFails line (PvFailed pv)) refl (opened, (pv, refl));
+      prepares = prepares_act w line (LineFails line (PvFailed pv)) (eq-eqb line line refl) refl (opened, (pv, refl));
       room = λ r b. borne_same w (after w (LineFails line (PvFailed pv))) (more c.owed (more (flushes_room 1) r)) (more c.owed r)
           (covers_last c.owed (flushes_room 1) r) refl refl refl refl b;
       calm = λ k. record {
@@ -112,7 +115,7 @@ waits_on w line pv o m =
     ]) in
     let within : pv < length c.waits.disks = let disk = m.disk in omega (arith, disk, o.backed.places.many) in
     record {
-      reaches = reaches_act carries_on w (Awaits line pv) refl m;
+      prepares = prepares_act w line (Awaits line pv) (eq-eqb line line refl) refl m;
       room = λ r b. record {
         counted = record {
           ops = omega (arith, b.counted.ops, k.one);
@@ -165,6 +168,7 @@ pub record MayAwaitFlush (w : World) (line pv : ℕ) : Type 0 where
   pub orderly : IsOrderly w
   pub opened : is_some (open_at w.core.opens line) ≡ true
   pub whole : is_whole (open_of w.core.opens line).work ≡ true
+  pub flushes : option_map_or (λ (l : Line). is_flush l.command) (slice_get w.core.lines.begun line) false ≡ true
   pub stands : is_some (lv_of w.core.volumes (open_of w.core.opens line).key) ≡ true
   pub disk : pv < length w.core.waits.disks
   pub other : w.core.barrier ≡ None
@@ -201,6 +205,7 @@ awaits_so w line pv place d m at (inr (inr waits)) =
       opened = found.0;
       is_open = found.1;
       whole = ap (λ (x : OpenLine). is_whole x.work) (sym is) ∙ m.whole;
+      flushes = m.flushes;
       disk = omega (arith, m.disk, m.orderly.backed.places.many);
       behind = omega (arith, behind, key, at);
       other = λ e. none-some line (sym m.other ∙ e);
@@ -219,14 +224,14 @@ awaits_so w line pv place d m at (inr (inr waits)) =
 pub record MayAwaitFlushes (w : World) (line many : ℕ) : Type 0 where
   pub orderly : IsOrderly w
   pub opened : is_some (open_at w.core.opens line) ≡ true
-  pub tickets : AreTickets w.core.volumes w.shelf.sizes (open_of w.core.opens line) many
+  pub tickets : AreTickets w.core.volumes w.shelf.sizes (open_of w.core.opens line) (slice_get w.core.lines.begun line) many
   pub other : w.core.barrier ≡ None
   pub room : IsBorne w (more w.core.owed (flushes_room many))
   pub few : left_of w.core.opens line + many < 2 ^ 64
 
 -- what it leaves
 pub record HasWaited (line : ℕ) (w v : World) (waited many : ℕ) : Type 0 where
-  pub reaches : Reaches carries_on w v
+  pub prepares : Prepares line [] w v
   pub none : many ≡ 0 → v.core ≡ w.core
   pub calm : IsCalm no_one (just line) w.core → IsCalm no_one (just line) v.core
   pub released : AreReleased w.core → AreReleased v.core
@@ -246,7 +251,7 @@ waited_none line many w m = record {
   count = omega arith;
   room = m.room;
   has = record {
-    reaches = reaches_none carries_on w;
+    prepares = prepares_none line w;
     none = λ is. refl;
     calm = λ k. k;
     released = λ k. k;
@@ -257,8 +262,9 @@ waited_none line many w m = record {
   };
 }
 
-for_disks : (w : World) (line many : ℕ) → (many ≡ 0 → ⊥) → AreTickets w.core.volumes w.shelf.sizes (open_of w.core.opens line) many
-    → AreForDisks w.core.volumes w.shelf.sizes (open_of w.core.opens line) many
+for_disks : (w : World) (line many : ℕ) → (many ≡ 0 → ⊥)
+    → AreTickets w.core.volumes w.shelf.sizes (open_of w.core.opens line) (slice_get w.core.lines.begun line) many
+    → AreForDisks w.core.volumes w.shelf.sizes (open_of w.core.opens line) (slice_get w.core.lines.begun line) many
 for_disks w line many some (inl none) = absurd (some none)
 for_disks w line many some (inr are) = are
 
@@ -267,17 +273,21 @@ pub waited_next : (line : ℕ) (w v : World) (pv rest more_rest many : ℕ) → 
     → Waited line w v pv more_rest many
     → MayAwaitFlush v line pv
 waited_next line w v pv rest more_rest many m next k =
+    let goes : Reaches carries_on w v = prepared_carried line [] w v k.has.prepares in
     let are = for_disks w line many (λ none. omega (arith, none, next, k.count)) m.tickets in
     let kind : KindKept (open_at w.core.opens line) (open_at v.core.opens line) =
     kept_kind w.core.opens v.core.opens line k.has.opens m.opened in
-    let o : IsOrderly v = orderly_reaches k.has.reaches m.orderly in
-    let sizes : length v.shelf.sizes ≡ length w.shelf.sizes = ap (λ (l : List ℕ). length l) (sizes_reach carries_on w v k.has.reaches) in
+    let o : IsOrderly v = orderly_reaches goes m.orderly in
+    let sizes : length v.shelf.sizes ≡ length w.shelf.sizes = ap (λ (l : List ℕ). length l) (sizes_reach carries_on w v goes) in
     record {
       orderly = o;
       opened = kind.opened;
       whole = ap is_whole kind.work ∙ are.whole;
+      flushes =
+          ap (λ (ls : List Line). option_map_or (λ (l : Line). is_flush l.command) (slice_get ls line) false) (begun_reaches w v goes)
+          ∙ are.flushes;
       stands =
-          (λ i. is_some (lv_of (volumes_reach carries_on w v k.has.reaches i) (kind.key i))) ∙ are.stands;
+          (λ i. is_some (lv_of (volumes_reach carries_on w v goes i) (kind.key i))) ∙ are.stands;
       disk = omega (arith, next, k.count, are.many, sizes, o.backed.places.many);
       other = k.has.barrier;
       room =
@@ -309,7 +319,7 @@ waited_more line w v u pv rest more_rest many next k s = record {
         entries = omega arith;
       }) k.room);
   has = record {
-    reaches = reaches_both carries_on w v u k.has.reaches s.reaches;
+    prepares = prepares_both line [] [] [] w v u refl k.has.prepares s.prepares;
     none = λ is. absurd (omega (arith, is, next, k.count));
     calm = λ z. s.calm (k.has.calm z);
     released = λ z. s.released (k.has.released z);

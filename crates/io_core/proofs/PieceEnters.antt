@@ -1,6 +1,6 @@
 -- A piece that enters: it starts, or waits for something that it conflicts with.
 use Rattle.std.proofs.Common.{◌≡◌, ◌≤◌, ◌<◌, ◌⊎◌, ℕ, suc, ◌+◌, ◌-◌, ◌^◌, Bool, true, false, cond, not, ◌&&◌, ◌||◌, nat_eq, List, [], ◌∷◌}
-use Rattle.std.proofs.Common.{◌++◌, length, All}
+use Rattle.std.proofs.Common.{◌++◌, length, map, All}
 use Rattle.std.proofs.Common.{Option, None, Some, count_by, inl, inr, is_some, slice_get, unwrap_or, refl, sym, ap, subst, ◌∙◌}
 use Rattle.std.proofs.Common.{append_assoc, arith, true≢false}
 use Rattle.std.specs.Prelude.{remove}
@@ -9,6 +9,7 @@ use Rattle.std.proofs.lemmas.Bool.{eq-eqb}
 use Rattle.std.proofs.lemmas.List.{append-nil}
 use Rattle.std.proofs.lemmas.List.Elements.{All-head, All-tail}
 use Rattle.std.proofs.lemmas.List.Folds.{list_any-append, list_any_none}
+use Rattle.sector_base.specs.declared.places.Piece.{Piece}
 use Rattle.claim_table.specs.declared.claim.By.{By}
 use Rattle.claim_table.specs.declared.claim.Claim.{Claim}
 use Rattle.claim_table.specs.declared.claim.Entry.{Entry}
@@ -25,7 +26,7 @@ use Rattle.piece_table.specs.Steps.{live_of, no_live}
 use Rattle.world_acts.specs.declared.state.Core.{Core}
 use Rattle.world_acts.specs.declared.open_line.OpenLine.{OpenLine}
 use Rattle.world_acts.specs.declared.room.Room.{Room}
-use Rattle.world_acts.specs.Acts.{Allowed, Enters, IsBorne, IsPartOf, MayEnter, Reaches, World, after, carries_on, follows, world}
+use Rattle.world_acts.specs.Acts.{Allowed, Enters, IsBorne, IsPartOf, MayEnter, Prepares, Reaches, World, after, carries_on, starts, world}
 use Rattle.world_acts.specs.OpenLines.{left_of, open_at, open_of}
 use Rattle.world_acts.specs.Orderly.{IsOrderly}
 use Rattle.world_acts.specs.Rooms.{more, piece_room}
@@ -33,7 +34,7 @@ use Rattle.world_acts.proofs.Borne.{borne_reaches}
 use Rattle.world_acts.proofs.Lasting.{begun_reaches, sizes_reach, spare_reaches, volumes_reach}
 use Rattle.world_acts.proofs.LinesKept.{line_added, open_is}
 use Rattle.world_acts.proofs.Orderly.{orderly_after, orderly_reaches}
-use Rattle.world_acts.proofs.Reaching.{reaches_act, reaches_both, reaches_carried, reaches_none}
+use Rattle.world_acts.proofs.Reaching.{prepared_carried, prepares_both, prepares_enter, prepares_none, prepares_starts, starts_follow}
 use Rattle.world_acts.proofs.Tables.{Changes, appended, none_counted, own_at, some_of}
 use Rattle.line_plans.specs.declared.preparing.NewPiece.{NewPiece}
 use Rattle.line_plans.specs.Plans.{MayBeOf, pieces_room}
@@ -181,7 +182,7 @@ pub record MayEnterPiece (w : World) (line : ℕ) (new : NewPiece) : Type 0 wher
 
 -- and what it leaves
 pub record PieceEnters (line : ℕ) (new : NewPiece) (w v : World) : Type 0 where
-  pub reaches : Reaches carries_on w v
+  pub prepares : Prepares line (new.piece ∷ []) w v
   pub room : (r : Room) → IsBorne w (more w.core.owed (more (piece_room new.piece (is_some new.ticket)) r)) → IsBorne v (more v.core.owed r)
   pub spare : v.core.pieces.claims.spare + 1 ≡ w.core.pieces.claims.spare
   pub calm : IsCalm no_one (just line) w.core → IsCalm no_one (just line) v.core
@@ -193,7 +194,7 @@ pub record PieceEnters (line : ℕ) (new : NewPiece) (w v : World) : Type 0 wher
 
 -- what `start` leaves
 pub record HasStarted (number : ℕ) (w v : World) : Type 0 where
-  pub reaches : Reaches follows w v
+  pub reaches : Reaches starts w v
   pub calm : (lines : ℕ → Bool) → lines (live_of w.core.pieces number).line ≡ true → IsCalm (just number) lines w.core
       → IsCalm no_one lines v.core
   pub opens : SameLines w.core.opens v.core.opens
@@ -235,9 +236,9 @@ module _ (w : World) (line : ℕ) (new : NewPiece) (m : MayEnterPiece w line new
   entered_orderly : (entry : Entry) → IsEntry w.core.pieces.claims own_claim entry → IsOrderly (act entry)
   entered_orderly entry is = orderly_after w (Enters line new.piece new.sectors new.ticket entry) m.orderly (enter_allowed entry is)
 
-  enter_reaches : (entry : Entry) → IsEntry w.core.pieces.claims own_claim entry → Reaches carries_on w (act entry)
-  enter_reaches entry is =
-      reaches_act carries_on w (Enters line new.piece new.sectors new.ticket entry) refl (enter_allowed entry is)
+  enter_prepares : (entry : Entry) → IsEntry w.core.pieces.claims own_claim entry → Prepares line (new.piece ∷ []) w (act entry)
+  enter_prepares entry is =
+      prepares_enter w line new.piece new.sectors new.ticket entry (enter_allowed entry is)
 
   none_yet : AreNumbered w.core.pieces.next w.core.pieces.lives → live_at w.core.pieces.lives w.core.pieces.next ≡ None
   none_yet numbered = numbered w.core.pieces.next (omega arith)
@@ -269,7 +270,7 @@ module _ (w : World) (line : ℕ) (new : NewPiece) (m : MayEnterPiece w line new
       let d : Core = (act (Deferred by)).core in
       let table : Claims = c.pieces.claims in
       record {
-        reaches = enter_reaches (Deferred by) is;
+        prepares = enter_prepares (Deferred by) is;
         room = enter_room (Deferred by);
         spare = let some = m.spare in omega (arith, some);
         calm = λ k. record {
@@ -309,10 +310,12 @@ module _ (w : World) (line : ℕ) (new : NewPiece) (m : MayEnterPiece w line new
       let u : World = act Started in
       let next : ℕ = c.pieces.next in
       let mine : live_of u.core.pieces next ≡ own = ap (λ (o : Option LivePiece). unwrap_or o no_live) (own_at (came Started numbered)) in
-      let spare : v.core.pieces.claims.spare ≡ u.core.pieces.claims.spare = spare_reaches u v s.reaches in
+      let spare : v.core.pieces.claims.spare ≡ u.core.pieces.claims.spare = spare_reaches u v (starts_follow u v s.reaches) in
       record {
-        reaches = reaches_both carries_on w u v (enter_reaches Started is) (reaches_carried u v s.reaches);
-        room = λ r b. borne_reaches u v r (entered_orderly Started is) s.reaches (enter_room Started r b);
+        prepares =
+            prepares_both line (new.piece ∷ []) [] (new.piece ∷ []) w u v refl (enter_prepares Started is)
+            (prepares_starts line u v s.reaches);
+        room = λ r b. borne_reaches u v r (entered_orderly Started is) (starts_follow u v s.reaches) (enter_room Started r b);
         spare = let some = m.spare in omega (arith, some, spare);
         calm =
             λ k. s.calm (just line)
@@ -335,7 +338,7 @@ module _ (w : World) (line : ℕ) (new : NewPiece) (m : MayEnterPiece w line new
         opens = same_both c.opens u.core.opens v.core.opens (same_added c.opens line found.0 found.1) s.opens;
         barrier = s.barrier;
         waits = s.waits;
-        left = let fewer = left_falls u v s.reaches line in omega (arith, fewer, enter_left Started);
+        left = let fewer = left_falls u v (starts_follow u v s.reaches) line in omega (arith, fewer, enter_left Started);
       }
 
   -- the same, of the core and the number that have come back
@@ -377,24 +380,32 @@ pub record MayEnterPieces (w : World) (line : ℕ) (pieces : List NewPiece) : Ty
   pub few : left_of w.core.opens line + length pieces < 2 ^ 64
 
 -- what `enter_pieces` leaves
-pub record HasEntered (line : ℕ) (w v : World) : Type 0 where
-  pub reaches : Reaches carries_on w v
+pub record HasEntered (line : ℕ) (pieces : List Piece) (w v : World) : Type 0 where
+  pub prepares : Prepares line pieces w v
   pub calm : IsCalm no_one (just line) w.core → IsCalm no_one (just line) v.core
   pub ready : NoneReady w.core → NoneReady v.core
   pub opens : SameLines w.core.opens v.core.opens
   pub barrier : v.core.barrier ≡ w.core.barrier
   pub waits : v.core.waits ≡ w.core.waits
 
--- some have entered, and these are left
-pub record PiecesEnter (line : ℕ) (w v : World) (rest : List NewPiece) : Type 0 where
-  pub may : MayEnterPieces v line rest
-  pub has : HasEntered line w v
+-- the pieces of these
+abbrev pub pieces_in : List NewPiece → List Piece
+pieces_in pieces = map (λ (new : NewPiece). new.piece) pieces
 
-pub none_entered : (line : ℕ) (w : World) (pieces : List NewPiece) → MayEnterPieces w line pieces → PiecesEnter line w w pieces
+-- some of all have entered, and these are left
+pub record PiecesEnter (line : ℕ) (w v : World) (all rest : List NewPiece) : Type 0 where
+  pub done : List Piece
+  pub some : done ++ pieces_in rest ≡ pieces_in all
+  pub may : MayEnterPieces v line rest
+  pub has : HasEntered line done w v
+
+pub none_entered : (line : ℕ) (w : World) (pieces : List NewPiece) → MayEnterPieces w line pieces → PiecesEnter line w w pieces pieces
 none_entered line w pieces m = record {
+  done = [];
+  some = refl;
   may = m;
   has = record {
-    reaches = reaches_none carries_on w;
+    prepares = prepares_none line w;
     calm = λ k. k;
     ready = λ k. k;
     opens = same_lines w.core.opens;
@@ -423,19 +434,20 @@ pub others_enter : (line : ℕ) (w v : World) (new : NewPiece) (rest : List NewP
     → PieceEnters line new w v
     → MayEnterPieces v line rest
 others_enter line w v new rest m s =
+    let goes : Reaches carries_on w v = prepared_carried line (new.piece ∷ []) w v s.prepares in
     let kind : KindKept (open_at w.core.opens line) (open_at v.core.opens line) =
     kept_kind w.core.opens v.core.opens line s.opens m.opened in
     record {
-      orderly = orderly_reaches s.reaches m.orderly;
+      orderly = orderly_reaches goes m.orderly;
       opened = kind.opened;
       each =
           may_be_still rest
           (record {
-            volumes = volumes_reach carries_on w v s.reaches;
-            disks = sizes_reach carries_on w v s.reaches;
+            volumes = volumes_reach carries_on w v goes;
+            disks = sizes_reach carries_on w v goes;
             key = kind.key;
             work = kind.work;
-            brings = ap (λ (l : List Line). slice_get l line) (begun_reaches w v s.reaches);
+            brings = ap (λ (l : List Line). slice_get l line) (begun_reaches w v goes);
           })
           (All-tail (MayBeOf w.core.volumes w.shelf.sizes (open_of w.core.opens line) (slice_get w.core.lines.begun line)) new rest m.each);
       room = s.room (pieces_room rest) m.room;
@@ -443,13 +455,15 @@ others_enter line w v new rest m s =
       few = let most : left_of w.core.opens line + suc (length rest) < 2 ^ 64 = m.few in omega (arith, most, s.left);
     }
 
-pub one_entered : (line : ℕ) (w v u : World) (new : NewPiece) (rest : List NewPiece) → PiecesEnter line w v (new ∷ rest)
+pub one_entered : (line : ℕ) (w v u : World) (new : NewPiece) (all rest : List NewPiece) → PiecesEnter line w v all (new ∷ rest)
     → PieceEnters line new v u
-    → PiecesEnter line w u rest
-one_entered line w v u new rest k s = record {
+    → PiecesEnter line w u all rest
+one_entered line w v u new all rest k s = record {
+  done = k.done ++ new.piece ∷ [];
+  some = append_assoc k.done (new.piece ∷ []) (pieces_in rest) ∙ k.some;
   may = others_enter line v u new rest k.may s;
   has = record {
-    reaches = reaches_both carries_on w v u k.has.reaches s.reaches;
+    prepares = prepares_both line k.done (new.piece ∷ []) (k.done ++ new.piece ∷ []) w v u refl k.has.prepares s.prepares;
     calm = λ z. s.calm (k.has.calm z);
     ready = λ z. s.ready (k.has.ready z);
     opens = same_both w.core.opens v.core.opens u.core.opens k.has.opens s.opens;

@@ -18,7 +18,7 @@ use Rattle.piece_table.specs.Pieces.{AreClaimed, Pieces, flying_at, flying_of, i
 use Rattle.piece_table.specs.Pieces.{live_at, may_start, owner_at}
 use Rattle.piece_table.specs.Steps.{after_flies, live_of, with_stage}
 use Rattle.world_acts.specs.declared.state.Core.{Core}
-use Rattle.world_acts.specs.Acts.{Allowed, Asks, Fails, IsFailure, Reaches, Starts, World, after, follows, world}
+use Rattle.world_acts.specs.Acts.{Allowed, Asks, Fails, IsFailure, Reaches, Starts, World, after, starts, world}
 use Rattle.world_acts.specs.OpenLines.{Opens, after_failure, open_at}
 use Rattle.world_acts.specs.Orderly.{IsOrderly}
 use Rattle.world_acts.specs.declared.room.Room.{Room}
@@ -41,7 +41,7 @@ use Rattle.io_core.proofs.Waking.{MayStartNow, may_start_now}
 
 -- what the start of a piece makes of a world
 pub record StartsIn (w : World) (number : ℕ) (v : World) : Type 0 where
-  pub reaches : Reaches follows w v
+  pub reaches : Reaches starts w v
   pub calm :
       (lines : ℕ → Bool) → lines (live_of w.core.pieces number).line ≡ true → IsCalm (just number) lines w.core
       → IsCalm no_one lines v.core
@@ -102,8 +102,8 @@ starts_failed w number why l o at waits free claimed fails =
     let p = (line_failed w.core.opens x.line f.opened why here).lines x.line f.opened here in
     record {
       reaches =
-          reaches_both follows w u v (reaches_act follows w (Starts number) refl waits)
-          (reaches_act follows u (Fails number why) refl
+          reaches_both starts w u v (reaches_act starts w (Starts number) refl waits)
+          (reaches_act starts u (Fails number why) refl
           (s.started, s.landed, subst (λ (p : Piece). IsFailure u.core p why) (sym piece) fails));
       calm =
           λ lines exempt is. fails_calm u.core number w.shelf.steps why s.live lines s.orderly.tidy.pieces.single s.at
@@ -122,7 +122,7 @@ pub starts_asked : (w : World) (number : ℕ) (op : Op) (tag : ℕ) (now : State
     → Allowed w (Asks number op tag now)
     → StartsIn w number (after w (Asks number op tag now))
 starts_asked w number op tag now l o at allowed = record {
-  reaches = reaches_act follows w (Asks number op tag now) refl allowed;
+  reaches = reaches_act starts w (Asks number op tag now) refl allowed;
   calm = λ lines exempt is. asks_calm w.core number tag l lines o.tidy.pieces.single at is;
   opens = λ line. refl;
   barrier = refl;

@@ -15,7 +15,7 @@ pub record MayCarryOn (w : World) (line : ℕ) (pieces : List NewPiece) (many : 
   pub none : left_of w.core.opens line ≡ 0
   pub free : w.core.barrier ≡ None
   pub each : All (MayBeOf w.core.volumes w.shelf.sizes (open_of w.core.opens line) (slice_get w.core.lines.begun line)) pieces
-  pub tickets : AreTickets w.core.volumes w.shelf.sizes (open_of w.core.opens line) many
+  pub tickets : AreTickets w.core.volumes w.shelf.sizes (open_of w.core.opens line) (slice_get w.core.lines.begun line) many
   pub room : IsBorne w (more w.core.owed (more (flushes_room many) (pieces_room pieces)))
   pub spare : length pieces ≤ w.core.pieces.claims.spare
   pub calm : IsCalm no_one (just line) w.core

@@ -1,20 +1,31 @@
 -- The events of a world.
-use Rattle.std.specs.Prelude.{◌≡◌, ◌⊎◌, ℕ, Option, None, Some}
+use Rattle.std.specs.Prelude.{◌≡◌, ◌<◌, ◌⊎◌, ℕ, List, filter, length, Option, None, Some}
+use Rattle.sector_base.specs.declared.places.Piece.{Piece}
+use Rattle.command_table.specs.declared.command.Command.TheVariants.{Wait}
 use Rattle.lvm_script.specs.declared.line.Line.{Line}
 use Rattle.disk_model.specs.Calls.{MakesReady}
 use Rattle.disk_model.specs.State.{IsLawful, State}
 use Rattle.disk_model.specs.declared.ops.Done.{Done}
+use Rattle.line_table.specs.Steps.{is_open}
 use Rattle.io_session.specs.Events.{Event, Begins as BeginsLine, Completes as CompletesOne, Halts, Idles as IdlesAt, RefusesCommit, RefusesLine, Tends}
 use Rattle.world_acts.specs.declared.open_line.OpenLine.{OpenLine}
-use Rattle.line_plans.specs.Plans.{opened_for}
-use Rattle.world_acts.specs.Acts.{Act, Allowed, Begins, Ends, EndsFlush, IsGrown, MayBegin, Reaches, World, after, carries_on, follows}
+use Rattle.line_plans.specs.Plans.{opened_for, pieces_for}
+use Rattle.world_acts.specs.Acts.{Act, Allowed, Begins, Ends, EndsFlush, IsGrown, MayBegin, Prepares, Reaches, World, after, follows}
 
--- the line is begun, open as its command says and as it is judged, and carried on
+-- a line that was begun is prepared, with these pieces, before anything is answered, and then what follows is done
+pub record IsPreparedAndGoes (line : ℕ) (pieces : List Piece) (w v : World) : Type 0 where
+  pub mid : World
+  pub prepares : Prepares line pieces w mid
+  pub goes : Reaches follows mid v
+
+-- the line is begun, open as its command says and as it is judged, prepared with the pieces of its request, and carried on. A wait is
+-- the line that waits for all others then, where another is open.
 pub record BeginsIn (w : World) (line : Line) (v : World) : Type 0 where
   pub opened : OpenLine
   pub is : opened ≡ opened_for w.core.volumes line.command
   pub may : MayBegin w opened
-  pub goes : Reaches carries_on (after w (Begins line opened)) v
+  pub carried : IsPreparedAndGoes (length w.core.lines.begun) (pieces_for w.core.volumes line.command) (after w (Begins line opened)) v
+  pub holds : line.command ≡ Wait → 0 < length (filter is_open w.core.lines.answers) → v.core.barrier ≡ Some (length w.core.lines.begun)
 
 -- a line is begun, once there is room for it
 pub record IsBegun (w : World) (line : Line) (v : World) : Type 0 where

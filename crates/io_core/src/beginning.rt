@@ -1,19 +1,24 @@
 //! A line is begun, as it was prepared.
-ghost use Rattle.std.specs.Prelude.{◌≡◌, ◌⊎◌, ◌≤◌, ◌<◌, ◌+◌, ◌^◌, All, IsTrue, None, is_some, length, slice_get, true};
+ghost use Rattle.std.specs.Prelude.{◌≡◌, ◌⊎◌, ◌≤◌, ◌<◌, ◌+◌, ◌^◌, [], ◌∷◌, All, IsTrue, None, false, is_some, length, map, slice_get, true};
+ghost use Rattle.std.specs.Option.{option_map_or};
+ghost use Rattle.command_table.specs.declared.command.Command.TheVariants.{Wait};
+ghost use Rattle.lvm_script.specs.declared.line.Line.{Line as LineRecord};
+ghost use Rattle.data_lines.specs.DataLines.{is_flush};
+ghost use Rattle.line_plans.specs.declared.preparing.NewPiece.{NewPiece as NewRecord};
 ghost use Rattle.claim_table.specs.Claims.{IsEntry};
 ghost use Rattle.claim_table.specs.declared.claim.Entry.TheVariants as entries;
 ghost use Rattle.flush_plan.specs.Plans.{marks_of};
 ghost use Rattle.line_answers.specs.declared.answer.Answer.TheVariants.{PvFailed};
 ghost use Rattle.piece_table.specs.Pieces.{claim_of, may_start};
 ghost use Rattle.world_acts.specs.declared.room.Room.{Room as RoomRecord};
-ghost use Rattle.world_acts.specs.Acts.{IsBorne, MayBegin, Reaches, carries_on, world};
+ghost use Rattle.world_acts.specs.Acts.{IsBorne, MayBegin, Prepares, world};
 ghost use Rattle.world_acts.specs.OpenLines.{is_whole, left_of, open_at, open_of};
 ghost use Rattle.world_acts.specs.Orderly.{AreReleased, IsOrderly};
 ghost use Rattle.world_acts.specs.Rooms.{IsCounted, more, piece_room};
 ghost use Rattle.world_acts.specs.Steps.{after_awaits, after_begins, after_enters, after_line_fails, await_room};
 ghost use Rattle.world_acts.specs.Volumes.{lv_of};
 ghost use Rattle.io_core.specs.Beginning.{MayCarryOn};
-ghost use Rattle.io_core.specs.Events.{BeginsIn};
+ghost use Rattle.io_core.specs.Events.{BeginsIn, IsPreparedAndGoes};
 ghost use Rattle.line_plans.specs.Plans.{AreTickets, MayBeBegun, MayBeOf, flushes_room, pieces_room};
 ghost use Rattle.io_core.specs.Rest.{IsCalm, IsSettled, NoneReady, SameLines, just, no_one};
 
@@ -51,6 +56,8 @@ pub(crate) fn begin<S: Shelf>(
     requires free { core.old.barrier ≡ None }
     requires may { MayBeBegun (world (S.state shelf.old) core.old) line plan }
     requires waits { is_wait ≡ true → is_whole plan.opened.work ≡ true }
+    requires holds { is_wait ≡ true → line.command ≡ Wait }
+    requires all { line.command ≡ Wait → is_wait ≡ true }
     ensures begins { BeginsIn (world (S.state shelf.old) core.old) line (world (S.state shelf.new) core.new) }
     ensures settled { IsSettled core.new }
 {
@@ -87,7 +94,8 @@ fn carry_on<S: Shelf>(
     tickets: Vec<Ticket>,
 ) -> Option<By>
     requires may { MayCarryOn (world (S.state shelf.old) core.old) line pieces.items (length tickets.items) }
-    ensures reaches { Reaches carries_on (world (S.state shelf.old) core.old) (world (S.state shelf.new) core.new) }
+    ensures carried { IsPreparedAndGoes line (map (λ (new : NewRecord). new.piece) pieces.items) (world (S.state shelf.old) core.old)
+        (world (S.state shelf.new) core.new) }
     ensures settled { IsSettled core.new }
 {
     await_flushes(shelf, core, line, tickets);
@@ -113,11 +121,11 @@ fn open_line<S: Shelf>(shelf: &S, core: &mut Core, line: Line, opened: OpenLine)
 fn await_flushes<S: Shelf>(shelf: &S, core: &mut Core, line: u32, tickets: Vec<Ticket>)
     requires orderly { IsOrderly (world (S.state shelf.now) core.old) }
     requires opened { IsTrue (is_some (open_at core.old.opens line)) }
-    requires tickets { AreTickets core.old.volumes (S.state shelf.now).sizes (open_of core.old.opens line) (length tickets.items) }
+    requires tickets { AreTickets core.old.volumes (S.state shelf.now).sizes (open_of core.old.opens line) (slice_get core.old.lines.begun line) (length tickets.items) }
     requires other { core.old.barrier ≡ None }
     requires room { IsBorne (world (S.state shelf.now) core.old) (more core.old.owed (flushes_room (length tickets.items))) }
     requires few { left_of core.old.opens line + length tickets.items < 2 ^ 64 }
-    ensures reaches { Reaches carries_on (world (S.state shelf.now) core.old) (world (S.state shelf.now) core.new) }
+    ensures prepares { Prepares line [] (world (S.state shelf.now) core.old) (world (S.state shelf.now) core.new) }
     ensures none { length tickets.items ≡ 0 → core.new ≡ core.old }
     ensures calm { IsCalm no_one (just line) core.old → IsCalm no_one (just line) core.new }
     ensures released { AreReleased core.old → AreReleased core.new }
@@ -140,12 +148,13 @@ fn await_flush<S: Shelf>(shelf: &S, core: &mut Core, line: u32, pv: u32, ticket:
     requires orderly { IsOrderly (world (S.state shelf.now) core.old) }
     requires opened { IsTrue (is_some (open_at core.old.opens line)) }
     requires whole { is_whole (open_of core.old.opens line).work ≡ true }
+    requires flushes { option_map_or (λ (l : LineRecord). is_flush l.command) (slice_get core.old.lines.begun line) false ≡ true }
     requires stands { is_some (lv_of core.old.volumes (open_of core.old.opens line).key) ≡ true }
     requires disk { pv < length core.old.waits.disks }
     requires other { core.old.barrier ≡ None }
     requires room { IsBorne (world (S.state shelf.now) core.old) (more core.old.owed (flushes_room 1)) }
     requires few { left_of core.old.opens line + 1 < 2 ^ 64 }
-    ensures reaches { Reaches carries_on (world (S.state shelf.now) core.old) (world (S.state shelf.now) core.new) }
+    ensures prepares { Prepares line [] (world (S.state shelf.now) core.old) (world (S.state shelf.now) core.new) }
     ensures room { (r : RoomRecord) → IsBorne (world (S.state shelf.now) core.old) (more core.old.owed (more (flushes_room 1) r)) → IsBorne (world (S.state shelf.now) core.new) (more core.new.owed r) }
     ensures calm { IsCalm no_one (just line) core.old → IsCalm no_one (just line) core.new }
     ensures released { AreReleased core.old → AreReleased core.new }
@@ -221,7 +230,7 @@ fn enter_pieces<S: Shelf>(
     requires room { IsBorne (world (S.state shelf.old) core.old) (more core.old.owed (pieces_room pieces.items)) }
     requires spare { length pieces.items ≤ core.old.pieces.claims.spare }
     requires few { left_of core.old.opens line + length pieces.items < 2 ^ 64 }
-    ensures reaches { Reaches carries_on (world (S.state shelf.old) core.old) (world (S.state shelf.new) core.new) }
+    ensures prepares { Prepares line (map (λ (new : NewRecord). new.piece) pieces.items) (world (S.state shelf.old) core.old) (world (S.state shelf.new) core.new) }
     ensures calm { IsCalm no_one (just line) core.old → IsCalm no_one (just line) core.new }
     ensures ready { NoneReady core.old → NoneReady core.new }
     ensures opens { SameLines core.old.opens core.new.opens }
@@ -246,7 +255,7 @@ fn enter_piece<S: Shelf>(shelf: &mut S, core: &mut Core, line: u32, new: NewPiec
     requires room { IsBorne (world (S.state shelf.old) core.old) (more core.old.owed (piece_room new.piece (is_some new.ticket))) }
     requires spare { 0 < core.old.pieces.claims.spare }
     requires few { left_of core.old.opens line + 1 < 2 ^ 64 }
-    ensures reaches { Reaches carries_on (world (S.state shelf.old) core.old) (world (S.state shelf.new) core.new) }
+    ensures prepares { Prepares line (new.piece ∷ []) (world (S.state shelf.old) core.old) (world (S.state shelf.new) core.new) }
     ensures room { (r : RoomRecord) → IsBorne (world (S.state shelf.old) core.old) (more core.old.owed (more (piece_room new.piece (is_some new.ticket)) r))
         → IsBorne (world (S.state shelf.new) core.new) (more core.new.owed r) }
     ensures spare { core.new.pieces.claims.spare + 1 ≡ core.old.pieces.claims.spare }

@@ -4,7 +4,7 @@ ghost use Rattle.disk_model.specs.declared.ops.Op.TheVariants.{Read, Write};
 ghost use Rattle.claim_table.specs.Steps.{after_leave};
 ghost use Rattle.piece_table.specs.Pieces.{flying_at, is_started, may_start};
 ghost use Rattle.piece_table.specs.Steps.{live_of};
-ghost use Rattle.world_acts.specs.Acts.{Reaches, follows, world};
+ghost use Rattle.world_acts.specs.Acts.{Reaches, follows, starts, world};
 ghost use Rattle.world_acts.specs.Orderly.{IsOrderly};
 ghost use Rattle.world_acts.specs.Steps.{after_fails};
 ghost use Rattle.io_core.specs.Rest.{IsCalm, NoneReady, SameLines, just, no_one};
@@ -19,7 +19,7 @@ use world_acts::{Core, Room};
 pub(crate) fn start<S: Shelf>(shelf: &mut S, core: &mut Core, number: u64)
     requires orderly { IsOrderly (world (S.state shelf.old) core.old) }
     requires waiting { IsTrue (may_start core.old.pieces number) }
-    ensures reaches { Reaches follows (world (S.state shelf.old) core.old) (world (S.state shelf.new) core.new) }
+    ensures reaches { Reaches starts (world (S.state shelf.old) core.old) (world (S.state shelf.new) core.new) }
     ensures calm { (lines : ℕ → Bool) → lines (live_of core.old.pieces number).line ≡ true → IsCalm (just number) lines core.old → IsCalm no_one lines core.new }
     ensures opens { SameLines core.old.opens core.new.opens }
     ensures barrier { core.new.barrier ≡ core.old.barrier }

@@ -275,7 +275,8 @@ fn core_of(alloc: Global, whole: Whole, parts: Parts) -> Core
 
 // Whether the line waits for all lines before it.
 fn waits_for_all(command: &Command) -> bool
-    ensures { result ≡ true → command.now ≡ Wait }
+    ensures wait { result ≡ true → command.now ≡ Wait }
+    ensures all { command.now ≡ Wait → result ≡ true }
 {
     matches!(command, Command::Wait)
 }

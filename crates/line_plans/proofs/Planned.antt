@@ -14,7 +14,7 @@ use Rattle.command_table.specs.declared.command.Path.{Path}
 use Rattle.line_answers.specs.declared.answer.Answer.TheVariants as answer
 use Rattle.line_answers.specs.declared.op_refusal.OpRefusal.{OpRefusal}
 use Rattle.lvm_script.specs.declared.line.Line.{Line}
-use Rattle.data_lines.specs.DataLines.{is_through, range_of, value_for, volume_named, writes, zero_sector}
+use Rattle.data_lines.specs.DataLines.{is_flush, is_through, range_of, value_for, volume_named, writes, zero_sector}
 use Rattle.meta_model.specs.declared.group.Group.{Group}
 use Rattle.volume_rules.specs.Rules.{IsAccepted}
 use Rattle.list_laws.proofs.Members.{In, has_member, in_list}
@@ -161,9 +161,10 @@ module _ (volumes : Volumes) (command : Command) (path : Path) (range : Option (
     stands sizes laid = key_found volumes row row.lv laid.sorted found.listed
 
     -- it flushes its volume
-    pub flush_planned : (core : Core) (line : Line) (plan : Plan) → core.volumes ≡ volumes → line.command ≡ command → range ≡ None
+    pub flush_planned : (core : Core) (line : Line) (plan : Plan) → core.volumes ≡ volumes → line.command ≡ command
+        → is_flush command ≡ true → range ≡ None
         → work_for volumes command ≡ Whole answer.Fine → IsFlushing row.key (length core.waits.disks) plan → IsPlanFor core line plan
-    flush_planned core line plan same is no_range work made sizes laid disks =
+    flush_planned core line plan same is flushes no_range work made sizes laid disks =
         let opened : plan.opened ≡ opened_for volumes command = made.opened ∙ sym (opened_is ∙ ap (opened_on row.key) work) in
         subst (λ (v : Volumes). IsPlanned v sizes line plan) (sym same) (record {
           opened = opened ∙ sym (ap (opened_for volumes) is);
@@ -172,11 +173,13 @@ module _ (volumes : Volumes) (command : Command) (path : Path) (range : Option (
               ∙ sym (ap (pieces_for volumes) is ∙ pieces_are
               ∙ ap (λ (o : Option (ℕ × ℕ)). option_map_or (λ (r : ℕ × ℕ). pieces_of row.key r.0 r.1 writing) o []) no_range);
           pieces = none_of (MayBeOf volumes sizes plan.opened (Some line)) plan.pieces.items made.pieces;
-          tickets = inr (subst (λ (o : OpenLine). AreForDisks volumes sizes o (length plan.tickets.items)) (sym made.opened) (record {
-            many = made.tickets ∙ disks;
-            whole = refl;
-            stands = ap (λ (o : Option ℕ). is_some o) (stands sizes (subst (λ (v : Volumes). AreLaidOut v sizes) same laid));
-          }));
+          tickets = inr (subst (λ (o : OpenLine). AreForDisks volumes sizes o (Some line) (length plan.tickets.items))
+              (sym made.opened) (record {
+                many = made.tickets ∙ disks;
+                whole = refl;
+                flushes = ap is_flush is ∙ flushes;
+                stands = ap (λ (o : Option ℕ). is_some o) (stands sizes (subst (λ (v : Volumes). AreLaidOut v sizes) same laid));
+              }));
         })
 
     module _ (start count : ℕ) (sectors : range ≡ Some (start, count)) where

@@ -10,7 +10,7 @@ use Rattle.command_table.specs.declared.command.Command.TheVariants as command
 use Rattle.line_answers.specs.declared.answer.Answer.TheVariants as answer
 use Rattle.line_answers.specs.declared.op_refusal.OpRefusal.{OpRefusal}
 use Rattle.lvm_script.specs.declared.line.Line.{Line}
-use Rattle.data_lines.specs.DataLines.{is_through, range_of, value_for, writes, zero_sector}
+use Rattle.data_lines.specs.DataLines.{is_flush, is_through, range_of, value_for, writes, zero_sector}
 use Rattle.meta_model.specs.declared.group.Group.{Group}
 use Rattle.meta_model.specs.declared.lv.Lv.{Lv}
 use Rattle.seg_place.specs.Sectors.{sectors_of}
@@ -115,20 +115,21 @@ pub record MayBeOf (volumes : Volumes) (sizes : List ℕ) (opened : OpenLine) (l
   pub waits : is_some new.ticket ≡ option_map_or (λ (l : Line). is_through l.command) line false
 
 -- the tickets: none, or, of a line that flushes a volume, one for each disk
-pub record AreForDisks (volumes : Volumes) (sizes : List ℕ) (opened : OpenLine) (tickets : ℕ) : Type 0 where
+pub record AreForDisks (volumes : Volumes) (sizes : List ℕ) (opened : OpenLine) (line : Option Line) (tickets : ℕ) : Type 0 where
   pub many : tickets ≡ length sizes
   pub whole : is_whole opened.work ≡ true
+  pub flushes : option_map_or (λ (l : Line). is_flush l.command) line false ≡ true
   pub stands : is_some (lv_of volumes opened.key) ≡ true
 
-abbrev pub AreTickets : Volumes → List ℕ → OpenLine → ℕ → Type 0
-AreTickets volumes sizes opened tickets = (tickets ≡ 0) ⊎ AreForDisks volumes sizes opened tickets
+abbrev pub AreTickets : Volumes → List ℕ → OpenLine → Option Line → ℕ → Type 0
+AreTickets volumes sizes opened line tickets = (tickets ≡ 0) ⊎ AreForDisks volumes sizes opened line tickets
 
 -- the plan is the line's, over disks of these sizes
 pub record IsPlanned (volumes : Volumes) (sizes : List ℕ) (line : Line) (plan : Plan) : Type 0 where
   pub opened : plan.opened ≡ opened_for volumes line.command
   pub cut : map (λ (new : NewPiece). new.piece) plan.pieces.items ≡ pieces_for volumes line.command
   pub pieces : All (MayBeOf volumes sizes plan.opened (Some line)) plan.pieces.items
-  pub tickets : AreTickets volumes sizes plan.opened (length plan.tickets.items)
+  pub tickets : AreTickets volumes sizes plan.opened (Some line) (length plan.tickets.items)
 
 -- ---- plans by their parts
 

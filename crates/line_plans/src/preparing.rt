@@ -163,10 +163,7 @@ fn refused_plan(core: &Core, path: &Path, why: PlanRefusal) -> Result<Plan, Allo
     match why {
         PlanRefusal::Refused(refusal) => {
             let key = key_on(&core.volumes, path);
-            Ok(alone(
-                core.alloc,
-                OpenLine::refused(key, Answer::Refused(refusal)),
-            ))
+            Ok(alone(core.alloc, OpenLine::refused(key, Answer::Refused(refusal))))
         }
         PlanRefusal::NoMemory => Err(AllocError),
     }

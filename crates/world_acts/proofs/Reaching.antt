@@ -1,8 +1,12 @@
 -- Acts that follow one another: none, one, those of two lists, and what each of them keeps.
-use Rattle.std.proofs.Common.{◌≡◌, Bool, true, not, All, List, [], ◌∷◌, ◌++◌, refl, sym, subst}
-use Rattle.std.proofs.lemmas.Bool.{and_parts}
+use Rattle.std.proofs.Common.{◌≡◌, ℕ, Bool, true, not, All, List, [], ◌∷◌, ◌++◌, Option, refl, sym, ap, subst, ◌∙◌, true≢false}
+use Rattle.std.proofs.lemmas.Bool.{and_parts, eq-eqb}
 use Rattle.std.proofs.lemmas.List.Elements.{All-append, All-cons, All-head, All-nil, All-tail, All-weaker}
-use Rattle.world_acts.specs.Acts.{Act, Allowed, Reaches, Runs, World, after, carries_on, follows, opens_event, owes_more}
+use Rattle.sector_base.specs.declared.places.Piece.{Piece}
+use Rattle.claim_table.specs.declared.claim.Entry.{Entry}
+use Rattle.world_acts.specs.Acts.{Act, Allowed, Answers, Asks, AsksFlush, Awaits, Begins, Ends, EndsFlush, Enters, Fails, Grows, Holds}
+use Rattle.world_acts.specs.Acts.{LineFails, Marks, Passes, Prepares, Reaches, Readies, Reads, Releases, Runs, Starts, Wakes, World, Writes}
+use Rattle.world_acts.specs.Acts.{after, carries_on, follows, opens_event, owes_more, pieces_entered, prepares, starts}
 
 pub reaches_none : (may : Act → Bool) (w : World) → Reaches may w w
 reaches_none may w = record { acts = []; all = All-nil (λ (a : Act). may a ≡ true); run = refl }
@@ -25,14 +29,119 @@ reaches_both may w v u first later = record {
   run = runs_both first.acts later.acts w v u first.run later.run;
 }
 
+-- acts that pass one test pass another
+pub reaches_weaker : (may most : Act → Bool) (w v : World) → ((a : Act) → may a ≡ true → most a ≡ true) → Reaches may w v
+    → Reaches most w v
+reaches_weaker may most w v passes goes = record {
+  acts = goes.acts;
+  all = All-weaker (λ (a : Act). may a ≡ true) (λ (a : Act). most a ≡ true) passes goes.acts goes.all;
+  run = goes.run;
+}
+
 -- what follows once an operation has completed may also carry a line on
 pub reaches_carried : (w v : World) → Reaches follows w v → Reaches carries_on w v
-reaches_carried w v goes = record {
-  acts = goes.acts;
-  all =
-      All-weaker (λ (a : Act). follows a ≡ true) (λ (a : Act). carries_on a ≡ true)
-      (λ a is. (and_parts (not (opens_event a)) (not (owes_more a)) is).0) goes.acts goes.all;
-  run = goes.run;
+reaches_carried w v goes =
+    reaches_weaker follows carries_on w v (λ a is. (and_parts (not (opens_event a)) (not (owes_more a)) is).0) goes
+
+-- the start of a piece follows, and is of its line
+start_follows : (a : Act) → starts a ≡ true → follows a ≡ true
+start_follows (Starts number) is = refl
+start_follows (Asks number op tag now) is = refl
+start_follows (Fails number why) is = refl
+start_follows a is = absurd (true≢false (sym is))
+
+start_prepares : (line : ℕ) (a : Act) → starts a ≡ true → prepares line a ≡ true
+start_prepares line (Starts number) is = refl
+start_prepares line (Asks number op tag now) is = refl
+start_prepares line (Fails number why) is = refl
+start_prepares line a is = absurd (true≢false (sym is))
+
+start_enters : (a : Act) (acts : List Act) → starts a ≡ true → pieces_entered (a ∷ acts) ≡ pieces_entered acts
+start_enters (Starts number) acts is = refl
+start_enters (Asks number op tag now) acts is = refl
+start_enters (Fails number why) acts is = refl
+start_enters a acts is = absurd (true≢false (sym is))
+
+none_enters : (acts : List Act) → All (λ (a : Act). starts a ≡ true) acts → pieces_entered acts ≡ []
+none_enters [] all = refl
+none_enters (a ∷ acts) all =
+    start_enters a acts (All-head (λ (b : Act). starts b ≡ true) a acts all)
+    ∙ none_enters acts (All-tail (λ (b : Act). starts b ≡ true) a acts all)
+
+pub starts_follow : (w v : World) → Reaches starts w v → Reaches follows w v
+starts_follow w v goes = reaches_weaker starts follows w v start_follows goes
+
+-- ---- a line is prepared
+
+prepare_carries : (line : ℕ) (a : Act) → prepares line a ≡ true → carries_on a ≡ true
+prepare_carries line (Enters n piece sectors ticket entry) is = refl
+prepare_carries line (Awaits n pv) is = refl
+prepare_carries line (LineFails n why) is = refl
+prepare_carries line (Starts number) is = refl
+prepare_carries line (Asks number op tag now) is = refl
+prepare_carries line (Fails number why) is = refl
+prepare_carries line a is = absurd (true≢false (sym is))
+
+pub prepared_carried : (line : ℕ) (pieces : List Piece) (w v : World) → Prepares line pieces w v → Reaches carries_on w v
+prepared_carried line pieces w v p = reaches_weaker (prepares line) carries_on w v (prepare_carries line) p.reaches
+
+pub prepares_none : (line : ℕ) (w : World) → Prepares line [] w w
+unfolding reaches_none
+prepares_none line w = record { reaches = reaches_none (prepares line) w; entered = refl }
+
+pub prepares_starts : (line : ℕ) (w v : World) → Reaches starts w v → Prepares line [] w v
+unfolding reaches_weaker
+prepares_starts line w v goes = record {
+  reaches = reaches_weaker starts (prepares line) w v (start_prepares line) goes;
+  entered = none_enters goes.acts goes.all;
+}
+
+pub prepares_enter : (w : World) (line : ℕ) (piece : Piece) (sectors : List (List ℕ)) (ticket : Option (Unit {0})) (entry : Entry)
+    → Allowed w (Enters line piece sectors ticket entry)
+    → Prepares line (piece ∷ []) w (after w (Enters line piece sectors ticket entry))
+unfolding reaches_act
+prepares_enter w line piece sectors ticket entry allowed = record {
+  reaches = reaches_act (prepares line) w (Enters line piece sectors ticket entry) (eq-eqb line line refl) allowed;
+  entered = refl;
+}
+
+pub prepares_act : (w : World) (line : ℕ) (a : Act) → prepares line a ≡ true → pieces_entered (a ∷ []) ≡ [] → Allowed w a
+    → Prepares line [] w (after w a)
+unfolding reaches_act
+prepares_act w line a passes none allowed = record { reaches = reaches_act (prepares line) w a passes allowed; entered = none }
+
+entered_both : (first later : List Act) → pieces_entered (first ++ later) ≡ pieces_entered first ++ pieces_entered later
+entered_both [] later = refl
+entered_both (Enters line piece sectors ticket entry ∷ first) later = ap (λ (ps : List Piece). piece ∷ ps) (entered_both first later)
+entered_both (Begins line opened ∷ first) later = entered_both first later
+entered_both (Awaits line pv ∷ first) later = entered_both first later
+entered_both (LineFails line why ∷ first) later = entered_both first later
+entered_both (Answers line ∷ first) later = entered_both first later
+entered_both (Holds line ∷ first) later = entered_both first later
+entered_both (Passes line ∷ first) later = entered_both first later
+entered_both (Wakes ∷ first) later = entered_both first later
+entered_both (Starts number ∷ first) later = entered_both first later
+entered_both (Asks number op tag now ∷ first) later = entered_both first later
+entered_both (Ends done now ∷ first) later = entered_both first later
+entered_both (Marks pv ∷ first) later = entered_both first later
+entered_both (Fails number why ∷ first) later = entered_both first later
+entered_both (Writes number pv ∷ first) later = entered_both first later
+entered_both (Reads number sectors ∷ first) later = entered_both first later
+entered_both (AsksFlush pv tag now ∷ first) later = entered_both first later
+entered_both (EndsFlush done now ∷ first) later = entered_both first later
+entered_both (Releases pv ∷ first) later = entered_both first later
+entered_both (Readies now ∷ first) later = entered_both first later
+entered_both (Grows v ∷ first) later = entered_both first later
+
+pub prepares_both : (line : ℕ) (first later all : List Piece) (w v u : World) → first ++ later ≡ all → Prepares line first w v
+    → Prepares line later v u
+    → Prepares line all w u
+unfolding reaches_both
+prepares_both line first later all w v u is p q = record {
+  reaches = reaches_both (prepares line) w v u p.reaches q.reaches;
+  entered =
+      entered_both p.reaches.acts q.reaches.acts ∙ ap (λ (ps : List Piece). ps ++ pieces_entered q.reaches.acts) p.entered
+      ∙ ap (λ (ps : List Piece). first ++ ps) q.entered ∙ is;
 }
 
 -- what each act keeps that passes the test, all of them keep

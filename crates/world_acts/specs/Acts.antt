@@ -1,5 +1,5 @@
 -- Acts: an event is a list of them, and each adds one step of the shelf or one entry at the most.
-use Rattle.std.specs.Prelude.{◌≡◌, ◌≤◌, ◌<◌, ◌≢◌, All, ℕ, ◌+◌, Bool, true, false, not, ◌&&◌, IsTrue, List, [], ◌∷◌, length, Option}
+use Rattle.std.specs.Prelude.{◌≡◌, ◌≤◌, ◌<◌, ◌≢◌, All, ℕ, ◌+◌, ◌==◌, Bool, true, false, not, ◌&&◌, IsTrue, List, [], ◌∷◌, length, Option}
 use Rattle.std.specs.Prelude.{None, Some, filter, is_some, slice_get}
 use Rattle.std.specs.FinSet as set
 use Rattle.std.specs.Option.{option_map_or}
@@ -7,7 +7,7 @@ use Rattle.sector_base.specs.declared.places.Piece.{Piece}
 use Rattle.line_answers.specs.declared.answer.Answer.{Answer}
 use Rattle.line_answers.specs.declared.answer.Answer.TheVariants.{PvFailed, ReadFailed}
 use Rattle.lvm_script.specs.declared.line.Line.{Line}
-use Rattle.data_lines.specs.DataLines.{is_through}
+use Rattle.data_lines.specs.DataLines.{is_flush, is_through}
 use Rattle.disk_model.specs.Calls.{Completes, MakesReady, Submits}
 use Rattle.disk_model.specs.Operations.{work_of}
 use Rattle.disk_model.specs.State.{IsLawful, State}
@@ -170,6 +170,7 @@ pub record MayAwait (w : World) (line pv : ℕ) : Type 0 where
   pub opened : OpenLine
   pub is_open : open_at w.core.opens line ≡ Some opened
   pub whole : is_whole opened.work ≡ true
+  pub flushes : option_map_or (λ (l : Line). is_flush l.command) (slice_get w.core.lines.begun line) false ≡ true
   pub disk : pv < length w.shelf.sizes
   pub behind : (marks_of w.core.waits.plan pv).ended < dirty_at w.core.waits opened.key pv
   pub other : w.core.barrier ≢ Some line
@@ -257,6 +258,31 @@ carries_on a = not (opens_event a)
 
 abbrev pub follows : Act → Bool
 follows a = not (opens_event a) && not (owes_more a)
+
+-- whether it starts a piece, or lets it fail as it starts
+abbrev pub starts : Act → Bool
+starts (Starts number) = true
+starts (Asks number op tag now) = true
+starts (Fails number why) = true
+starts _ = false
+
+-- whether it is of a line that was begun, before that may be answered: a piece of it enters, and starts, or it waits for a flush
+abbrev pub prepares : ℕ → Act → Bool
+prepares line (Enters n piece sectors ticket entry) = n == line
+prepares line (Awaits n pv) = n == line
+prepares line (LineFails n why) = n == line
+prepares line a = starts a
+
+-- the pieces that enter
+abbrev pub pieces_entered : List Act → List Piece
+pieces_entered [] = []
+pieces_entered (Enters line piece sectors ticket entry ∷ acts) = piece ∷ pieces_entered acts
+pieces_entered (_ ∷ acts) = pieces_entered acts
+
+-- such acts lead from one world to another, in which these pieces enter
+pub record Prepares (line : ℕ) (pieces : List Piece) (w v : World) : Type 0 where
+  pub reaches : Reaches (prepares line) w v
+  pub entered : pieces_entered reaches.acts ≡ pieces
 
 -- how much is left to do: operations in flight, and those that may still be submitted
 abbrev pub left_in : World → ℕ

@@ -14,6 +14,7 @@ dirty-last-requires g c = record {
         orderly = c.requires.orderly;
         opened = c.requires.opened;
         whole = c.requires.whole;
+        flushes = c.requires.flushes;
         stands = c.requires.stands;
         disk = c.requires.disk;
         other = c.requires.other;
@@ -42,6 +43,7 @@ returns g c =
       orderly = c.requires.orderly;
       opened = c.requires.opened;
       whole = c.requires.whole;
+      flushes = c.requires.flushes;
       stands = c.requires.stands;
       disk = c.requires.disk;
       other = c.requires.other;
@@ -51,7 +53,7 @@ returns g c =
     (key ∙ ap (λ (o : OpenLine). dirty_at w.core.waits o.key c.args.pv)
     (sym (open_is w.core.opens c.args.line c.get.result.now c.get.ensures))) c.await_write.ensures in
     record {
-      reaches = is.reaches;
+      prepares = is.prepares;
       room = is.room;
       calm = is.calm;
       released = is.released;

@@ -38,6 +38,7 @@ await_flush-requires g c =
       orderly = is.orderly;
       opened = is.opened;
       whole = is.whole;
+      flushes = is.flushes;
       stands = is.stands;
       disk = is.disk;
       other = is.other;
@@ -56,7 +57,7 @@ loop-ticket-preserved g c =
     waited_more c.args.line w v u c.loop-ticket.pv (length c.pop.new.self.items) (length c.loop-ticket.rest.items)
     (length c.args.tickets.items) next c.loop-ticket.invariant
     (record {
-      reaches = is.reaches;
+      prepares = is.prepares;
       room = is.room;
       calm = is.calm;
       released = is.released;
@@ -70,7 +71,7 @@ pub returns : goal.returns
 returns g c =
     let is = c.loop-ticket.invariant in
     record {
-      reaches = is.has.reaches;
+      prepares = is.has.prepares;
       none = is.has.none;
       calm = is.has.calm;
       released = is.has.released;

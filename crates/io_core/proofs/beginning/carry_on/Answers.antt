@@ -2,7 +2,7 @@ use Rattle.std.proofs.Common.{length}
 use Rattle.world_acts.specs.Acts.{World, world}
 use Rattle.io_core.proofs.LineBegins.{IsCarriedOn, MayClose, carried_on, first_waits, then_closes, then_enters}
 use Rattle.io_core.proofs.LineWaits.{MayAwaitFlushes}
-use Rattle.io_core.proofs.PieceEnters.{MayEnterPieces}
+use Rattle.io_core.proofs.PieceEnters.{MayEnterPieces, pieces_in}
 use Rattle.io_core.proofs.beginning.carry_on.Goals as goal
 
 pub await_flushes-requires : goal.await_flushes-requires
@@ -19,7 +19,7 @@ enter_pieces-first-requires g c =
     let is : MayEnterPieces (world w.shelf c.await_flushes.new.core) c.args.line c.args.pieces.items =
     then_enters w c.args.line c.args.pieces.items (length c.args.tickets.items) c.await_flushes.new.core c.requires.may
     (record {
-      reaches = s.reaches;
+      prepares = s.prepares;
       none = s.none;
       calm = s.calm;
       released = s.released;
@@ -40,7 +40,7 @@ close_line-requires g c =
     let is : MayClose u c.args.line =
     then_closes w v u c.args.line (length c.args.tickets.items) c.args.pieces.items c.requires.may
     (record {
-      reaches = s.reaches;
+      prepares = s.prepares;
       none = s.none;
       calm = s.calm;
       released = s.released;
@@ -49,7 +49,7 @@ close_line-requires g c =
       barrier = s.barrier;
       left = s.left;
     })
-    (record { reaches = t.reaches; calm = t.calm; ready = t.ready; opens = t.opens; barrier = t.barrier; waits = t.waits }) in
+    (record { prepares = t.prepares; calm = t.calm; ready = t.ready; opens = t.opens; barrier = t.barrier; waits = t.waits }) in
     record { orderly = is.orderly; opened = is.opened; other = is.other }
 
 pub returns : goal.returns
@@ -60,10 +60,10 @@ returns g c =
     let s = c.await_flushes.ensures in
     let t = c.enter_pieces-first.ensures in
     let e = c.close_line.ensures in
-    let is : IsCarriedOn w (world u.shelf c.close_line.new.core) =
+    let is : IsCarriedOn c.args.line (pieces_in c.args.pieces.items) w (world u.shelf c.close_line.new.core) =
     carried_on w v u (world u.shelf c.close_line.new.core) c.args.line (length c.args.tickets.items) c.args.pieces.items c.requires.may
     (record {
-      reaches = s.reaches;
+      prepares = s.prepares;
       none = s.none;
       calm = s.calm;
       released = s.released;
@@ -72,6 +72,6 @@ returns g c =
       barrier = s.barrier;
       left = s.left;
     })
-    (record { reaches = t.reaches; calm = t.calm; ready = t.ready; opens = t.opens; barrier = t.barrier; waits = t.waits })
+    (record { prepares = t.prepares; calm = t.calm; ready = t.ready; opens = t.opens; barrier = t.barrier; waits = t.waits })
     (record { reaches = e.reaches; calm = e.calm; pieces = e.pieces; waits = e.waits }) in
-    record { reaches = is.reaches; settled = is.settled }
+    record { carried = is.carried; settled = is.settled }

@@ -27,7 +27,7 @@ returns-in-Started g c =
     e.result.1 v c.agree.ensures.claimed c.agree.ensures.numbered e.ensures.number e.ensures.answer c.in-Started.is e.ensures.after
     (record { reaches = s.reaches; calm = s.calm; opens = s.opens; barrier = s.barrier; claims = s.claims; waits = s.waits }) in
     record {
-      reaches = is.reaches;
+      prepares = is.prepares;
       room = is.room;
       spare = is.spare;
       calm = is.calm;
@@ -48,7 +48,7 @@ returns-in-Deferred g c =
     (record { orderly = r.orderly; opened = r.opened; may = r.may; room = r.room; spare = r.spare; few = r.few }) e.new.core e.result.1
     c.in-Deferred.by c.claims_stay_apart.ensures.free c.agree.ensures.numbered e.ensures.answer c.in-Deferred.is e.ensures.after in
     record {
-      reaches = is.reaches;
+      prepares = is.prepares;
       room = is.room;
       spare = is.spare;
       calm = is.calm;

@@ -1,14 +1,15 @@
-use Rattle.std.proofs.Common.{◌≡◌, ◌∷◌, [], List, reverse, sym, ap, subst, ◌∙◌}
-use Rattle.std.proofs.lemmas.List.{reverse-append, reverse-reverse}
-use Rattle.world_acts.specs.Acts.{World, world}
+use Rattle.std.proofs.Common.{◌≡◌, ◌∷◌, [], List, reverse, sym, ap, subst, ◌∙◌, arith}
+use Rattle.std.proofs.lemmas.List.{append-nil, nil_from_length, reverse-append, reverse-reverse}
+use Rattle.sector_base.specs.declared.places.Piece.{Piece}
+use Rattle.world_acts.specs.Acts.{Prepares, World, world}
 use Rattle.line_plans.specs.declared.preparing.NewPiece.{NewPiece}
-use Rattle.io_core.proofs.PieceEnters.{MayEnterPiece, PiecesEnter, first_enters, none_entered, one_entered}
+use Rattle.io_core.proofs.PieceEnters.{MayEnterPiece, PiecesEnter, first_enters, none_entered, one_entered, pieces_in}
 use Rattle.io_core.proofs.beginning.enter_pieces.Goals as goal
 
 pub loop-new-init : goal.loop-new-init
 loop-new-init g c =
     let w : World = world (g.S.Shelf.state c.args.shelf.now) c.args.core.now in
-    subst (λ (l : List NewPiece). PiecesEnter c.args.line w w l)
+    subst (λ (l : List NewPiece). PiecesEnter c.args.line w w c.args.pieces.items l)
     (sym (ap (λ (l : List NewPiece). reverse l) c.reverse.ensures.items ∙ reverse-reverse c.args.pieces.items))
     (none_entered c.args.line w c.args.pieces.items
     (record {
@@ -27,7 +28,7 @@ enter_piece-by-requires g c =
     let next : reverse c.loop-new.rest.items ≡ c.in-Some.new ∷ reverse rest =
     ap (λ (l : List NewPiece). reverse l) c.in-Some.ensures.items ∙ reverse-append rest (c.in-Some.new ∷ []) in
     let all = subst (λ (l : List NewPiece). PiecesEnter c.args.line
-    (world (g.S.Shelf.state c.args.shelf.now) c.args.core.now) v l) next c.loop-new.invariant in
+    (world (g.S.Shelf.state c.args.shelf.now) c.args.core.now) v c.args.pieces.items l) next c.loop-new.invariant in
     let is : MayEnterPiece v c.args.line c.in-Some.new = first_enters c.args.line v c.in-Some.new (reverse rest) all.may in
     record { orderly = is.orderly; opened = is.opened; may = is.may; room = is.room; spare = is.spare; few = is.few }
 
@@ -40,10 +41,10 @@ loop-new-preserved g c =
     let next : reverse c.loop-new.rest.items ≡ c.in-Some.new ∷ reverse rest =
     ap (λ (l : List NewPiece). reverse l) c.in-Some.ensures.items ∙ reverse-append rest (c.in-Some.new ∷ []) in
     let is = c.enter_piece-by.ensures in
-    one_entered c.args.line w v u c.in-Some.new (reverse rest)
-    (subst (λ (l : List NewPiece). PiecesEnter c.args.line w v l) next c.loop-new.invariant)
+    one_entered c.args.line w v u c.in-Some.new c.args.pieces.items (reverse rest)
+    (subst (λ (l : List NewPiece). PiecesEnter c.args.line w v c.args.pieces.items l) next c.loop-new.invariant)
     (record {
-      reaches = is.reaches;
+      prepares = is.prepares;
       room = is.room;
       spare = is.spare;
       calm = is.calm;
@@ -56,12 +57,18 @@ loop-new-preserved g c =
 
 pub returns : goal.returns
 returns g c =
-    let is = c.loop-new.invariant.has in
+    let w : World = world (g.S.Shelf.state c.args.shelf.now) c.args.core.now in
+    let v : World = world (g.S.Shelf.state c.loop-new.shelf) c.loop-new.core in
+    let k : PiecesEnter c.args.line w v c.args.pieces.items [] =
+    subst (λ (l : List NewPiece). PiecesEnter c.args.line w v c.args.pieces.items (reverse l))
+    (nil_from_length c.loop-new.rest.items (omega (arith, c.in_default.ensures.cases.0, c.loop-new.rest.ok.0))) c.loop-new.invariant
+    in
+    let all : k.done ≡ pieces_in c.args.pieces.items = sym (append-nil k.done) ∙ k.some in
     record {
-      reaches = is.reaches;
-      calm = is.calm;
-      ready = is.ready;
-      opens = is.opens;
-      barrier = is.barrier;
-      waits = is.waits;
+      prepares = subst (λ (ps : List Piece). Prepares c.args.line ps w v) all k.has.prepares;
+      calm = k.has.calm;
+      ready = k.has.ready;
+      opens = k.has.opens;
+      barrier = k.has.barrier;
+      waits = k.has.waits;
     }

@@ -1,4 +1,4 @@
-use Rattle.std.proofs.Common.{◌≡◌, ℕ, List, length, ap, arith}
+use Rattle.std.proofs.Common.{◌≡◌, ℕ, List, length, refl, ap, ◌∙◌, arith}
 use Rattle.world_acts.specs.Acts.{World, follows, world}
 use Rattle.world_acts.proofs.Lasting.{sizes_reach}
 use Rattle.world_acts.proofs.Orderly.{orderly_reaches}
@@ -10,6 +10,7 @@ pub loop-pv-init : goal.loop-pv-init
 loop-pv-init g c = record {
   reaches = reaches_none follows (world (g.S.Shelf.state c.args.shelf.now) c.args.core.now);
   settled = c.requires.settled;
+  barrier = refl;
   flushed = λ pv below. absurd (omega (arith, below));
 }
 
@@ -35,8 +36,10 @@ loop-pv-preserved g c =
     record {
       reaches = reaches_both follows w v u c.loop-pv.invariant.reaches is.reaches;
       settled = is.settled;
+      barrier = is.barrier ∙ c.loop-pv.invariant.barrier;
       flushed =
-          flushed_more c.loop-pv.pv v u (record { reaches = is.reaches; settled = is.settled; here = is.here; others = is.others })
+          flushed_more c.loop-pv.pv v u
+          (record { reaches = is.reaches; settled = is.settled; here = is.here; barrier = is.barrier; others = is.others })
           c.loop-pv.invariant.flushed;
     }
 
@@ -49,6 +52,7 @@ returns g c =
     ap (λ (l : List ℕ). length l) (sizes_reach follows w v c.loop-pv.invariant.reaches) in
     record {
       reaches = c.loop-pv.invariant.reaches;
+      barrier = c.loop-pv.invariant.barrier;
       rest = record {
         settled = c.loop-pv.invariant.settled;
         flushed =

@@ -5,7 +5,7 @@ use Rattle.piece_table.specs.Pieces.{Pieces}
 use Rattle.world_acts.specs.declared.state.Core.{Core}
 use Rattle.world_acts.specs.Acts.{Reaches, World, follows, world}
 use Rattle.world_acts.proofs.Orderly.{orderly_reaches}
-use Rattle.world_acts.proofs.Reaching.{reaches_both, reaches_none}
+use Rattle.world_acts.proofs.Reaching.{reaches_both, reaches_none, starts_follow}
 use Rattle.io_core.specs.Rest.{IsCalm, NoneReady, just, no_one}
 use Rattle.io_core.proofs.Deferred.{none_found}
 use Rattle.io_core.proofs.LiveLines.{live_open, live_other}
@@ -68,7 +68,8 @@ loop-number-preserved g c =
       calm = c.close_line.ensures.calm (c.start.ensures.calm (just l.line) k.0 k.1);
       reaches =
           reaches_both follows first w z c.loop-number.invariant.reaches
-          (reaches_both follows w x z t.reaches (reaches_both follows x v z c.start.ensures.reaches c.close_line.ensures.reaches));
+          (reaches_both follows w x z t.reaches
+          (reaches_both follows x v z (starts_follow x v c.start.ensures.reaches) c.close_line.ensures.reaches));
       waits = c.close_line.ensures.waits ∙ c.start.ensures.waits ∙ c.loop-number.invariant.waits;
     }
 

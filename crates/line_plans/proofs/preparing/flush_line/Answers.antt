@@ -11,7 +11,7 @@ returns-in-Ok c =
     IfOk-weaker c.flush_plan.result (IsFlushing c.in-Ok.row.key c.disks.result) (IsPlanFor c.args.core.now c.args.line.now)
     (λ plan made. flush_planned c.args.core.now.volumes (command.Flush c.args.path.now) c.args.path.now None false
     (record { volume = refl; sectors = refl; kind = refl }) c.in-Ok.row c.in-Ok.ensures.0 c.in-Ok.ensures.1 c.args.core.now
-    c.args.line.now plan refl c.requires.flushes refl refl
+    c.args.line.now plan refl c.requires.flushes refl refl refl
     (subst (λ (n : ℕ). IsFlushing c.in-Ok.row.key n plan) c.disks.ensures made))
     c.flush_plan.ensures
 
