@@ -1,5 +1,5 @@
 -- The first word of a line.
-use Rattle.std.proofs.Common.{◌≡◌, ◌∙◌, ◌<◌, ◌≤◌, ◌+◌, ◌==◌, ℕ, suc, Bool, true, false, if◌then◌else◌, List, [], ◌∷◌, get_or, length}
+use Rattle.std.proofs.Common.{◌≡◌, ◌∙◌, ◌<◌, ◌≤◌, ◌+◌, ◌==◌, ℕ, zero, suc, Bool, true, false, if◌then◌else◌, List, [], ◌∷◌, get_or, length}
 use Rattle.std.proofs.Common.{drop, Some, None, refl, ap, sym, subst, inl, inr, ◌⊎◌, arith}
 use Rattle.std.specs.Prelude.{not}
 use Rattle.std.proofs.lemmas.Bool.{cases_lt}
@@ -38,7 +38,7 @@ behind_space line i within space =
 
 -- so many of the first spaces are passed
 behind_spaces : (line : List ℕ) (i : ℕ) → i ≤ spaces line → words_in line ≡ some_from i (slice_split is_space (drop i line))
-behind_spaces line 0 below = refl
+behind_spaces line zero below = refl
 behind_spaces line (suc i) below =
     let most = prefix_len-le-length (λ (byte : ℕ). not (not (byte == 32))) line in
     let space = passed (get_or line i 0 == 32) (fails_before_first (λ (byte : ℕ). not (byte == 32)) line i 0 (omega (arith, below))) in

@@ -1,5 +1,7 @@
 -- The first refused line of a script.
-use Rattle.std.proofs.Common.{◌≡◌, ◌∙◌, ◌-◌, ℕ, List, take, Option, Result, MatchResult, None, Some, Ok, Err, ap, sym}
+use Rattle.std.proofs.Common.{◌≡◌, ◌∙◌, ◌-◌, ℕ, List, take, Option, Result, MatchOption, MatchResult, None, Some, Ok, Err, ap, sym, subst}
+use Rattle.std.proofs.Common.{unwrap_or}
+use Rattle.std.specs.Result.{result_err}
 use Rattle.std.specs.Option.{option_map_or}
 use Rattle.command_table.specs.declared.command.Command.{Command}
 use Rattle.command_table.specs.declared.line_fault.LineFault.TheVariants.{UnknownWord}
@@ -31,22 +33,24 @@ commands_before text front number place first before =
     commands_by text (Some (number, place)) first
     ∙ ap (λ (lines : List (List ℕ)). refused_at (number, place) (commands_from lines 1 0)) (sym before)
 
--- no line before it is refused
-pub refused_there : (text front : List ℕ) (number place : ℕ) → first_unrun 1 (lines_in text) ≡ Some (number, place)
+-- that of such a line, unless a line before it is refused
+pub refused_first : (text front : List ℕ) (number place : ℕ) → first_unrun 1 (lines_in text) ≡ Some (number, place)
     → lines_in front ≡ take (number - 1) (lines_in text)
-    → (commands : List (ℕ × Command)) × (commands_from (lines_in front) 1 0 ≡ Ok commands)
-    → session_commands text ≡ Err (number, UnknownWord, place)
-refused_there text front number place first before (commands, is) =
+    → (wrong : Option ScriptRefusal)
+    → MatchOption wrong ((commands : List (ℕ × Command)) × (commands_from (lines_in front) 1 0 ≡ Ok commands))
+      (IsScriptRefusal (commands_from (lines_in front) 1 0))
+    → IsScriptRefusal (session_commands text) (unwrap_or wrong (LineRefused number UnknownWord place))
+refused_first text front number place first before None (commands, is) =
+    commands_before text front number place first before ∙ ap (refused_at (number, place)) is
+refused_first text front number place first before (Some NoMemory) is = tt
+refused_first text front number place first before (Some (LineRefused line fault at)) is =
     commands_before text front number place first before ∙ ap (refused_at (number, place)) is
 
--- a line before it is refused
-pub refused_before : (text front : List ℕ) (number place : ℕ) → first_unrun 1 (lines_in text) ≡ Some (number, place)
-    → lines_in front ≡ take (number - 1) (lines_in text)
-    → (refusal : ScriptRefusal) → IsScriptRefusal (commands_from (lines_in front) 1 0) refusal
-    → IsScriptRefusal (session_commands text) refusal
-refused_before text front number place first before NoMemory is = tt
-refused_before text front number place first before (LineRefused line fault at) is =
-    commands_before text front number place first before ∙ ap (refused_at (number, place)) is
+-- the refusal, if there is one
+pub refused_only : {A : Type 0} (Fine : Type 0) (Is : ScriptRefusal → Type 0) (result : Result A ScriptRefusal) (refusal : Option ScriptRefusal)
+    → refusal ≡ result_err result → MatchResult result (λ x. Fine) Is → MatchOption refusal Fine Is
+refused_only Fine Is (Ok x) refusal is holds = subst (λ (r : Option ScriptRefusal). MatchOption r Fine Is) (sym is) holds
+refused_only Fine Is (Err e) refusal is holds = subst (λ (r : Option ScriptRefusal). MatchOption r Fine Is) (sym is) holds
 
 -- whether there is a refusal, without the lines
 pub script_read : (text : List ℕ) (before after : ℕ → List ℕ) (result : Result (List Line) ScriptRefusal)

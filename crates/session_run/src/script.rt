@@ -1,5 +1,5 @@
 //! The script of a session.
-ghost use Rattle.std.specs.Prelude.{◌≡◌, ◌≢◌, ◌<◌, ◌≤◌, ◌==◌, ◌-◌, ℕ, [], ◌∷◌, All, List, Some, None, MatchOption, MatchResult, IfOk, Ok, OnErr, length, not, take, true, if◌then◌else◌};
+ghost use Rattle.std.specs.Prelude.{◌≡◌, ◌≢◌, ◌<◌, ◌≤◌, ◌==◌, ◌-◌, ℕ, [], ◌∷◌, All, List, Some, None, MatchOption, MatchResult, IfOk, Ok, OnErr, length, not, position, take, true, if◌then◌else◌};
 ghost use Rattle.std.specs.List.{after_first, before_first, position_or_len};
 ghost use Rattle.command_table.specs.declared.command.Command.{Command as CommandRecord};
 ghost use Rattle.data_lines.specs.DataLines.{runs_beside};
@@ -93,14 +93,20 @@ fn refusal_at(alloc: Global, text: &[u8], unrun: Unrun) -> ScriptRefusal
     requires before { lines_in (take unrun.before text.now) ≡ take (unrun.number - 1) (lines_in text.now) }
     ensures { IsScriptRefusal (session_commands text.now) result }
 {
-    match script_without_ids(alloc, &text[..unrun.before]) {
-        Ok(_) => ScriptRefusal::LineRefused {
-            number: unrun.number,
-            fault: LineFault::UnknownWord,
-            place: unrun.place,
-        },
-        Err(refusal) => refusal,
-    }
+    let fault = ScriptRefusal::LineRefused {
+        number: unrun.number,
+        fault: LineFault::UnknownWord,
+        place: unrun.place,
+    };
+    refusal_of(alloc, &text[..unrun.before]).unwrap_or(fault)
+}
+
+// The refusal of a script, if it is refused.
+fn refusal_of(alloc: Global, text: &[u8]) -> Option<ScriptRefusal>
+    ensures { MatchOption result ((commands : List (ℕ × CommandRecord)) × (commands_from (lines_in text.now) 1 0 ≡ Ok commands))
+        (IsScriptRefusal (commands_from (lines_in text.now) 1 0)) }
+{
+    script_without_ids(alloc, text).err()
 }
 
 // The script of this text, with ids that count for nothing.
@@ -191,20 +197,32 @@ fn runs_named(name: CommandName) -> bool
 }
 
 // How many spaces a line begins with.
-#[tactic(auto, using(crate::proofs::Cuts::position_or_all, crate::proofs::Cuts::position_most))]
 fn spaces_before(line: &[u8]) -> usize
     ensures place { result ≡ position_or_len (λ byte. not (byte == 32)) line.now }
     ensures within { result ≤ length line.now }
 {
-    line.iter().position(|byte| *byte != b' ').unwrap_or(line.len())
+    first_other(line).unwrap_or(line.len())
+}
+
+// The place of the first byte that is no space.
+fn first_other(line: &[u8]) -> Option<usize>
+    ensures { result ≡ position (λ byte. not (byte == 32)) line.now }
+{
+    line.iter().position(|byte| *byte != b' ')
 }
 
 // The place of the first such byte, or how many bytes there are.
-#[tactic(auto, using(crate::proofs::Cuts::position_or_all))]
 fn place_of(bytes: &[u8], wanted: u8) -> usize
     ensures { result ≡ position_or_len (λ byte. byte == wanted) bytes.now }
 {
-    bytes.iter().position(|byte| *byte == wanted).unwrap_or(bytes.len())
+    first_of(bytes, wanted).unwrap_or(bytes.len())
+}
+
+// The place of the first such byte.
+fn first_of(bytes: &[u8], wanted: u8) -> Option<usize>
+    ensures { result ≡ position (λ byte. byte == wanted) bytes.now }
+{
+    bytes.iter().position(|byte| *byte == wanted)
 }
 
 // What stands before the first such byte, or all, and what follows it.

@@ -25,13 +25,12 @@ loop-rest-preserved c =
     subst (λ (after : List ℕ). Passed c.args.text.now after (c.loop-rest.number + 1)) (sym c.cut.ensures.after)
     (next_passed c.loop-rest.invariant (omega (arith, ne)) (ap unrun_line (sym c.cut.ensures.before) ∙ sym c.in-None.ensures))
 
-pub overflow_sub-before : goal.overflow_sub-before
-overflow_sub-before c = let most = within c.loop-rest.invariant in omega (arith, most)
+pub overflow_sub-result : goal.overflow_sub-result
+overflow_sub-result c = let most = within c.loop-rest.invariant in omega (arith, most)
 
 pub returns-in-Some : goal.returns-in-Some
 returns-in-Some c =
     let ne = eqb-false (length c.loop-rest.rest.now) 0 (sym c.is_empty.ensures ∙ c.loop-rest-test.true) in
-    rw (c.len-size.ensures, c.len.ensures)
     (found c.in-Some.place c.loop-rest.invariant (omega (arith, ne)) (ap unrun_line (sym c.cut.ensures.before) ∙ sym c.in-Some.ensures))
 
 pub returns : goal.returns

@@ -1,14 +1,13 @@
-use Rattle.std.proofs.Common.{take}
-use Rattle.session_run.proofs.Refusing.{refused_before, refused_there}
+use Rattle.std.proofs.Common.{subst, sym, take}
+use Rattle.lvm_script.specs.declared.script_refusal.ScriptRefusal.{ScriptRefusal}
+use Rattle.lvm_script.specs.Script.{IsScriptRefusal}
+use Rattle.session_run.specs.SessionScript.{session_commands}
+use Rattle.session_run.proofs.Refusing.{refused_first}
 use Rattle.session_run.proofs.script.refusal_at.Goals as goal
 
-pub returns-in-Ok : goal.returns-in-Ok
-returns-in-Ok c =
+pub returns : goal.returns
+returns c =
+    let text = c.args.text.now in
     let u = c.args.unrun in
-    refused_there c.args.text.now (take u.before c.args.text.now) u.number u.place c.requires.first c.requires.before c.in-Ok.ensures
-
-pub returns-in-Err : goal.returns-in-Err
-returns-in-Err c =
-    let u = c.args.unrun in
-    refused_before c.args.text.now (take u.before c.args.text.now) u.number u.place c.requires.first c.requires.before c.in-Err.refusal
-    c.in-Err.ensures
+    subst (λ (r : ScriptRefusal). IsScriptRefusal (session_commands text) r) (sym c.unwrap_or.ensures)
+    (refused_first text (take u.before text) u.number u.place c.requires.first c.requires.before _ c.refusal_of.ensures)

@@ -9,7 +9,7 @@ returns c =
     let text = c.args.text.now in
     let copied : c.from_vec.result ≡ text =
     c.from_vec.ensures ∙ c.in_ok-extend_from_slice.ensures.items ∙ ap (λ (bytes : List ℕ). bytes ++ text) c.in_ok-copy.ensures.items in
-    subst (λ (bytes : List ℕ). MatchResult c.script_of.result
+    subst (λ (bytes : List ℕ). MatchResult c.script_of-2.result
     (λ script. (commands : List (ℕ × Command)) × (commands_from (lines_in bytes) 1 0 ≡ Ok commands))
     (IsScriptRefusal (commands_from (lines_in bytes) 1 0)))
-    copied (script_read c.from_vec.result _ _ c.script_of.result c.script_of.ensures.script)
+    copied (script_read c.from_vec.result _ _ c.script_of-2.result c.script_of-2.ensures.script)
