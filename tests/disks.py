@@ -89,6 +89,12 @@ class Disk:
                 file.seek(at)
                 file.write(data)
 
+    def bytes(self):
+        image = bytearray(self.sectors * SECTOR)
+        for at, data in self.parts:
+            image[at:at + len(data)] = data
+        return bytes(image)
+
 
 def pv(name, id, pe_count=15, pe_start=PE_START, dev_size=131072, status='"ALLOCATABLE"', flags=""):
     return (f"{name} {{\nid = \"{hyphens(id)}\"\ndevice = \"/dev/{id}\"\nstatus = [{status}]\nflags = [{flags}]\n"

@@ -41,14 +41,14 @@ def calls_of(log):
     return calls
 
 
-def traced(words, names, folder=None, env=None, stop=None, source=b"", fault=None):
-    """The program's calls of these names, and what it prints and its status, where it may read these bytes. It is killed before
-    the call `stop`, and `fault` is what happens to a call in its place, as strace has it."""
+def traced(words, names, folder=None, env=None, stop=None, source=b"", fault=None, by="SIGKILL"):
+    """The program's calls of these names, and what it prints and its status, where it may read these bytes. It is stopped before
+    the call `stop` by a signal, and `fault` is what happens to a call in its place, as strace has it."""
     with tempfile.TemporaryDirectory() as place:
         log = os.path.join(place, "log")
         tracer = ["strace", "-f", "-o", log, "-xx", "-s", "1048576", "-e", "signal=none", "-e", f"trace={','.join(names)}"]
         if stop:
-            tracer += ["-e", f"inject={stop.name}:signal=SIGKILL:when={stop.number}"]
+            tracer += ["-e", f"inject={stop.name}:signal={by}:when={stop.number}"]
         if fault:
             tracer += ["-e", f"inject={fault}"]
         done = subprocess.run([*tracer, *words], cwd=folder, env=env, input=source, capture_output=True, timeout=120)
