@@ -38,19 +38,19 @@ pub data IsOfNone (image : Image) (sizes : List ℕ) (pv : ℕ) : Type 0 where
   unlisted : (found : Found) → IsScanOf image sizes found → found.unread ≡ set.empty → HasShape found → ¬ IsAmong found pv
       → IsOfNone image sizes pv
 
--- nothing that is in use is lost where a command takes a disk on which this stands
+-- nothing that is in use is lost where a request takes a disk on which this stands
 abbrev pub IsFreeWith : Bool → Image → List ℕ → ℕ → PvFound → Type 0
 IsFreeWith new image sizes pv (NoLabel refusal) = new ≡ true → first_kind (image pv) (slice_index_or sizes pv 0) ≡ None
 IsFreeWith new image sizes pv (NoHeader label refusal) = new ≡ false
 IsFreeWith new image sizes pv (Whole label header areas) = is_marked header ≡ true → IsOfGroup image sizes pv
 
--- nothing that is in use is lost where a command takes the disk
+-- nothing that is in use is lost where a request takes the disk
 pub record IsFree (new : Bool) (image : Image) (sizes : List ℕ) (pv : ℕ) : Type 0 where
   pub contents : PvFound
   pub found : IsFound (image pv) (slice_index_or sizes pv 0) contents
   pub free : IsFreeWith new image sizes pv contents
 
--- why a command doesn't take a disk on which this stands
+-- why a request doesn't take a disk on which this stands
 abbrev pub IsUseOf : Bool → Image → List ℕ → ℕ → PvFound → Use → Type 0
 IsUseOf new image sizes pv (Whole label header areas) by.Group = (is_marked header ≡ true) × IsOfNone image sizes pv
 IsUseOf new image sizes pv (NoHeader label refusal) by.Header = new ≡ true
@@ -58,7 +58,7 @@ IsUseOf new image sizes pv (NoLabel refusal) (by.Signature kind) = (new ≡ true
     (first_kind (image pv) (slice_index_or sizes pv 0) ≡ Some kind)
 IsUseOf new image sizes pv _ _ = ⊥
 
--- why a command doesn't take the disk
+-- why a request doesn't take the disk
 pub record IsUsedBy (new : Bool) (image : Image) (sizes : List ℕ) (pv : ℕ) (use_is : Use) : Type 0 where
   pub contents : PvFound
   pub found : IsFound (image pv) (slice_index_or sizes pv 0) contents

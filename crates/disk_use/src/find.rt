@@ -1,4 +1,4 @@
-//! The first of the disks that a command takes that is in use.
+//! The first of the disks that a request takes that is in use.
 ghost use Rattle.std.specs.Prelude.{◌≡◌, ◌≤◌, ◌<◌, ℕ, ◌^◌, [], length, slice_index_or};
 ghost use Rattle.std.specs.Prelude.{All, Contains, IfOk, IfSome, MatchOption, MatchResult, option_map};
 ghost use Rattle.disk_model.specs.Faults.{HasSameFaults};
@@ -16,19 +16,19 @@ use crate::in_use::{InUse, Shown, Use};
 use crate::look::look;
 use crate::marked::first_left;
 use crate::taken::{disks_taken, is_new};
-use command_table::Command;
+use command_table::Request;
 use disk_model::Shelf;
 use line_answers::DiskNames;
 use std::alloc::Global;
 
-/// The first disk in use of those that pvcreate, vgcreate or vgextend takes; of any other command none, and nothing is
-/// read then.
+/// The first disk in use of those that pvcreate, vgcreate or vgextend takes, or a session, which takes all disks of the
+/// run; of anything else none, and nothing is read then.
 ///
-/// Each of them is looked at, in the order of the command's words. To pvcreate one whose label has no header that can be
-/// read is in use, and one without a label by the first signature that stands there; vgcreate and vgextend refuse such
-/// disks themselves. Where labels say that a group uses their disks (PV_EXT_USED of lvm2's on-disk format), all disks of
-/// the run are scanned once: such a disk is in use unless a group is found that lists it or whose stray it is. A refused
-/// scan shows nothing of it.
+/// Each of them is looked at, in the order of the words. Where labels say that a group uses their disks (PV_EXT_USED of
+/// lvm2's on-disk format), all disks of the run are scanned once: such a disk is in use unless a group is found that lists
+/// it or whose stray it is. A refused scan shows nothing of it. To pvcreate one whose label has no header that can be read
+/// is in use too, and one without a label by the first signature that stands there; vgcreate and vgextend refuse such
+/// disks themselves, and a session leaves them alone.
 ///
 /// # Errors
 ///
@@ -37,7 +37,7 @@ pub fn find_use<S: Shelf>(
     alloc: Global,
     shelf: &mut S,
     names: &DiskNames,
-    command: &Command,
+    request: &Request,
 ) -> Result<Option<InUse>, UseRefusal>
     requires some { 1 ≤ length (S.state shelf.old).sizes }
     requires few { length (S.state shelf.old).sizes ≤ 64 }
@@ -48,22 +48,22 @@ pub fn find_use<S: Shelf>(
     ensures cause { MatchResult result
         (λ found. HasSameFaults (S.state shelf.old) (S.state shelf.new)
         × HoldsNow (S.state shelf.old).told (λ image. MatchOption found
-        (All (IsFree (is_new command.now) image (S.state shelf.old).sizes) (taken_by names.now command.now))
-        (λ found. Contains (taken_by names.now command.now) found.pv
-        × IsUsedBy (is_new command.now) image (S.state shelf.old).sizes found.pv found.by)))
+        (All (IsFree (is_new request.now) image (S.state shelf.old).sizes) (taken_by names.now request.now))
+        (λ found. Contains (taken_by names.now request.now) found.pv
+        × IsUsedBy (is_new request.now) image (S.state shelf.old).sizes found.pv found.by)))
         (IsUseFault (S.state shelf.old) (S.state shelf.new)) }
-    ensures taken { IfOk result (λ found. IfSome found (λ found. Contains (taken_by names.now command.now) found.pv)) }
+    ensures taken { IfOk result (λ found. IfSome found (λ found. Contains (taken_by names.now request.now) found.pv)) }
     ensures within { IfOk result (λ found. IfSome found (λ found. found.pv < length names.now)) }
-    // Nothing is read of a command that takes no disk.
-    ensures untouched { taken_by names.now command.now ≡ [] → S.state shelf.new ≡ S.state shelf.old }
+    // Nothing is read of a request that takes no disk.
+    ensures untouched { taken_by names.now request.now ≡ [] → S.state shelf.new ≡ S.state shelf.old }
     ensures again { IsIdleAgain (S.state shelf.old) (S.state shelf.new) }
     ensures told { BetweenRecords ReadsSome (S.state shelf.old).told (S.state shelf.new).told }
 {
-    let taken = disks_taken(alloc, names, command)?;
+    let taken = disks_taken(alloc, names, request)?;
     if taken.is_empty() {
         return Ok(None);
     }
-    find_among(alloc, shelf, &taken, is_new(command))
+    find_among(alloc, shelf, &taken, is_new(request))
 }
 
 // The first of these disks that is in use.

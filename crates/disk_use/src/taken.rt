@@ -1,22 +1,41 @@
-//! The disks that a command takes.
+//! The disks that a request takes.
 ghost use Rattle.std.specs.Prelude.{◌≡◌, ◌≤◌, ◌<◌, length, All, IfOk, filter_map};
+ghost use Rattle.std.specs.List.{range_with_len};
+ghost use Rattle.command_table.specs.declared.request.Request.TheVariants.{One};
 ghost use Rattle.command_table.specs.Options.{number_named};
 ghost use Rattle.disk_use.specs.Taken.{is_new, taken_by};
 
-use command_table::Command;
+use command_table::{Command, Request};
 use line_answers::DiskNames;
 use sector_base::Text;
 use std::alloc::{AllocError, Global};
 use std::slice::from_ref;
 
-// The numbers of the disks that the command would take, in the order of its words.
+// The numbers of the disks that the request would take: of a command in the order of its words, of a session all.
 pub(crate) fn disks_taken(
+    alloc: Global,
+    names: &DiskNames,
+    request: &Request,
+) -> Result<Vec<u32>, AllocError>
+    requires { length names.now ≤ 64 }
+    ensures taken { IfOk result (λ taken. taken.items ≡ taken_by names.now request.now) }
+    ensures within { IfOk result (λ taken. All (λ pv. pv < length names.now) taken.items) }
+{
+    match request {
+        Request::One(command) => numbers_of(alloc, names, command),
+        Request::Session(_) => all_numbers(alloc, names),
+        Request::Demo { .. } => Ok(Vec::new(alloc)),
+    }
+}
+
+// The numbers of the disks that the command would take, in the order of its words.
+fn numbers_of(
     alloc: Global,
     names: &DiskNames,
     command: &Command,
 ) -> Result<Vec<u32>, AllocError>
     requires { length names.now ≤ 64 }
-    ensures taken { IfOk result (λ taken. taken.items ≡ taken_by names.now command.now) }
+    ensures taken { IfOk result (λ taken. taken.items ≡ taken_by names.now (One command.now)) }
     ensures within { IfOk result (λ taken. All (λ pv. pv < length names.now) taken.items) }
 {
     match command {
@@ -42,9 +61,18 @@ fn numbers_in(alloc: Global, names: &DiskNames, words: &[Text]) -> Result<Vec<u3
     Ok(numbers)
 }
 
-// Whether it makes a physical volume of a disk, whatever stands there.
-pub(crate) fn is_new(command: &Command) -> bool
-    ensures { result ≡ is_new command.now }
+// The numbers of all disks.
+fn all_numbers(alloc: Global, names: &DiskNames) -> Result<Vec<u32>, AllocError>
+    requires { length names.now ≤ 64 }
+    ensures numbers { IfOk result (λ numbers. numbers.items ≡ range_with_len 0 (length names.now)) }
+    ensures within { IfOk result (λ numbers. All (λ pv. pv < length names.now) numbers.items) }
 {
-    matches!(command, Command::Pvcreate { .. })
+    (0..names.len() as u32).collect(alloc)
+}
+
+// Whether it makes a physical volume of a disk, whatever stands there.
+pub(crate) fn is_new(request: &Request) -> bool
+    ensures { result ≡ is_new request.now }
+{
+    matches!(request, Request::One(Command::Pvcreate { .. }))
 }

@@ -2,7 +2,7 @@
 ghost use Rattle.std.specs.Prelude.{◌≡◌, length, IfOk};
 
 use crate::disks::shelf_of_one;
-use command_table::Command;
+use command_table::{Command, Request};
 use dev_shelf::Fail as Failure;
 use disk_use::{InUse, Use, UseRefusal, find_use};
 use line_answers::DiskNames;
@@ -29,12 +29,12 @@ fn disk_names(alloc: Global) -> Result<DiskNames, AllocError>
     Ok(DiskNames::from_vec(vec![in alloc; a]?))
 }
 
-fn pvcreate(alloc: Global) -> Result<Command, AllocError> {
+fn pvcreate(alloc: Global) -> Result<Request, AllocError> {
     let pv = Text::from_vec(Vec::from_slice(alloc, b"a")?);
-    Ok(Command::Pvcreate {
+    Ok(Request::One(Command::Pvcreate {
         pv,
         metadata_copies: 1,
-    })
+    }))
 }
 
 // What is found of this disk, on which these operations fail, where pvcreate takes it.
@@ -47,8 +47,8 @@ fn found(
 {
     let mut shelf = shelf_of_one(alloc, disk, fails)?;
     let names = disk_names(alloc)?;
-    let command = pvcreate(alloc)?;
-    Ok(find_use(alloc, &mut shelf, &names, &command))
+    let request = pvcreate(alloc)?;
+    Ok(find_use(alloc, &mut shelf, &names, &request))
 }
 
 // Stops unless the disk is in use by its signature.
