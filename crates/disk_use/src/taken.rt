@@ -29,11 +29,7 @@ pub(crate) fn disks_taken(
 }
 
 // The numbers of the disks that the command would take, in the order of its words.
-fn numbers_of(
-    alloc: Global,
-    names: &DiskNames,
-    command: &Command,
-) -> Result<Vec<u32>, AllocError>
+fn numbers_of(alloc: Global, names: &DiskNames, command: &Command) -> Result<Vec<u32>, AllocError>
     requires { length names.now ≤ 64 }
     ensures taken { IfOk result (λ taken. taken.items ≡ taken_by names.now (One command.now)) }
     ensures within { IfOk result (λ taken. All (λ pv. pv < length names.now) taken.items) }

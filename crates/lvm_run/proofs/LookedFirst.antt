@@ -6,8 +6,7 @@ use Rattle.std.specs.Prelude.{MatchOption, MatchResult}
 use Rattle.std.proofs.lemmas.List.Elements.{All-nil}
 use Rattle.std.proofs.lemmas.Option.{same_Some}
 use Rattle.sector_base.specs.declared.spans.Span.{Span}
-use Rattle.command_table.specs.declared.command.Command.{Command}
-use Rattle.command_table.specs.declared.request.Request.TheVariants.{One}
+use Rattle.command_table.specs.declared.request.Request.{Request}
 use Rattle.command_table.specs.Options.{Word}
 use Rattle.lvm_words.specs.declared.command_line.CommandLine.{CommandLine}
 use Rattle.lvm_words.specs.CommandLines.{command_line_of}
@@ -29,52 +28,50 @@ use Rattle.lvm_run.specs.Guarded.{AreFree, Asks, IsWhyNotRun, LeavesUsed, LooksA
 
 -- ---- what the words ask for
 
--- words without a meaning ask for no command, so that none of its disks is in use
+-- words without a meaning ask for nothing, so that none of its disks is in use
 pub free_unmeant : (words : List Word) (old : State) → command_line_of words ≡ None → AreFree words old
 free_unmeant words old none =
-    λ names command asks. absurd (let never : ◌≡◌ {A = Option CommandLine} None (Some asks.line) = sym none ∙ asks.is_line in cc)
+    λ names request asks. absurd (let never : ◌≡◌ {A = Option CommandLine} None (Some asks.line) = sym none ∙ asks.is_line in cc)
 
 module _ (words : List Word) (line : CommandLine) (is : command_line_of words ≡ Some line) where
-  -- the command that words ask for is that of their line
-  its_request : (names : List Word) (command : Command) → Asks words names command → (names ≡ line.names) × (line.request ≡ One command)
-  its_request names command asks =
-      let same : asks.line ≡ line = same_Some asks.line line (sym asks.is_line ∙ is) in
-      (asks.is_names ∙ ap (λ (l : CommandLine). l.names) same, sym (ap (λ (l : CommandLine). l.request) same) ∙ asks.is_command)
+  -- what words ask for is the request of their line
+  its_request : (names : List Word) (request : Request) → Asks words names request → (line.names ≡ names) × (line.request ≡ request)
+  its_request names request asks =
+      let same : line ≡ asks.line = same_Some line asks.line (sym is ∙ asks.is_line) in
+      (ap (λ (l : CommandLine). l.names) same ∙ sym asks.is_names, ap (λ (l : CommandLine). l.request) same ∙ asks.is_request)
 
-  -- another request asks for none
-  pub free_other : (old : State) → ((command : Command) → line.request ≢ One command) → AreFree words old
-  free_other old other = λ names command asks. absurd (other command (its_request names command asks).1)
+  -- where the disks of the line's request are free, those of the words are
+  pub free_asked : (old : State)
+      → HoldsNow old.told (λ image. All (IsFree (is_new line.request) image old.sizes) (taken_by line.names line.request)) → AreFree words old
+  free_asked old free = λ names request asks.
+      let its = its_request names request asks in
+      subst (λ (r : Request). HoldsNow old.told (λ image. All (IsFree (is_new r) image old.sizes) (taken_by names r))) its.1
+      (subst (λ (l : List Word). HoldsNow old.told (λ image. All (IsFree (is_new line.request) image old.sizes) (taken_by l line.request)))
+      its.0 free)
 
-  -- where the disks of the command are free, those of the words are
-  pub free_one : (old : State) (own : Command) → line.request ≡ One own
-      → HoldsNow old.told (λ image. All (IsFree (is_new own) image old.sizes) (taken_by line.names own)) → AreFree words old
-  free_one old own one free = λ names command asks.
-      let its = its_request names command asks in
-      let same : own ≡ command = (let e : One own ≡ One command = sym one ∙ its.1 in cc) in
-      subst (λ (c : Command). HoldsNow old.told (λ image. All (IsFree (is_new c) image old.sizes) (taken_by names c))) same
-      (subst (λ (l : List Word). HoldsNow old.told (λ image. All (IsFree (is_new own) image old.sizes) (taken_by l own))) (sym its.0) free)
-
-  -- what the command's disks show, those of the words show
-  pub asked_cause : (old new : State) (own : Command) → line.request ≡ One own → (result : Result (Option UsedDisk) UseRefusal)
+  -- what the disks of the line's request show, those of the words show
+  pub asked_cause : (old new : State) (result : Result (Option UsedDisk) UseRefusal)
       → MatchResult result
       (λ found. HasSameFaults old new × HoldsNow old.told
-      (λ image. MatchOption found (All (IsFree (is_new own) image old.sizes) (taken_by line.names own))
-      (λ used. Contains (taken_by line.names own) used.pv × IsUsedBy (is_new own) image old.sizes used.pv used.by)))
+      (λ image. MatchOption found (All (IsFree (is_new line.request) image old.sizes) (taken_by line.names line.request))
+      (λ used. Contains (taken_by line.names line.request) used.pv × IsUsedBy (is_new line.request) image old.sizes used.pv used.by)))
       (IsUseFault old new)
-      → IfOk result (λ found. IfSome found (λ used. Contains (taken_by line.names own) used.pv))
+      → IfOk result (λ found. IfSome found (λ used. Contains (taken_by line.names line.request) used.pv))
       → MatchResult result (λ found. MatchOption found (AreFree words old) (λ used. IsWhyNotRun words old (InUse used) new))
       (λ refusal. IsWhyNotRun words old (Untold refusal) new)
-  asked_cause old new own one (Ok None) cause taken = free_one old own one cause.1
-  asked_cause old new own one (Ok (Some used)) cause taken = record {
+  asked_cause old new (Ok None) cause taken = free_asked old cause.1
+  asked_cause old new (Ok (Some used)) cause taken = record {
     names = line.names;
-    command = own;
-    asks = record { line = line; is_line = is; is_names = refl; is_command = one };
+    request = line.request;
+    asks = record { line = line; is_line = is; is_names = refl; is_request = refl };
     taken = taken;
-    by = now_weaker old.told (λ image. Contains (taken_by line.names own) used.pv × IsUsedBy (is_new own) image old.sizes used.pv used.by)
-        (λ image. IsUsedBy (is_new own) image old.sizes used.pv used.by) (λ image is_so. is_so.1) cause.1;
+    by =
+        now_weaker old.told
+        (λ image. Contains (taken_by line.names line.request) used.pv × IsUsedBy (is_new line.request) image old.sizes used.pv used.by)
+        (λ image. IsUsedBy (is_new line.request) image old.sizes used.pv used.by) (λ image is_so. is_so.1) cause.1;
     faults = cause.0;
   }
-  asked_cause old new own one (Err refusal) cause taken = cause
+  asked_cause old new (Err refusal) cause taken = cause
 
 -- ---- the disks afterwards
 
@@ -138,10 +135,10 @@ left_looked_at words old new looks = λ pv before told takes. ⊎_elim
 -- where none of the disks that are taken is in use, none that is in use was written
 pub left_free : (words : List Word) (old new : State) → AreFree words old → LeavesUsed words old new
 left_free words old new free = λ pv before told takes.
-    let all : HoldsNow old.told (λ image. All (IsFree (is_new takes.command) image old.sizes) (taken_by takes.names takes.command)) =
-    free takes.names takes.command takes.asks in
-    let now : All (IsFree (is_new takes.command) (now_after before.opened before.steps) old.sizes) (taken_by takes.names takes.command) =
+    let all : HoldsNow old.told (λ image. All (IsFree (is_new takes.request) image old.sizes) (taken_by takes.names takes.request)) =
+    free takes.names takes.request takes.asks in
+    let now : All (IsFree (is_new takes.request) (now_after before.opened before.steps) old.sizes) (taken_by takes.names takes.request) =
     subst (λ (t : Option Record). HoldsNow t
-    (λ image. All (IsFree (is_new takes.command) image old.sizes) (taken_by takes.names takes.command))) told all in
-    absurd (takes.used (subst (IsFree (is_new takes.command) (now_after before.opened before.steps) old.sizes) takes.taken.2
+    (λ image. All (IsFree (is_new takes.request) image old.sizes) (taken_by takes.names takes.request))) told all in
+    absurd (takes.used (subst (IsFree (is_new takes.request) (now_after before.opened before.steps) old.sizes) takes.taken.2
     (now takes.taken.0 pv takes.taken.1)))

@@ -1,8 +1,7 @@
 -- A run that takes no disk which is in use, unless it is told to.
 use Rattle.std.specs.Prelude.{◌≡◌, ◌≢◌, ◌<◌, ◌⊎◌, ℕ, List, All, Contains, Some}
 use Rattle.sector_base.specs.declared.spans.Span.{Span}
-use Rattle.command_table.specs.declared.command.Command.{Command}
-use Rattle.command_table.specs.declared.request.Request.TheVariants.{One}
+use Rattle.command_table.specs.declared.request.Request.{Request}
 use Rattle.command_table.specs.Options.{Word}
 use Rattle.lvm_words.specs.declared.command_line.CommandLine.{CommandLine}
 use Rattle.lvm_words.specs.CommandLines.{command_line_of}
@@ -21,20 +20,20 @@ use Rattle.lvm_run.specs.declared.not_run.NotRun.TheVariants.{InUse, Untold}
 
 -- ---- what is in use
 
--- the words ask for this command, on disks of these names
-pub record Asks (words : List Word) (names : List Word) (command : Command) : Type 0 where
+-- the words ask for this, on disks of these names
+pub record Asks (words : List Word) (names : List Word) (request : Request) : Type 0 where
   pub line : CommandLine
   pub is_line : command_line_of words ≡ Some line
   pub is_names : names ≡ line.names
-  pub is_command : line.request ≡ One command
+  pub is_request : line.request ≡ request
 
--- the command that the words ask for takes the disk, and would lose what is in use there
+-- what the words ask for takes the disk, and would lose what is in use there
 pub record TakesUsed (words : List Word) (image : Image) (sizes : List ℕ) (pv : ℕ) : Type 0 where
   pub names : List Word
-  pub command : Command
-  pub asks : Asks words names command
-  pub taken : Contains (taken_by names command) pv
-  pub used : ¬ IsFree (is_new command) image sizes pv
+  pub request : Request
+  pub asks : Asks words names request
+  pub taken : Contains (taken_by names request) pv
+  pub used : ¬ IsFree (is_new request) image sizes pv
 
 -- no write to this disk was submitted
 pub record IsLeft (pv : ℕ) (old new : Record) : Type 0 where
@@ -48,11 +47,11 @@ LeavesUsed words old new =
     (pv : ℕ) (before : Record) → old.told ≡ Some before → TakesUsed words (now_after before.opened before.steps) old.sizes pv
     → (after : Record) × (new.told ≡ Some after) × IsLeft pv before after
 
--- nothing that is in use is lost where the command that the words ask for takes its disks
+-- nothing that is in use is lost where what the words ask for takes its disks
 abbrev pub AreFree : List Word → State → Type 0
 AreFree words state =
-    (names : List Word) (command : Command) → Asks words names command
-    → HoldsNow state.told (λ image. All (IsFree (is_new command) image state.sizes) (taken_by names command))
+    (names : List Word) (request : Request) → Asks words names request
+    → HoldsNow state.told (λ image. All (IsFree (is_new request) image state.sizes) (taken_by names request))
 
 -- nothing was done, or nothing but reads
 abbrev pub LooksAtMost : State → State → Type 0
@@ -60,13 +59,13 @@ LooksAtMost old new = (new ≡ old) ⊎ LooksOnly old new
 
 -- ---- why nothing ran
 
--- the disk, which the command that the words ask for takes, is in use
+-- the disk, which what the words ask for takes, is in use
 pub record IsInUse (words : List Word) (old : State) (used : UsedDisk) (new : State) : Type 0 where
   pub names : List Word
-  pub command : Command
-  pub asks : Asks words names command
-  pub taken : Contains (taken_by names command) used.pv
-  pub by : HoldsNow old.told (λ image. IsUsedBy (is_new command) image old.sizes used.pv used.by)
+  pub request : Request
+  pub asks : Asks words names request
+  pub taken : Contains (taken_by names request) used.pv
+  pub by : HoldsNow old.told (λ image. IsUsedBy (is_new request) image old.sizes used.pv used.by)
   pub faults : HasSameFaults old new
 
 -- a disk is in use, or it isn't known whether one is

@@ -11,7 +11,6 @@ ghost use Rattle.lvm_run.specs.Sourced.{source};
 use crate::not_run::NotRun;
 use crate::run::{Ended, lvm_run};
 use byte_streams::{Sink, Source};
-use command_table::Request;
 use disk_model::Shelf;
 use disk_use::{InUse, UseRefusal, find_use};
 use lvm_id::Words64;
@@ -22,7 +21,7 @@ use std::thread::Threads;
 use table_lock::Gate;
 
 /// Runs the program's words as `lvm_run` does. Before anything else, unless it is forced, the disks that the command would take
-/// are looked at; where one of them is in use, or that can't be told, nothing runs.
+/// are looked at, all disks of a session; where one of them is in use, or that can't be told, nothing runs.
 pub fn guarded_run<
     T: Threads + Wait + Sync,
     S: Shelf + Send,
@@ -56,7 +55,7 @@ pub fn guarded_run<
         (λ refused. LooksAtMost (S.state shelf) (S.state refused.1) × (forced ≡ false)
         × IsWhyNotRun (words_of words.now.items) (S.state shelf) refused.0 (S.state refused.1)) }
 
-    // Unless it is forced no disk is written that the command would take and that is in use.
+    // Unless it is forced no disk is written that the command or session would take and that is in use.
     ensures kept { forced ≡ false → MatchResult result
         (λ ended. LeavesUsed (words_of words.now.items) (S.state shelf) (S.state ended.shelf))
         (λ refused. LeavesUsed (words_of words.now.items) (S.state shelf) (S.state refused.1)) }
@@ -70,7 +69,7 @@ pub fn guarded_run<
     }
 }
 
-// The first disk that the command of these words takes and that is in use. Nothing is looked at where the run is forced.
+// The first disk that these words would take and that is in use. Nothing is looked at where the run is forced.
 fn find_unless<S: Shelf>(
     forced: bool,
     alloc: Global,
@@ -91,7 +90,7 @@ fn find_unless<S: Shelf>(
     find_asked(alloc, words, shelf)
 }
 
-// The first disk that the command of these words takes and that is in use.
+// The first disk that these words would take and that is in use.
 fn find_asked<S: Shelf>(
     alloc: Global,
     words: &[String],
@@ -106,10 +105,7 @@ fn find_asked<S: Shelf>(
     ensures named { IfOk result (λ found. IfSome found (λ used. used.pv < length (S.state shelf.old).sizes)) }
 {
     match read_command_line(alloc, words) {
-        Ok(line) => match &line.request {
-            Request::One(command) => find_use(alloc, shelf, &line.names, command),
-            _ => Ok(None),
-        },
+        Ok(line) => find_use(alloc, shelf, &line.names, &line.request),
         Err(WordsRefusal::NoMeaning) => Ok(None),
         Err(WordsRefusal::NoMemory) => Err(UseRefusal::NoMemory),
     }

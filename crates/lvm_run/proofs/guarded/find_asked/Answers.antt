@@ -2,8 +2,7 @@ use Rattle.command_table.specs.Options.{words_of}
 use Rattle.lvm_run.proofs.LookedFirst.{asked_cause}
 use Rattle.lvm_run.proofs.guarded.find_asked.Goals as goal
 
-pub returns-in-One-clause-cause : goal.returns-in-One-clause-cause
-returns-in-One-clause-cause g c =
+pub returns-in-Ok-clause-cause : goal.returns-in-Ok-clause-cause
+returns-in-Ok-clause-cause g c =
     asked_cause (words_of c.args.words.now) c.in-Ok.line c.in-Ok.ensures.ok (g.S.Shelf.state c.args.shelf.now)
-    (g.S.Shelf.state c.find_use.new.shelf) c.in-One.command c.in-One.is
-    c.find_use.result c.find_use.ensures.cause c.find_use.ensures.taken
+    (g.S.Shelf.state c.find_use.new.shelf) c.find_use.result c.find_use.ensures.cause c.find_use.ensures.taken
