@@ -42,7 +42,8 @@ module _ (words : List Word) (line : CommandLine) (is : command_line_of words �
 
   -- where the disks of the line's request are free, those of the words are
   pub free_asked : (old : State)
-      → HoldsNow old.told (λ image. All (IsFree (is_new line.request) image old.sizes) (taken_by line.names line.request)) → AreFree words old
+      → HoldsNow old.told (λ image. All (IsFree (is_new line.request) image old.sizes) (taken_by line.names line.request))
+      → AreFree words old
   free_asked old free = λ names request asks.
       let its = its_request names request asks in
       subst (λ (r : Request). HoldsNow old.told (λ image. All (IsFree (is_new r) image old.sizes) (taken_by names r))) its.1
