@@ -16,12 +16,13 @@ use Rattle.flush_waits.specs.declared.ticket.Waiter.{Waiter}
 use Rattle.flush_waits.specs.Steps as waits
 use Rattle.flush_plan.specs.Plans.{marks_of}
 use Rattle.world_acts.specs.declared.state.Core.{Core}
+use Rattle.world_acts.specs.Acts.{line_of_waiter}
 use Rattle.world_acts.specs.OpenLines.{Opens, after_failure, after_filled, after_finished, filled as filled_work, open_of}
 use Rattle.world_acts.specs.Steps.{after_asks, after_fails, after_leaves, after_line_fails, after_reads, after_released, after_starts}
 use Rattle.world_acts.specs.Steps.{after_stays, after_wakes, after_written, after_wrote}
 use Rattle.world_acts.proofs.PiecesKept.{piece_replaced, with_piece}
 use Rattle.world_acts.proofs.Tables.{AreSingle, Changes, changes_both, own_at, removed, some_of}
-use Rattle.io_core.specs.Rest.{IsAsked, IsCalm, just, line_of_waiter, no_one}
+use Rattle.io_core.specs.Rest.{IsAsked, IsCalm, just, no_one}
 use Rattle.io_core.proofs.Calm.{OthersStay, asked_changed, asked_same, others_both, others_failed, others_set, unfinished_but}
 use Rattle.io_core.proofs.Calm.{unfinished_same}
 use Rattle.io_core.proofs.Deferred.{IsReady, just_other, left_deferred, ready_deferred}

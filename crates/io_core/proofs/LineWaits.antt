@@ -66,13 +66,14 @@ waits_none line w = record {
 }
 
 waits_failed : (line pv : ℕ) (w : World) → is_some (open_at w.core.opens line) ≡ true
+    → option_map_or (λ (l : Line). is_flush l.command) (slice_get w.core.lines.begun line) false ≡ true
     → WaitsOn line w (after w (LineFails line (PvFailed pv)))
-waits_failed line pv w opened =
+waits_failed line pv w opened flushes =
     let c : Core = w.core in
     let d : Core = after_line_fails c line (PvFailed pv) in
     let found : (x : OpenLine) × (open_at c.opens line ≡ Some x) = some_of (open_at c.opens line) opened in
     record {
-      prepares = prepares_act w line (LineFails line (PvFailed pv)) (eq-eqb line line refl) refl (opened, (pv, refl));
+      prepares = prepares_act w line (LineFails line (PvFailed pv)) (eq-eqb line line refl) refl (opened, (pv, refl), inl flushes);
       room = λ r b. borne_same w (after w (LineFails line (PvFailed pv))) (more c.owed (more (flushes_room 1) r)) (more c.owed r)
           (covers_last c.owed (flushes_room 1) r) refl refl refl refl b;
       calm = λ k. record {
@@ -194,7 +195,7 @@ pub awaits_so : (w : World) (line pv place : ℕ) (d : Core) → MayAwaitFlush w
 awaits_so w line pv place d m at (inl same) =
     subst (λ (x : Core). WaitsOn line w (world w.shelf x)) (sym same) (waits_none line w)
 awaits_so w line pv place d m at (inr (inl fails)) =
-    subst (λ (x : Core). WaitsOn line w (world w.shelf x)) (sym fails) (waits_failed line pv w m.opened)
+    subst (λ (x : Core). WaitsOn line w (world w.shelf x)) (sym fails) (waits_failed line pv w m.opened m.flushes)
 awaits_so w line pv place d m at (inr (inr waits)) =
     let found : (x : OpenLine) × (open_at w.core.opens line ≡ Some x) = some_of (open_at w.core.opens line) m.opened in
     let is : open_of w.core.opens line ≡ found.0 = open_is w.core.opens line found.0 found.1 in

@@ -1,9 +1,9 @@
 -- What a disk's last flush served is released, one by one.
 use Rattle.std.proofs.Common.{◌≡◌, ◌≢◌, ◌≤◌, ◌<◌, ℕ, ◌+◌, Bool, true, false, cond, nat_eq, List, [], ◌∷◌, length, get_or, set, drop}
-use Rattle.std.proofs.Common.{Option, None, Some, count_by, is_some, option_map, slice_get, refl, sym, ap, subst, ◌∙◌, arith}
+use Rattle.std.proofs.Common.{◌-◌, Option, None, Some, count_by, inr, is_some, unwrap_or, option_map, slice_get, refl, sym, ap, subst, ◌∙◌, arith}
 use Rattle.std.specs.Option.{option_map_or}
 use Rattle.std.proofs.lemmas.Bool.{cond_both, eq-eqb, eqb-false, eqb-true}
-use Rattle.std.proofs.lemmas.List.{get_or-set_other, get_or-set_same, length-drop, length-set, set-get_or}
+use Rattle.std.proofs.lemmas.List.{get_or-set_other, get_or-set_same, length-drop, length-set, set-get_or, set-set}
 use Rattle.std.proofs.lemmas.List.Sums.{get_or-le-sum_by}
 use Rattle.std.proofs.lemmas.Option.{none-some, same_Some}
 use Rattle.line_answers.specs.declared.answer.Answer.{Answer}
@@ -20,9 +20,10 @@ use Rattle.piece_table.specs.Pieces.{live_at}
 use Rattle.piece_table.specs.Steps.{live_of}
 use Rattle.world_acts.specs.declared.state.Core.{Core}
 use Rattle.world_acts.specs.declared.open_line.OpenLine.{OpenLine}
-use Rattle.world_acts.specs.Acts.{LineFails, Marks, Reaches, Releases, World, core_released, follows, released_at, world}
+use Rattle.world_acts.specs.Acts.{LineFails, Marks, Reaches, Releases, World, after, core_released, follows, line_of_waiter, line_released}
+use Rattle.world_acts.specs.Acts.{released_at, world}
 use Rattle.world_acts.specs.Counts.{is_line, is_piece, waiting}
-use Rattle.world_acts.specs.OpenLines.{after_finished, left_of, open_at}
+use Rattle.world_acts.specs.OpenLines.{Opens, after_failure, after_finished, is_pv_failed, left_of, no_open, open_at, open_of, with_open}
 use Rattle.world_acts.specs.Orderly.{AreReleased, IsOrderly, IsTidy}
 use Rattle.world_acts.specs.Steps.{after_line_fails, after_marks, after_released}
 use Rattle.world_acts.proofs.LinesKept.{hit, line_failed}
@@ -30,9 +31,9 @@ use Rattle.world_acts.proofs.PiecesKept.{PieceAt, awaiting_taken}
 use Rattle.world_acts.proofs.Reaching.{reaches_act, reaches_both, reaches_none}
 use Rattle.world_acts.proofs.Tables.{some_of}
 use Rattle.world_acts.proofs.WaitsKept.{count_first, waiting_on}
-use Rattle.io_core.specs.Rest.{AreReleasedBut, IsCalm, just, line_of_waiter, line_released, no_one}
+use Rattle.io_core.specs.Rest.{AreReleasedBut, IsCalm, just, no_one}
 use Rattle.io_core.proofs.CalmActs.{calm_weaker, line_fails_calm, released_calm, same_calm}
-use Rattle.io_core.proofs.LiveLines.{finished_open, left_other}
+use Rattle.io_core.proofs.LiveLines.{finished_open, left_other, set_open}
 use Rattle.io_core.proofs.Settled.{OfLine, of_line_at}
 
 -- ---- who is the first
@@ -151,10 +152,111 @@ releases_one w pv line o within ended is calm = by (released_at w.core pv) refl 
         (eq-eqb (line_of_waiter w.core it.waiter) line (sym same))
         (calm_weaker no_one no_one no_one (just line) w.core (λ q not. not) (λ q not. refl) calm))
 
+-- a line that is to answer so, one of which less is left, and what both make of it
+abbrev bad : Answer → OpenLine → OpenLine
+bad why p = record p { failure = Some why }
+
+abbrev less : OpenLine → OpenLine
+less p = record p { left = p.left - 1 }
+
+abbrev both : Opens → ℕ → OpenLine → Answer → Bool → Opens
+both opens line x why b = cond b (with_open opens line (less x)) (with_open opens line (bad why (less x)))
+
+-- that a line fails, and that less is left of it, may come in any order
+failed_finished : (opens : Opens) (line : ℕ) (o : OpenLine) (why : Answer) → open_at opens line ≡ Some o
+    → after_finished (after_failure opens line why) line ≡ after_failure (after_finished opens line) line why
+failed_finished opens line o why at = first (is_pv_failed x.failure) refl ∙ sym (later (is_pv_failed x.failure) refl) where
+  x : OpenLine
+  x = open_of opens line
+
+  now : (p : OpenLine) → open_of (with_open opens line p) line ≡ p
+  now p = ap (λ (y : Option OpenLine). unwrap_or y no_open) (set_open opens line o p at)
+
+  twice : (p q : OpenLine) → with_open (with_open opens line p) line q ≡ with_open opens line q
+  twice p q = ap (λ (l : List (Option OpenLine)). record opens { list = l }) (set-set opens.list line (Some p) (Some q))
+
+  first : (b : Bool) → is_pv_failed x.failure ≡ b → after_finished (after_failure opens line why) line ≡ both opens line x why b
+  first true is = ap (λ (b : Bool). after_finished (cond b opens (with_open opens line (bad why x))) line) is
+  first false is =
+      ap (λ (b : Bool). after_finished (cond b opens (with_open opens line (bad why x))) line) is
+      ∙ ap (λ (p : OpenLine). with_open (with_open opens line (bad why x)) line (less p)) (now (bad why x)) ∙ twice (bad why x) (less (bad why x))
+
+  later : (b : Bool) → is_pv_failed x.failure ≡ b → after_failure (after_finished opens line) line why ≡ both opens line x why b
+  later b is =
+      ap (λ (p : OpenLine). cond (is_pv_failed p.failure) (with_open opens line (less x)) (with_open (with_open opens line (less x)) line
+      (bad why p))) (now (less x))
+      ∙ ap (λ (c : Bool). cond c (with_open opens line (less x)) (with_open (with_open opens line (less x)) line (bad why (less x)))) is
+      ∙ ap (λ (q : Opens). cond b (with_open opens line (less x)) q) (twice (less x) (bad why (less x)))
+
+-- the line of the first that is released is open
+released_open : (w : World) (pv line : ℕ) → IsOrderly w → pv < length w.core.waits.disks → Some line ≡ line_released w.core pv
+    → (o : OpenLine) × (open_at w.core.opens line ≡ Some o)
+released_open w pv line o within served = by (released_at w.core pv) refl served where
+  of : (it : Waiting) (who : Waiter) → it.waiter ≡ who → released_at w.core pv ≡ Some it → line ≡ line_of_waiter w.core who
+      → (o : OpenLine) × (open_at w.core.opens line ≡ Some o)
+  of it (waiter.Line n) who at same =
+      subst (λ (k : ℕ). (o : OpenLine) × (open_at w.core.opens k ≡ Some o)) (sym same)
+      (some_of (open_at w.core.opens n) (left_open (open_at w.core.opens n) (released_line w.core pv n it o.tidy within at who)))
+  of it (waiter.Piece number) who at same =
+      let p : OfLine w number = of_line_at w number o (ap is_some (released_piece w.core pv number it o.tidy within at who).1.at) in
+      let its : line ≡ p.live.line = same ∙ ap (λ (l : LivePiece). l.line) p.is in
+      subst (λ (k : ℕ). (o : OpenLine) × (open_at w.core.opens k ≡ Some o)) (sym its) (p.of_line.opened, p.of_line.is_open)
+
+  by : (x : Option Waiting) → released_at w.core pv ≡ x
+      → Some line ≡ option_map (λ (it : Waiting). line_of_waiter w.core it.waiter) x
+      → (o : OpenLine) × (open_at w.core.opens line ≡ Some o)
+  by None at is = absurd (none-some line (sym is))
+  by (Some it) at is = of it it.waiter refl at (same_Some line (line_of_waiter w.core it.waiter) is)
+
+-- that it fails, and that it waits no more, may come in any order
+fails_first : (w : World) (pv line : ℕ) (c : Core) → IsOrderly w → pv < length w.core.waits.disks → flight_of w.core.waits.plan pv ≡ None
+    → Some line ≡ line_released w.core pv
+    → c ≡ core_released w.core pv (released_at w.core pv)
+    → Reaches follows w (world w.shelf (after_line_fails c line (PvFailed pv)))
+fails_first w pv line c o within ended served is =
+    let why : Answer = PvFailed pv in
+    let v : World = after w (LineFails line why) in
+    let own : (x : OpenLine) × (open_at w.core.opens line ≡ Some x) = released_open w pv line o within served in
+    let there : is_some (released_at w.core pv) ≡ true = some_served (released_at w.core pv) served in
+    subst (λ (d : Core). Reaches follows w (world w.shelf d))
+    (swapped own.0 own.1 (released_at w.core pv) served ∙ ap (λ (d : Core). after_line_fails d line why) (sym is))
+    (reaches_both follows w v (after v (Releases pv))
+    (reaches_act follows w (LineFails line why) refl (ap is_some own.1, (pv, refl), inr (pv, ended, sym served)))
+    (reaches_act follows v (Releases pv) refl (ended, there)))
+  where
+    some_served : (x : Option Waiting) → Some line ≡ option_map (λ (it : Waiting). line_of_waiter w.core it.waiter) x → is_some x ≡ true
+    some_served None is = absurd (none-some line (sym is))
+    some_served (Some it) is = refl
+
+    of : (x : OpenLine) → open_at w.core.opens line ≡ Some x → (who : Waiter) → line ≡ line_of_waiter w.core who
+        → after_released (after_line_fails w.core line (PvFailed pv)) who pv
+        ≡ after_line_fails (after_released w.core who pv) line (PvFailed pv)
+    of x at (waiter.Line n) same =
+        subst (λ (k : ℕ). after_released (after_line_fails w.core line (PvFailed pv)) (waiter.Line k) pv
+        ≡ after_line_fails (after_released w.core (waiter.Line k) pv) line (PvFailed pv)) same
+        (ap (λ (q : Opens). record w.core { waits = after_release w.core.waits pv; opens = q })
+        (failed_finished w.core.opens line x (PvFailed pv) at))
+    of x at (waiter.Piece number) same =
+        let d : Core = after_released w.core (waiter.Piece number) pv in
+        ap (λ (k : ℕ). record d { opens = after_finished (after_failure w.core.opens line (PvFailed pv)) k }) (sym same)
+        ∙ ap (λ (q : Opens). record d { opens = q }) (failed_finished w.core.opens line x (PvFailed pv) at)
+        ∙ ap (λ (k : ℕ). record d { opens = after_failure (after_finished w.core.opens k) line (PvFailed pv) }) same
+
+    swapped : (x : OpenLine) → open_at w.core.opens line ≡ Some x → (it : Option Waiting)
+        → Some line ≡ option_map (λ (y : Waiting). line_of_waiter w.core y.waiter) it
+        → core_released (after_line_fails w.core line (PvFailed pv)) pv it
+        ≡ after_line_fails (core_released w.core pv it) line (PvFailed pv)
+    swapped x at None is = absurd (none-some line (sym is))
+    swapped x at (Some it) is = of x at it.waiter (same_Some line (line_of_waiter w.core it.waiter) is)
+
 -- its line fails too, where the flush did
-pub warned : (w : World) (pv line : ℕ) (c : Core) (well : Bool) → ReleasesOne w pv line (world w.shelf c)
+pub warned : (w : World) (pv line : ℕ) (c : Core) (well : Bool) → IsOrderly w → pv < length w.core.waits.disks
+    → flight_of w.core.waits.plan pv ≡ None
+    → Some line ≡ line_released w.core pv
+    → c ≡ core_released w.core pv (released_at w.core pv)
+    → ReleasesOne w pv line (world w.shelf c)
     → ReleasesOne w pv line (world w.shelf (cond well c (after_line_fails c line (PvFailed pv))))
-warned w pv line c well r =
+warned w pv line c well o within ended served is r =
     let why : Answer = PvFailed pv in
     let v : World = world w.shelf c in
     let d : Core = after_line_fails c line why in
@@ -162,8 +264,7 @@ warned w pv line c well r =
     let q = (line_failed c.opens line p.0 why p.1).lines line p.0 p.1 in
     cond_both well c d (λ (x : Core). ReleasesOne w pv line (world w.shelf x)) (λ t. r)
     (λ t. record {
-      reaches =
-          reaches_both follows w v (world w.shelf d) r.reaches (reaches_act follows v (LineFails line why) refl (r.opened, (pv, refl)));
+      reaches = fails_first w pv line c o within ended served is;
       calm = line_fails_calm c line why no_one (just line) (eq-eqb line line refl) r.calm;
       opened = ap is_some q.1;
       other = r.other;

@@ -58,15 +58,6 @@ pub record IsCalm (pieces lines : ℕ → Bool) (c : Core) : Type 0 where
   pub quiet : IsQuiet pieces lines c
   pub others : (line : ℕ) → c.barrier ≡ Some line → 1 < length (filter is_open c.lines.answers)
 
--- the line that waits, or that of the piece that does
-abbrev pub line_of_waiter : Core → Waiter → ℕ
-line_of_waiter c (waiter.Line line) = line
-line_of_waiter c (waiter.Piece number) = (live_of c.pieces number).line
-
--- the line of the first that the last flush of a disk served
-abbrev pub line_released : Core → ℕ → Option ℕ
-line_released c pv = option_map (λ (w : Waiting). line_of_waiter c w.waiter) (released_at c pv)
-
 -- the piece of which an operation has ended took place, or failed: its line, still open, may have nothing left now
 pub record Settles (w : World) (number : ℕ) (v : World) : Type 0 where
   pub reaches : Reaches follows w v

@@ -5,13 +5,13 @@ ghost use Rattle.disk_model.specs.Operations.{Lies, work_of};
 ghost use Rattle.flush_plan.specs.Plans.{flight_of};
 ghost use Rattle.piece_table.specs.Pieces.{flying_at, is_among, is_started};
 ghost use Rattle.piece_table.specs.Steps.{live_of};
-ghost use Rattle.world_acts.specs.Acts.{Reaches, core_released, follows, released_at, world};
+ghost use Rattle.world_acts.specs.Acts.{Reaches, core_released, follows, line_released, released_at, world};
 ghost use Rattle.world_acts.specs.OpenLines.{left_of, open_at};
 ghost use Rattle.world_acts.specs.Orderly.{AreReleased, IsOrderly, IsTidy};
 ghost use Rattle.world_acts.specs.Owners.{piece_work};
 ghost use Rattle.world_acts.specs.Volumes.{span_of};
 ghost use Rattle.world_acts.specs.Steps.{after_leaves, after_line_fails, after_marks, after_reads, after_wrote};
-ghost use Rattle.io_core.specs.Rest.{AreReleasedBut, IsCalm, Settles, just, line_released, no_one};
+ghost use Rattle.io_core.specs.Rest.{AreReleasedBut, IsCalm, Settles, just, no_one};
 
 use crate::answering::close_line;
 use crate::starting::fail;

@@ -1,6 +1,6 @@
 -- Acts: an event is a list of them, and each adds one step of the shelf or one entry at the most.
-use Rattle.std.specs.Prelude.{◌≡◌, ◌≤◌, ◌<◌, ◌≢◌, All, ℕ, ◌+◌, ◌==◌, Bool, true, false, not, ◌&&◌, IsTrue, List, [], ◌∷◌, length, Option}
-use Rattle.std.specs.Prelude.{None, Some, filter, is_some, slice_get}
+use Rattle.std.specs.Prelude.{◌≡◌, ◌≤◌, ◌<◌, ◌≢◌, ◌⊎◌, All, ℕ, ◌+◌, ◌==◌, Bool, true, false, not, ◌&&◌, IsTrue, List, [], ◌∷◌, length, Option}
+use Rattle.std.specs.Prelude.{None, Some, filter, is_some, option_map, slice_get}
 use Rattle.std.specs.FinSet as set
 use Rattle.std.specs.Option.{option_map_or}
 use Rattle.sector_base.specs.declared.places.Piece.{Piece}
@@ -18,6 +18,8 @@ use Rattle.line_table.specs.Steps.{is_open}
 use Rattle.claim_table.specs.Claims.{IsEntry, ready_at}
 use Rattle.claim_table.specs.declared.claim.Entry.{Entry}
 use Rattle.flush_plan.specs.Plans.{flight_of, marks_of}
+use Rattle.flush_waits.specs.declared.ticket.Waiter.{Waiter}
+use Rattle.flush_waits.specs.declared.ticket.Waiter.TheVariants as waiter
 use Rattle.flush_waits.specs.declared.ticket.Waiting.{Waiting}
 use Rattle.flush_waits.specs.Waits.{dirty_at, disk_waits, is_wanted}
 use Rattle.piece_table.specs.declared.live.Owner.{Owner}
@@ -183,6 +185,21 @@ IsFailure c piece (PvFailed pv) = ((span_of c.volumes piece).pv ≡ pv) × (set.
 IsFailure c piece (ReadFailed pv) = ((span_of c.volumes piece).pv ≡ pv) × (piece.write ≡ false)
 IsFailure c piece _ = ⊥
 
+-- the line that waits, or that of the piece that does
+abbrev pub line_of_waiter : Core → Waiter → ℕ
+line_of_waiter c (waiter.Line line) = line
+line_of_waiter c (waiter.Piece number) = (live_of c.pieces number).line
+
+-- the line of the first that the last flush of a disk served
+abbrev pub line_released : Core → ℕ → Option ℕ
+line_released c pv = option_map (λ (w : Waiting). line_of_waiter c w.waiter) (released_at c pv)
+
+-- a line may fail as a whole: it flushes its volume, or is the first that the last flush of a disk served, which has ended
+abbrev pub MayLineFail : Core → ℕ → Type 0
+MayLineFail c line =
+    (option_map_or (λ (l : Line). is_flush l.command) (slice_get c.lines.begun line) false ≡ true)
+    ⊎ ((pv : ℕ) × (flight_of c.waits.plan pv ≡ None) × (line_released c pv ≡ Some line))
+
 -- the answer says that a disk has failed
 abbrev pub TellsDisk : Answer → Type 0
 TellsDisk why = (pv : ℕ) × (why ≡ PvFailed pv)
@@ -193,7 +210,7 @@ Allowed w (Begins line opened) = MayBegin w opened
 Allowed w (Enters line piece sectors ticket entry) =
     MayEnter w line piece sectors ticket × IsEntry w.core.pieces.claims (claim_of w.core.pieces.next piece None) entry
 Allowed w (Awaits line pv) = MayAwait w line pv
-Allowed w (LineFails line why) = IsTrue (is_some (open_at w.core.opens line)) × TellsDisk why
+Allowed w (LineFails line why) = IsTrue (is_some (open_at w.core.opens line)) × TellsDisk why × MayLineFail w.core line
 Allowed w (Answers line) = IsTrue (is_some (open_at w.core.opens line)) × (left_of w.core.opens line ≡ 0) × (w.core.barrier ≢ Some line)
 Allowed w (Holds line) = (w.core.barrier ≡ None) × IsBarrier w.core.opens line
 Allowed w (Passes line) = (w.core.barrier ≡ Some line) × (length (filter is_open w.core.lines.answers) ≤ 1)

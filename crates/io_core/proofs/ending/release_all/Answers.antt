@@ -61,7 +61,8 @@ close_line-requires-clause-orderly g c =
     (releases_one w c.args.pv c.in-Some.line kept.orderly kept.disk kept.ended c.in-Some.ensures.line kept.calm) in
     let q : ReleasesOne w c.args.pv c.in-Some.line (world w.shelf c.warn.new.core) =
     subst (λ (x : Core). ReleasesOne w c.args.pv c.in-Some.line (world w.shelf x)) (sym c.warn.ensures)
-    (warned w c.args.pv c.in-Some.line c.release.new.core c.args.well r) in
+    (warned w c.args.pv c.in-Some.line c.release.new.core c.args.well kept.orderly kept.disk kept.ended c.in-Some.ensures.line
+    c.in-Some.ensures.after r) in
     orderly_reaches q.reaches kept.orderly
 
 pub close_line-requires-clause-opened : goal.close_line-requires-clause-opened
@@ -73,7 +74,8 @@ close_line-requires-clause-opened g c =
     (releases_one w c.args.pv c.in-Some.line kept.orderly kept.disk kept.ended c.in-Some.ensures.line kept.calm) in
     let q : ReleasesOne w c.args.pv c.in-Some.line (world w.shelf c.warn.new.core) =
     subst (λ (x : Core). ReleasesOne w c.args.pv c.in-Some.line (world w.shelf x)) (sym c.warn.ensures)
-    (warned w c.args.pv c.in-Some.line c.release.new.core c.args.well r) in
+    (warned w c.args.pv c.in-Some.line c.release.new.core c.args.well kept.orderly kept.disk kept.ended c.in-Some.ensures.line
+    c.in-Some.ensures.after r) in
     q.opened
 
 pub close_line-requires-clause-other : goal.close_line-requires-clause-other
@@ -85,7 +87,8 @@ close_line-requires-clause-other g c =
     (releases_one w c.args.pv c.in-Some.line kept.orderly kept.disk kept.ended c.in-Some.ensures.line kept.calm) in
     let q : ReleasesOne w c.args.pv c.in-Some.line (world w.shelf c.warn.new.core) =
     subst (λ (x : Core). ReleasesOne w c.args.pv c.in-Some.line (world w.shelf x)) (sym c.warn.ensures)
-    (warned w c.args.pv c.in-Some.line c.release.new.core c.args.well r) in
+    (warned w c.args.pv c.in-Some.line c.release.new.core c.args.well kept.orderly kept.disk kept.ended c.in-Some.ensures.line
+    c.in-Some.ensures.after r) in
     q.other
 
 pub loop-line-preserved : goal.loop-line-preserved
@@ -97,7 +100,8 @@ loop-line-preserved g c =
     (releases_one w c.args.pv c.in-Some.line kept.orderly kept.disk kept.ended c.in-Some.ensures.line kept.calm) in
     let q : ReleasesOne w c.args.pv c.in-Some.line (world w.shelf c.warn.new.core) =
     subst (λ (x : Core). ReleasesOne w c.args.pv c.in-Some.line (world w.shelf x)) (sym c.warn.ensures)
-    (warned w c.args.pv c.in-Some.line c.release.new.core c.args.well r) in
+    (warned w c.args.pv c.in-Some.line c.release.new.core c.args.well kept.orderly kept.disk kept.ended c.in-Some.ensures.line
+    c.in-Some.ensures.after r) in
     let first : World = world w.shelf c.args.core.now in
     let z : World = world w.shelf c.close_line.new.core in
     let less : WaitsLess w.core.waits z.core.waits c.args.pv =
@@ -124,7 +128,8 @@ loop-line-smaller g c =
     (releases_one w c.args.pv c.in-Some.line kept.orderly kept.disk kept.ended c.in-Some.ensures.line kept.calm) in
     let q : ReleasesOne w c.args.pv c.in-Some.line (world w.shelf c.warn.new.core) =
     subst (λ (x : Core). ReleasesOne w c.args.pv c.in-Some.line (world w.shelf x)) (sym c.warn.ensures)
-    (warned w c.args.pv c.in-Some.line c.release.new.core c.args.well r) in
+    (warned w c.args.pv c.in-Some.line c.release.new.core c.args.well kept.orderly kept.disk kept.ended c.in-Some.ensures.line
+    c.in-Some.ensures.after r) in
     let less : WaitsLess w.core.waits c.close_line.new.core.waits c.args.pv =
     subst (λ (x : Waits). WaitsLess w.core.waits x c.args.pv) (sym c.close_line.ensures.waits)
     (waits_less w.core.waits c.warn.new.core.waits c.args.pv kept.disk kept.ended
