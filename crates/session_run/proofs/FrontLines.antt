@@ -1,6 +1,6 @@
 -- The lines of a text, one after another, and those that stand before one of them.
 use Rattle.std.proofs.Common.{◌≡◌, ◌∙◌, ◌<◌, ◌≤◌, ◌+◌, ◌-◌, ◌==◌, ℕ, Bool, true, false, nat_lt, List, [], ◌∷◌, ◌++◌, get_or, length}
-use Rattle.std.proofs.Common.{take, drop, Option, Some, None, refl, ap, sym, inl, inr, ◌⊎◌, arith, eqb-true, ltb-true, ltb-false}
+use Rattle.std.proofs.Common.{take, Option, Some, None, refl, ap, sym, inl, inr, ◌⊎◌, arith, eqb-true, ltb-true, ltb-false}
 use Rattle.std.specs.Option.{option_map, option_or}
 use Rattle.std.proofs.lemmas.Bool.{cases_Bool}
 use Rattle.std.proofs.lemmas.List.{append_assoc, append-nil, length-append, length-drop, nil_from_length, take-append-le, take_all}
@@ -109,7 +109,7 @@ next_ended {text} {rest} {number} so_far inside is =
     let after = after_first is_end rest in
     let some : 0 < length rest = omega (arith, inside) in
     let parted : (more : List ℕ)
-        → lines_in ((so_far.front ++ line) ++ more) ≡ lines_in so_far.front ++ before_first is_end rest ∷ lines_in more =
+    → lines_in ((so_far.front ++ line) ++ more) ≡ lines_in so_far.front ++ before_first is_end rest ∷ lines_in more =
     λ more. ap lines_in (append_assoc so_far.front line more) ∙ so_far.apart some (line ++ more)
     ∙ ap (λ (ls : List (List ℕ)). lines_in so_far.front ++ ls) (with_more rest more inside) in
     let fronted : lines_in (so_far.front ++ line) ≡ lines_in so_far.front ++ before_first is_end rest ∷ [] =

@@ -15,16 +15,12 @@ use Rattle.session_run.specs.SessionScript.{first_unrun, refused_at, session_com
 commands_by : (text : List ℕ) (unrun : Option (ℕ × ℕ)) → first_unrun 1 (lines_in text) ≡ unrun
     → session_commands text
     ≡ option_map_or (λ (unrun : ℕ × ℕ). refused_at unrun (commands_from (take (unrun.0 - 1) (lines_in text)) 1 0)) unrun
-        (commands_from (lines_in text) 1 0)
+    (commands_from (lines_in text) 1 0)
 commands_by text unrun is =
     ap (λ (u : Option (ℕ × ℕ)).
     option_map_or (λ (unrun : ℕ × ℕ). refused_at unrun (commands_from (take (unrun.0 - 1) (lines_in text)) 1 0)) u
     (commands_from (lines_in text) 1 0))
     is
-
--- without one they are those of all lines
-pub all_commands : (text : List ℕ) → first_unrun 1 (lines_in text) ≡ None → session_commands text ≡ commands_from (lines_in text) 1 0
-all_commands text none = commands_by text None none
 
 commands_before : (text front : List ℕ) (number place : ℕ) → first_unrun 1 (lines_in text) ≡ Some (number, place)
     → lines_in front ≡ take (number - 1) (lines_in text)
@@ -38,7 +34,7 @@ pub refused_first : (text front : List ℕ) (number place : ℕ) → first_unrun
     → lines_in front ≡ take (number - 1) (lines_in text)
     → (wrong : Option ScriptRefusal)
     → MatchOption wrong ((commands : List (ℕ × Command)) × (commands_from (lines_in front) 1 0 ≡ Ok commands))
-      (IsScriptRefusal (commands_from (lines_in front) 1 0))
+    (IsScriptRefusal (commands_from (lines_in front) 1 0))
     → IsScriptRefusal (session_commands text) (unwrap_or wrong (LineRefused number UnknownWord place))
 refused_first text front number place first before None (commands, is) =
     commands_before text front number place first before ∙ ap (refused_at (number, place)) is
@@ -47,18 +43,18 @@ refused_first text front number place first before (Some (LineRefused line fault
     commands_before text front number place first before ∙ ap (refused_at (number, place)) is
 
 -- the refusal, if there is one
-pub refused_only : {A : Type 0} (Fine : Type 0) (Is : ScriptRefusal → Type 0) (result : Result A ScriptRefusal) (refusal : Option ScriptRefusal)
-    → refusal ≡ result_err result → MatchResult result (λ x. Fine) Is → MatchOption refusal Fine Is
+pub refused_only : {A : Type 0} (Fine : Type 0) (Is : ScriptRefusal → Type 0) (result : Result A ScriptRefusal)
+    (refusal : Option ScriptRefusal) → refusal ≡ result_err result → MatchResult result (λ x. Fine) Is → MatchOption refusal Fine Is
 refused_only Fine Is (Ok x) refusal is holds = subst (λ (r : Option ScriptRefusal). MatchOption r Fine Is) (sym is) holds
 refused_only Fine Is (Err e) refusal is holds = subst (λ (r : Option ScriptRefusal). MatchOption r Fine Is) (sym is) holds
 
 -- whether there is a refusal, without the lines
 pub script_read : (text : List ℕ) (before after : ℕ → List ℕ) (result : Result (List Line) ScriptRefusal)
     → MatchResult result
-      (λ script. (commands : List (ℕ × Command)) × (commands_from (lines_in text) 1 0 ≡ Ok commands)
-      × AreLines before commands script after)
-      (IsScriptRefusal (commands_from (lines_in text) 1 0))
+    (λ script. (commands : List (ℕ × Command)) × (commands_from (lines_in text) 1 0 ≡ Ok commands)
+    × AreLines before commands script after)
+    (IsScriptRefusal (commands_from (lines_in text) 1 0))
     → MatchResult result (λ script. (commands : List (ℕ × Command)) × (commands_from (lines_in text) 1 0 ≡ Ok commands))
-      (IsScriptRefusal (commands_from (lines_in text) 1 0))
+    (IsScriptRefusal (commands_from (lines_in text) 1 0))
 script_read text before after (Ok script) (commands, is, are) = (commands, is)
 script_read text before after (Err refusal) is = is

@@ -11,7 +11,6 @@ use Rattle.command_table.specs.declared.line_fault.LineFault.TheVariants.{NotHer
 use Rattle.command_table.specs.declared.command.Command.{Command}
 use Rattle.command_table.specs.declared.command.Path.{Path}
 use Rattle.command_table.specs.declared.fault.Fault.{Fault}
-use Rattle.command_table.specs.declared.line_fault.LineFault.{LineFault}
 use Rattle.command_table.specs.declared.refusal.CommandRefusal.{CommandRefusal}
 use Rattle.command_table.specs.declared.refusal.CommandRefusal.TheVariants as wrong
 use Rattle.command_table.specs.declared.table.CommandName.{CommandName}
@@ -26,7 +25,7 @@ use Rattle.command_table.specs.Words.{is_complete, read}
 use Rattle.data_lines.specs.DataLines.{runs_beside}
 use Rattle.lvm_script.specs.Script.{Commands, Meant, behind_all, commands_from, commands_with, is_comment, limited, line_meant, line_named}
 use Rattle.lvm_script.specs.Script.{line_of_words, meaning_of_line, most_lines, most_sectors, words_in}
-use Rattle.session_run.specs.SessionScript.{first_unrun, is_unrun, runs_named, unrun_in, unrun_line}
+use Rattle.session_run.specs.SessionScript.{first_unrun, runs_named, unrun_in, unrun_line}
 
 -- a world runs the command, and it draws no id
 pub record Runs (command : Command) : Type 0 where

@@ -6,7 +6,7 @@ use Rattle.command_table.specs.declared.command.Command.{Command}
 use Rattle.command_table.specs.Commands.{draws}
 use Rattle.data_lines.specs.DataLines.{runs_beside}
 use Rattle.lvm_script.specs.declared.line.Line.{Line}
-use Rattle.lvm_script.specs.Lines.{TakesId, line_of}
+use Rattle.lvm_script.specs.Lines.{TakesId}
 use Rattle.lvm_script.specs.Script.{AreLines, commands_from, lines_in}
 use Rattle.session_run.specs.SessionScript.{first_unrun}
 use Rattle.session_run.proofs.RunCommands.{AllRun, commands_run}

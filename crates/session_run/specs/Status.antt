@@ -1,5 +1,5 @@
 -- The exit status of a session.
-use Rattle.std.specs.Prelude.{ℕ, Bool, true, false, if◌then◌else◌, List, Option, None, Some}
+use Rattle.std.specs.Prelude.{ℕ, Bool, true, false, if◌then◌else◌, List, Option, Some}
 use Rattle.std.specs.List.{list_any}
 use Rattle.line_answers.specs.declared.answer.Answer.{Answer}
 use Rattle.line_answers.specs.declared.answer.Answer.TheVariants.{Fenced, NoMemory, PvFailed, ReadFailed, Refused, Stopped}

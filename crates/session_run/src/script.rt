@@ -1,5 +1,5 @@
 //! The script of a session.
-ghost use Rattle.std.specs.Prelude.{◌≡◌, ◌≢◌, ◌<◌, ◌≤◌, ◌==◌, ◌-◌, ℕ, [], ◌∷◌, All, List, Some, None, MatchOption, MatchResult, IfOk, Ok, OnErr, length, not, position, take, true, if◌then◌else◌};
+ghost use Rattle.std.specs.Prelude.{◌≡◌, ◌≤◌, ◌==◌, ◌-◌, ℕ, All, List, Some, None, MatchOption, MatchResult, IfOk, Ok, OnErr, length, not, position, take, true, if◌then◌else◌};
 ghost use Rattle.std.specs.List.{after_first, before_first, position_or_len};
 ghost use Rattle.command_table.specs.declared.command.Command.{Command as CommandRecord};
 ghost use Rattle.data_lines.specs.DataLines.{runs_beside};

@@ -54,9 +54,7 @@ fn is_device(answer: &Option<Answer>) -> bool
 {
     matches!(
         answer,
-        Some(
-            Answer::ReadFailed(_) | Answer::PvFailed(_) | Answer::Fenced(_) | Answer::Stopped(_)
-        )
+        Some(Answer::ReadFailed(_) | Answer::PvFailed(_) | Answer::Fenced(_) | Answer::Stopped(_))
     )
 }
 

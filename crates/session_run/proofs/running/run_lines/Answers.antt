@@ -1,4 +1,4 @@
-use Rattle.std.proofs.Common.{◌≡◌, ◌≤◌, arith}
+use Rattle.std.proofs.Common.{arith}
 use Rattle.session_run.proofs.Unbegun.{unbegun_fit}
 use Rattle.session_run.proofs.running.run_lines.Goals as goal
 

@@ -1,4 +1,4 @@
-use Rattle.std.proofs.Common.{◌≡◌, ◌∙◌, ◌<◌, ◌+◌, List, ℕ, length, ap, sym, subst, arith, eqb-true}
+use Rattle.std.proofs.Common.{◌∙◌, ◌<◌, ◌+◌, List, ℕ, length, ap, sym, subst, arith, eqb-true}
 use Rattle.std.proofs.lemmas.Bool.{eqb-false}
 use Rattle.session_run.specs.SessionScript.{unrun_line}
 use Rattle.session_run.proofs.FrontLines.{Passed, at_end, at_start, counted, found, next_passed, shorter, within}
