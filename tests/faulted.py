@@ -4,9 +4,10 @@ from volumes import PLACES, WAIT, Model, fill, flush, read
 
 # Lines that run one after another, each with one piece on each of its disks, and each read on sectors of its own.
 SINGLE = [it for line in (
-    fill("wide", 4, 8, 1000), read("wide", 0, 16), fill("last", 60, 4, 2000), flush("wide"), fill("data", 188, 8, 3000, True), read("data", 0, 4),
-    fill("wide", 412, 8, 4000), fill("twin", 1, 2, 5000), fill("last", 8, 8, 6000, True), flush("wide"), read("last", 0, 8),
-    fill("data", 190, 4, 7000), flush("twin"), flush("data"), read("wide", 408, 16), read("twin", 0, 8)) for it in (line, WAIT)]
+    fill("wide", 4, 8, 1000), read("wide", 0, 16), fill("last", 60, 4, 2000), flush("wide"), fill("data", 188, 8, 3000, True),
+    read("data", 0, 4), fill("wide", 412, 8, 4000), fill("twin", 1, 2, 5000), fill("last", 8, 8, 6000, True), flush("wide"),
+    read("last", 0, 8), fill("data", 190, 4, 7000), flush("twin"), flush("data"), read("wide", 408, 16), read("twin", 0, 8))
+    for it in (line, WAIT)]
 
 
 def disks_of(line):

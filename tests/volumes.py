@@ -5,21 +5,25 @@ NAMES = ("a", "b", "c")
 EXTENT, EXTENTS = 64, 32
 SECTORS = PE_START + EXTENT * EXTENTS
 VISIBLE, READ_ONLY, HIDDEN = '"READ", "WRITE", "VISIBLE"', '"READ", "VISIBLE"', '"READ", "WRITE"'
+MOVING, MOVE = '"READ", "WRITE", "VISIBLE", "LOCKED"', '"READ", "WRITE", "PVMOVE", "LOCKED"'
 LAST = (1 << 64) - 1
 
 
 class Segment:
-    """So many extents over these legs, each a physical volume or a volume with the extent there: in stripes, or as a mirror."""
+    """So many extents over these legs, each a physical volume or a volume with the extent there: in stripes, as a mirror, or as a
+    move of which so many extents are done."""
 
-    def __init__(self, count, *legs, stripe=None, is_mirror=False):
-        self.count, self.legs, self.stripe, self.is_mirror = count, legs, stripe, is_mirror
+    def __init__(self, count, *legs, stripe=None, is_mirror=False, moved=None):
+        self.count, self.legs, self.stripe, self.is_mirror, self.moved = count, legs, stripe, is_mirror, moved
 
     def text(self, start):
-        return mirror(start, self.count, self.legs) if self.is_mirror else striped(start, self.count, self.legs, self.stripe)
+        if self.is_mirror:
+            return mirror(start, self.count, self.legs, moved=self.moved)
+        return striped(start, self.count, self.legs, self.stripe)
 
     def place(self, sector):
-        """What has this sector of it, and which sector there."""
-        leg = 0
+        """What has this sector of it, and which sector there: of a mirror the first leg, or the second once all is moved."""
+        leg = int(self.moved == self.count)
         if self.stripe:
             unit, within = divmod(sector, self.stripe)
             leg, sector = unit % len(self.legs), unit // len(self.legs) * self.stripe + within
@@ -38,6 +42,9 @@ VOLUMES = {
     "over_mimage_1": (HIDDEN, [Segment(3, ("pv1", 16))]),
     "over": (VISIBLE, [Segment(3, ("over_mimage_0", 0), ("over_mimage_1", 0), is_mirror=True)]),
     "deep": (VISIBLE, [Segment(4, ("left", 0), ("right", 0), stripe=16)]),
+    "pvmove0": (MOVE, [Segment(2, ("pv0", 12), ("pv1", 24), is_mirror=True, moved=2),
+                       Segment(2, ("pv0", 14), ("pv2", 24), is_mirror=True, moved=1)]),
+    "moving": (MOVING, [Segment(3, ("pvmove0", 0)), Segment(1, ("pv1", 28)), Segment(1, ("pvmove0", 3))]),
     "fixed": (READ_ONLY, [Segment(1, ("pv0", 24))]),
     "last": (VISIBLE, [Segment(1, ("pv2", 31))]),
 }
