@@ -15,7 +15,7 @@ use Rattle.lvm_run.specs.declared.ending.Ending.TheVariants.{NoMemory}
 use Rattle.lvm_run.specs.declared.outcome.Outcome.TheVariants.{Ended}
 use Rattle.lvm_run.proofs.AskedLines.{none_asked}
 use Rattle.lvm_run.proofs.Promised.{IsTold, kept_undone}
-use Rattle.lvm_run.proofs.SessionWords.{asked_session, by_test}
+use Rattle.lvm_run.proofs.SessionWords.{by_test, some_session}
 use Rattle.lvm_run.proofs.Undone.{undone_words}
 
 -- nothing is written
@@ -46,7 +46,7 @@ pub unread : {S : Type 0} (state : S → State) (words : List Word) (now : ℕ) 
     → ProgramRuns words now state from from ids ids (state shelf) 2 written faults written faults journal answers shelf
 unread state words now from ids written faults shelf told disks journal answers none_entered none_answered =
     by_test (asks_session words)
-    (λ asks. let asked = asked_session (session_of words) asks in record {
+    (λ asks. let asked = some_session (session_of words) asks in record {
       session = asked.0;
       asked = asked.1;
       runs = record {

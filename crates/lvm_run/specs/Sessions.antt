@@ -57,6 +57,13 @@ session_of words = option_and_then (λ (line : CommandLine). session_in line.req
 abbrev pub asks_session : List Word → Bool
 asks_session words = is_some (session_of words)
 
+-- words ask for this session, on disks of these names
+pub record AsksFor (words names : List Word) (session : Session) : Type 0 where
+  pub line : CommandLine
+  pub meant : command_line_of words ≡ Some line
+  pub names_is : line.names ≡ names
+  pub session_is : session_in line.request ≡ Some session
+
 -- the sessions that are built: of one worker, without threads for the disks, and of which nothing is shown while they run
 abbrev pub is_built_session : Session → Bool
 is_built_session session = session.workers == 1 && (not session.disk_threads && not session.status)

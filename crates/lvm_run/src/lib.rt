@@ -18,6 +18,7 @@ mod output;
 mod run;
 mod scanned;
 mod session;
+mod session_words;
 mod sourced;
 mod timed_outcome;
 

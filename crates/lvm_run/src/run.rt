@@ -23,16 +23,17 @@ use crate::ending::Ending;
 use crate::entered::Entered;
 use crate::outcome::Outcome;
 use crate::session::run_session;
+use crate::session_words::{AskedSession, asked_session};
 use crate::sourced::with_source;
 use crate::timed_outcome::TimedOutcome;
 use byte_streams::{Failed, Sink, Source};
-use command_table::{Command, Request};
+use command_table::Command;
 use disk_model::Shelf;
 use line_answers::DiskNames;
 use line_table::{Answers, Journal};
 use lvm_id::Words64;
 use lvm_script::Line;
-use lvm_words::{Asked, Task, WordsRefusal, read_command_line, read_words};
+use lvm_words::{Asked, Task, WordsRefusal, read_words};
 use std::alloc::{AllocError, Global};
 use std::sync::Wait;
 use std::thread::Threads;
@@ -94,16 +95,12 @@ pub fn lvm_run<
         result.status (W.written out.old) (W.fault_count out.old) (W.written out.new) (W.fault_count out.new)
         result.entered.journal.items result.entered.answers.items result.shelf }
 {
-    match read_command_line(alloc, words) {
-        Ok(line) => match &line.request {
-            Request::Session(session) => {
-                run_session(alloc, script, out, shelf, ids, &line.names, session, gate)
-            }
-            Request::One(_) => run_single(alloc, words, script, out, shelf, ids, now),
-            Request::Demo { .. } => run_single(alloc, words, script, out, shelf, ids, now),
-        },
-        Err(WordsRefusal::NoMeaning) => run_single(alloc, words, script, out, shelf, ids, now),
-        Err(WordsRefusal::NoMemory) => end_unread(alloc, shelf),
+    match asked_session(alloc, words) {
+        Ok(Some(AskedSession { names, session })) => {
+            run_session(alloc, script, out, shelf, ids, &names, &session, gate)
+        }
+        Ok(None) => run_single(alloc, words, script, out, shelf, ids, now),
+        Err(AllocError) => end_unread(alloc, shelf),
     }
 }
 

@@ -1,6 +1,4 @@
-use Rattle.std.proofs.Common.{Option, IfSome, sym, ap, subst, ◌∙◌}
-use Rattle.meta_model.specs.declared.group.Group.{Group}
-use Rattle.volume_rules.specs.Rules.{IsAccepted}
+use Rattle.std.proofs.Common.{sym, ap, subst, ◌∙◌}
 use Rattle.vg_found.specs.declared.found.Found.{Found}
 use Rattle.change_batches.specs.Sound.{sizes_of}
 use Rattle.vg_repair.proofs.RepairedSizes.{repaired_sizes}
@@ -18,8 +16,7 @@ returns-in-Ok-clause-lies g c =
     let sizes = (g.S.Shelf.state c.repair.new.shelf).sizes in
     let found = c.found-found in
     subst (λ (f : Found). LiesOn sizes f) found.ensures.found
-    (lies_on_disks found.result.now found.ensures.shape found.ensures.whole
-    (λ group is. subst (λ (o : Option Group). IfSome o IsAccepted) is c.see_accepted.ensures) sizes
+    (lies_on_disks found.result.now found.ensures.shape found.ensures.whole c.see_accepted.ensures sizes
     (c.in-Ok.ensures.again.sizes ∙ c.requires.sizes ∙ sym (repaired_sizes c.args.whole)
     ∙ ap (λ (f : Found). sizes_of f.disks) (sym (found.ensures.found ∙ c.in-Ok.ensures.cause.now))))
 
