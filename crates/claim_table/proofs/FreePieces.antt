@@ -47,7 +47,7 @@ ready_is_free claims earlier (c ∷ later) d lt =
     ] refl lt
 
 -- one of four obstacles is enough
-any_blocks : (a b c d : Bool) → (a || b || c || d) ≡ true → (not a && not b && not c && not d) ≡ false
+pub any_blocks : (a b c d : Bool) → (a || b || c || d) ≡ true → (not a && not b && not c && not d) ≡ false
 any_blocks true b c d h = refl
 any_blocks false true c d h = refl
 any_blocks false false true d h = refl

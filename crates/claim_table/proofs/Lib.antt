@@ -8,6 +8,7 @@ mod RegionsKept
 mod Passing
 mod TableKept
 mod FreePieces
+mod Watched
 mod Apart
 mod Reached
 pub mod Rows

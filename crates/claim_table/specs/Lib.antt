@@ -6,3 +6,4 @@ pub mod Laws
 pub mod Sorted
 pub mod Places
 pub mod Regions
+pub mod Watched

@@ -11,7 +11,7 @@ use crate::sorted::place_for;
 use sector_base::Piece;
 
 // Whether they are of one volume and share a sector.
-fn overlap(place: &Placed, piece: &Piece) -> bool
+pub(crate) fn overlap(place: &Placed, piece: &Piece) -> bool
     ensures { result ≡ overlaps (piece_of place.now) piece.now }
 {
     if place.volume != piece.volume {

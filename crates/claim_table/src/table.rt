@@ -1,13 +1,17 @@
 //! The table of the pieces that are under way and of those that wait.
-ghost use Rattle.std.specs.Prelude.{◌≡◌, ◌≤◌, ◌<◌, ◌+◌, ◌-◌, ◌*◌, ◌^◌, None, Some, ◌==◌, ◌||◌, All, IfSome, IfNone, IfOk, IsFalse, IsTrue, MatchOption, OnErr, OnOk, filter, length, max, not, position, slice_get, slice_index_or, take, if◌then◌else◌};
+ghost use Rattle.std.specs.Prelude.{◌≡◌, ◌≤◌, ◌<◌, ◌+◌, ◌-◌, ◌*◌, ◌^◌, None, Some, ◌==◌, ◌||◌, All, IfSome, IfNone, IfOk, IsFalse, IsTrue, MatchOption, OnErr, OnOk, filter, length, max, not, position, slice_get, slice_index_or, take, if◌then◌else◌, ℕ, ◌⊎◌, ◌++◌, ◌∷◌, [], ◌&&◌, true, false};
 ghost use Rattle.std.specs.List.{list_any, position_or_len};
 ghost use Rattle.std.specs.Option.{option_map};
+ghost use Rattle.claim_table.specs.declared.claim.Claim.{Claim as ClaimRecord};
 ghost use Rattle.claim_table.specs.Claims.{IsEntry, conflicts, is_free, is_suspended, lies_in, ready_at};
+ghost use Rattle.claim_table.specs.Conflict.{clash};
 ghost use Rattle.claim_table.specs.Places.{is_below};
 ghost use Rattle.claim_table.specs.Steps.{after_enter, after_leave, after_ready, after_resume, after_set_region, after_suspend, has_number, no_claim, no_claims};
 
 use crate::kept_regions::KeptRegions;
 use crate::pieces::Pieces;
+use crate::placed::claim_place;
+use crate::places::overlap;
 use crate::regions::{forget_region, has_region, note_region};
 use crate::{By, Claim, Entry};
 use sector_base::Piece;
@@ -26,6 +30,9 @@ pub struct ClaimTable {
     closed: Option<u64>,
     suspended: Vec<u32>,
     spare: u64,
+    // The pieces that left since no deferred one was ready: each that may start now clashes with one of these, unless any of them may.
+    left: Vec<Claim>,
+    any: bool,
 }
 
 // The place of the volume, if it is among them.
@@ -44,12 +51,31 @@ fn place_of_volume(volumes: &[u32], volume: u32) -> usize
     find_volume(volumes, volume).unwrap_or(0)
 }
 
+// Notes that the piece left, where there is room for it; else any deferred piece may start now.
+fn note_left(left: &mut Vec<Claim>, any: &mut bool, claim: Claim)
+    ensures { any.new ≡ false → (any.old ≡ false) × (left.new.items ≡ left.old.items ++ claim ∷ []) }
+{
+    if left.len() < left.capacity() {
+        left.push_reserved(claim);
+    } else {
+        *any = true;
+    }
+}
+
+// Whether they are of one volume, share a sector, and one of them writes.
+fn clashes(one: &Claim, other: &Claim) -> bool
+    ensures { result ≡ clash one.now other.now }
+{
+    (one.piece.write || other.piece.write) && overlap(&claim_place(one), &other.piece)
+}
+
 // So many volumes may be suspended at once.
 const SUSPENSIONS: usize = 1024;
 
 impl Model for ClaimTable {
-    ghost use Rattle.std.specs.Prelude.{◌≤◌, ◌<◌, ◌+◌, AllPairs, length, vec_capacity, vec_len};
+    ghost use Rattle.std.specs.Prelude.{◌≡◌, ◌≤◌, ◌<◌, ◌+◌, [], AllPairs, false, length, vec_capacity, vec_len};
     ghost use Rattle.claim_table.specs.Claims.{Claims};
+    ghost use Rattle.claim_table.specs.Watched.{IsWatched};
     ghost use Rattle.claim_table.specs.Regions.{AreRegionsOf};
 
     ghost Value = { Claims };
@@ -57,8 +83,9 @@ impl Model for ClaimTable {
     ghost view = { λ t. record { started = t.started.claims; deferred = t.deferred.claims; closed = t.closed; suspended = t.suspended.items; spare = t.spare } };
 
     // The regions are those of the started pieces, and the deferred ones have numbers of their own. A deferred piece has room
-    // among the started ones, and a spare place is room among both.
-    ghost invariant = { λ t. AreRegionsOf t.started.claims t.regions.items × AllPairs (λ c d. c.number < d.number) t.deferred.claims × (vec_len t.regions + t.started.room ≤ vec_capacity t.regions) × (length t.deferred.claims + t.spare ≤ t.started.room) × (t.spare ≤ t.deferred.room) × (1024 ≤ vec_capacity t.suspended) };
+    // among the started ones, and a spare place is room among both. Unless any deferred piece may start, those that clash with none
+    // of the pieces that left conflict with something.
+    ghost invariant = { λ t. AreRegionsOf t.started.claims t.regions.items × AllPairs (λ c d. c.number < d.number) t.deferred.claims × (vec_len t.regions + t.started.room ≤ vec_capacity t.regions) × (length t.deferred.claims + t.spare ≤ t.started.room) × (t.spare ≤ t.deferred.room) × (1024 ≤ vec_capacity t.suspended) × (t.any ≡ false → IsWatched (record { started = t.started.claims; deferred = t.deferred.claims; closed = t.closed; suspended = t.suspended.items; spare = t.spare }) t.left.items [] t.deferred.claims) };
 }
 
 impl ClaimTable {
@@ -73,6 +100,8 @@ impl ClaimTable {
             closed: None,
             suspended: Vec::with_capacity(alloc, SUSPENSIONS)?,
             spare: 0,
+            left: Vec::new(alloc),
+            any: false,
         })
     }
 
@@ -87,6 +116,7 @@ impl ClaimTable {
         self.regions.reserve(room as usize)?;
         self.started.reserve(room)?;
         self.deferred.reserve(spare)?;
+        self.left.reserve(spare as usize)?;
         self.spare = spare;
         Ok(())
     }
@@ -126,6 +156,7 @@ impl ClaimTable {
     {
         let at = self.deferred.place_of(number);
         self.deferred.set_region(at, region);
+        self.any = true;
     }
 
     /// Takes out the started or deferred piece.
@@ -137,10 +168,12 @@ impl ClaimTable {
             Some(at) => {
                 let claim = self.started.take(at);
                 forget_region(&mut self.regions, claim.region);
+                note_left(&mut self.left, &mut self.any, claim);
             }
             None => {
                 let at = self.deferred.place_of(number);
-                self.deferred.take(at);
+                let claim = self.deferred.take(at);
+                note_left(&mut self.left, &mut self.any, claim);
             }
         }
     }
@@ -154,6 +187,8 @@ impl ClaimTable {
     {
         let at = self.first_ready();
         if at == self.deferred.len() {
+            self.left.clear();
+            self.any = false;
             return None;
         }
         let claim = self.deferred.take(at);
@@ -182,6 +217,7 @@ impl ClaimTable {
     {
         let _ = region;
         self.closed = None;
+        self.any = true;
     }
 
     /// Suspends the volume: no piece of it starts any more.
@@ -200,6 +236,7 @@ impl ClaimTable {
     {
         let at = place_of_volume(&self.suspended, volume);
         self.suspended.remove(at);
+        self.any = true;
     }
 
     /// Whether no started piece is of the volume.
@@ -268,8 +305,48 @@ impl ClaimTable {
         self.conflict(&claim, Some(claim.number)).is_some()
     }
 
-    // The place of the first deferred piece that conflicts with nothing, or their number.
+    // The place of the first deferred piece that conflicts with nothing, or their number. Only those that clash with a piece that left
+    // are looked at, unless any may start.
     fn first_ready(&self) -> usize
+        ensures place { result ≡ ready_at self.now }
+        ensures within { result ≤ length self.now.deferred }
+    {
+        if self.any {
+            return self.first_of_all();
+        }
+        let mut first = self.waiting();
+        for claim in &self.left {
+            first = self.first_beside(claim, first);
+        }
+        first
+    }
+
+    // The place of the first deferred piece before this one that clashes with the claim and conflicts with nothing, or this place.
+    fn first_beside(&self, claim: &Claim, end: usize) -> usize
+        requires { end ≤ length self.now.deferred }
+        ensures within { result ≤ end }
+        ensures before { (k : ℕ) (d : ClaimRecord) → k < result → clash claim.now (slice_index_or self.now.deferred k d) ≡ true
+            → is_free self.now (take k self.now.deferred) (slice_index_or self.now.deferred k d) ≡ false }
+        ensures here { (result ≡ end) ⊎ ((result < end) × (is_free self.now (take result self.now.deferred) (slice_index_or self.now.deferred result no_claim) ≡ true)) }
+    {
+        let mut at = 0;
+        while at < end && !self.is_freed(claim, at) {
+            at += 1;
+        }
+        at
+    }
+
+    // Whether the deferred piece at this place clashes with the claim, and conflicts with nothing.
+    fn is_freed(&self, claim: &Claim, at: usize) -> bool
+        requires { at < length self.now.deferred }
+        ensures { result ≡ (clash claim.now (slice_index_or self.now.deferred at no_claim)
+            && is_free self.now (take at self.now.deferred) (slice_index_or self.now.deferred at no_claim)) }
+    {
+        clashes(claim, &self.deferred.at(at)) && !self.is_blocked(at)
+    }
+
+    // The same of all of them.
+    fn first_of_all(&self) -> usize
         ensures place { result ≡ ready_at self.now }
         ensures within { result ≤ length self.now.deferred }
     {

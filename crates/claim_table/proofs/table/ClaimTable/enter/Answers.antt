@@ -1,15 +1,18 @@
-use Rattle.std.proofs.Common.{◌<◌, ◌-◌, List, [], ◌∷◌, ◌++◌, length, sym, ap, subst, ◌∙◌, arith}
+use Rattle.std.proofs.Common.{◌≡◌, ◌<◌, ◌-◌, false, List, [], ◌∷◌, ◌++◌, length, sym, ap, subst, ◌∙◌, arith}
 use Rattle.std.specs.Prelude.{All, IsTrue}
 use Rattle.std.proofs.lemmas.List.Edits.{length-insert}
 use Rattle.claim_table.specs.declared.claim.Claim.{Claim}
 use Rattle.claim_table.specs.Claims.{Claims, conflicts, is_free}
 use Rattle.claim_table.specs.Places.{Kept}
 use Rattle.claim_table.specs.Regions.{AreRegionsOf}
-use Rattle.claim_table.specs.Steps.{place_by_number}
+use Rattle.claim_table.specs.Steps.{place_by_number, put_by_number}
+use Rattle.claim_table.specs.Watched.{IsWatched}
 use Rattle.claim_table.proofs.ByNumber.{put_last}
+use Rattle.claim_table.proofs.FreePieces.{conflict_blocks}
 use Rattle.claim_table.proofs.Indices.{filter_all}
 use Rattle.claim_table.proofs.RegionsKept.{regions_start}
 use Rattle.claim_table.proofs.TableKept.{Rise, claims_of, place_within, rise_put}
+use Rattle.claim_table.proofs.Watched.{watch_deferred, watch_more}
 use Rattle.claim_table.proofs.table.ClaimTable.enter.Goals as goal
 
 pub invariant_of-self : goal.invariant_of-self
@@ -27,6 +30,12 @@ invariant_of-self c =
       omega (arith, some, room, c.self.invariant.3),
       omega (arith, some, c.self.invariant.4),
       c.self.invariant.5,
+      λ calm. subst (λ (k : Kept). IsWatched (claims_of k.claims c.self.inside.deferred.claims c.self.inside.closed
+          c.self.inside.suspended.items (c.self.inside.spare - 1)) c.self.inside.left.items [] c.self.inside.deferred.claims)
+          (sym c.put.ensures)
+          (watch_more c.self.inside.started.claims c.self.inside.deferred.claims c.self.inside.closed c.self.inside.suspended.items
+          c.self.inside.spare c.self.inside.left.items (c.self.invariant.6 calm)
+          (place_by_number c.self.inside.started.claims c.args.number) claim (c.self.inside.spare - 1)),
     )
 
 pub invariant_of-self-in-Some : goal.invariant_of-self-in-Some
@@ -45,6 +54,20 @@ invariant_of-self-in-Some c =
       omega (arith, some, long, c.self.invariant.3),
       omega (arith, some, room, c.self.invariant.4),
       c.self.invariant.5,
+      λ calm.
+          let blocked : is_free c.args.self.now c.args.self.now.deferred claim ≡ false =
+          conflict_blocks c.args.self.now c.args.self.now.deferred claim c.in-Some.by
+          (subst (λ (l : List Claim). IsTrue (conflicts c.args.self.now l claim c.in-Some.by)) (filter_all c.args.self.now.deferred)
+          c.in-Some.ensures.some) in
+          let last : put_by_number c.self.inside.deferred.claims claim ≡ c.self.inside.deferred.claims ++ claim ∷ [] =
+          put_last c.self.inside.deferred.claims claim all in
+          subst (λ (k : Kept). IsWatched (claims_of c.self.inside.started.claims k.claims c.self.inside.closed
+          c.self.inside.suspended.items (c.self.inside.spare - 1)) c.self.inside.left.items [] k.claims) (sym c.put-in-Some.ensures)
+          (subst (λ (l : List Claim). IsWatched (claims_of c.self.inside.started.claims l c.self.inside.closed
+          c.self.inside.suspended.items (c.self.inside.spare - 1)) c.self.inside.left.items [] l) (sym last)
+          (watch_deferred c.self.inside.started.claims c.self.inside.deferred.claims c.self.inside.closed c.self.inside.suspended.items
+          c.self.inside.spare c.self.inside.left.items (c.self.invariant.6 calm) claim (c.self.inside.spare - 1)
+          (subst (λ (v : Claims). is_free v v.deferred claim ≡ false) (sym c.self.view_is) blocked))),
     )
 
 pub returns-in-None-clause-answer : goal.returns-in-None-clause-answer

@@ -1,27 +1,33 @@
-use Rattle.std.proofs.Common.{◌<◌, ◌≤◌, length, take, sym, ◌∙◌, arith}
-use Rattle.std.proofs.lemmas.Bool.{not-true, not-false}
+use Rattle.std.proofs.Common.{◌≤◌, List, [], length, get_or, sym, ap, subst, ◌∙◌, arith}
+use Rattle.std.proofs.lemmas.List.{get_or_default}
+use Rattle.claim_table.specs.declared.claim.Claim.{Claim}
+use Rattle.claim_table.specs.Claims.{Claims}
+use Rattle.claim_table.specs.Conflict.{clash}
 use Rattle.claim_table.specs.Steps.{no_claim}
-use Rattle.claim_table.proofs.FreePieces.{ready_end, ready_here, ready_step}
+use Rattle.claim_table.specs.Watched.{IsWatched}
+use Rattle.claim_table.proofs.Watched.{first_found, here_still, left_step}
 use Rattle.claim_table.proofs.table.ClaimTable.first_ready.Goals as goal
 
-pub loop-at-preserved : goal.loop-at-preserved
-loop-at-preserved c =
-    let lt : c.loop-at.at < length c.args.self.now.deferred = omega arith in
-    let passed =
-    ready_step c.args.self.now c.args.self.now.deferred c.loop-at.at no_claim lt
-    (not-true _ (sym c.is_blocked.ensures ∙ c.if-is_blocked.true)) in
-    (omega (arith, passed, c.loop-at.invariant), omega arith)
+pub loop-claim-preserved : goal.loop-claim-preserved
+loop-claim-preserved c = record {
+  within = omega (arith, c.loop-claim.invariant.within, c.first_beside-first.ensures.within);
+  looked =
+      left_step c.args.self.now c.deref-claim-items.result.now c.args.self.now.deferred c.loop-claim.claim-index c.loop-claim.first
+      c.first_beside-first.result (get_or c.deref-claim-items.result.now c.loop-claim.claim-index no_claim) c.loop-claim-test.true
+      (get_or_default c.deref-claim-items.result.now c.loop-claim.claim-index no_claim
+      (get_or c.deref-claim-items.result.now c.loop-claim.claim-index no_claim) c.loop-claim-test.true)
+      c.first_beside-first.ensures.within c.first_beside-first.ensures.before c.loop-claim.invariant.looked;
+  here =
+      here_still c.args.self.now c.loop-claim.first c.first_beside-first.result c.first_beside-first.ensures.here c.loop-claim.invariant.here
+      c.loop-claim.invariant.within;
+}
 
-pub returns-else-is_blocked : goal.returns-else-is_blocked
-returns-else-is_blocked c =
-    let lt : c.loop-at.at < length c.args.self.now.deferred = omega arith in
-    let here =
-    ready_here c.args.self.now c.args.self.now.deferred c.loop-at.at no_claim lt
-    (not-false _ (sym c.is_blocked.ensures ∙ c.if-is_blocked.false)) in
-    record { place = omega (arith, here, c.loop-at.invariant); within = c.loop-at.invariant.1 }
-
-pub returns-after-loop-at : goal.returns-after-loop-at
-returns-after-loop-at c =
-    let past : length c.args.self.now.deferred ≤ c.loop-at.at = omega arith in
-    let none = ready_end c.args.self.now (take c.loop-at.at c.args.self.now.deferred) c.args.self.now.deferred c.loop-at.at past in
-    record { place = omega (arith, none, c.loop-at.invariant); within = c.loop-at.invariant.1 }
+pub returns-clause-place : goal.returns-clause-place
+returns-clause-place c =
+    let end : length c.self.inside.left.items ≤ c.loop-claim.claim-index =
+    (let same = ap (λ (l : List Claim). length l) c.deref-claim-items.ensures.value in omega (arith, same, c.loop-claim-test.false)) in
+    sym (first_found c.args.self.now c.self.inside.left.items c.loop-claim.first c.loop-claim.invariant.within
+    (subst (λ (v : Claims). IsWatched v c.self.inside.left.items [] v.deferred) c.self.view_is (c.self.invariant.6 c.if-self.false))
+    (λ j k y d lt below clashes. c.loop-claim.invariant.looked j k y d (omega (arith, end, lt)) below
+    (ap (λ (l : List Claim). clash (get_or l j y) (get_or c.args.self.now.deferred k d)) c.deref-claim-items.ensures.value ∙ clashes))
+    c.loop-claim.invariant.here)

@@ -1,4 +1,4 @@
-use Rattle.std.proofs.Common.{◌≡◌, ◌<◌, ◌||◌, true, length, sym, ap, subst, ◌∙◌, arith}
+use Rattle.std.proofs.Common.{◌≡◌, ◌<◌, ◌||◌, true, List, [], ◌∷◌, ◌++◌, get_or, length, sym, ap, subst, ◌∙◌, arith}
 use Rattle.std.specs.List.{list_any}
 use Rattle.std.proofs.lemmas.List.{get_or_default}
 use Rattle.std.proofs.lemmas.List.Edits.{length-remove}
@@ -8,9 +8,11 @@ use Rattle.claim_table.specs.Claims.{Claims}
 use Rattle.claim_table.specs.Places.{Kept}
 use Rattle.claim_table.specs.Regions.{AreRegionsOf}
 use Rattle.claim_table.specs.Steps.{after_leave, has_number, no_claim}
+use Rattle.claim_table.specs.Watched.{IsWatched}
 use Rattle.claim_table.proofs.ByNumber.{found_any, is_deferred, leave_deferred, leave_started}
 use Rattle.claim_table.proofs.RegionsKept.{has_region_of, regions_leave}
 use Rattle.claim_table.proofs.TableKept.{Rise, claims_of}
+use Rattle.claim_table.proofs.Watched.{watch_gone, watch_left}
 use Rattle.claim_table.proofs.table.ClaimTable.leave.Goals as goal
 
 pub forget_region-requires-clause-there : goal.forget_region-requires-clause-there
@@ -33,6 +35,15 @@ invariant_of-self c =
       omega (arith, room, c.self.invariant.3),
       c.self.invariant.4,
       c.self.invariant.5,
+      λ calm.
+          let note = c.note_left.ensures calm in
+          subst (λ (l : List Claim). IsWatched (claims_of c.take-claim.new.self.claims c.self.inside.deferred.claims c.self.inside.closed
+          c.self.inside.suspended.items c.self.inside.spare) l [] c.self.inside.deferred.claims) (sym note.1)
+          (subst (λ (k : Kept). IsWatched (claims_of k.claims c.self.inside.deferred.claims c.self.inside.closed
+          c.self.inside.suspended.items c.self.inside.spare) (c.self.inside.left.items ++ c.take-claim.result ∷ [])
+          [] c.self.inside.deferred.claims) (sym c.take-claim.ensures.after)
+          (watch_left c.self.inside.started.claims c.self.inside.deferred.claims c.self.inside.closed c.self.inside.suspended.items
+          c.self.inside.spare c.self.inside.left.items (c.self.invariant.6 note.0) c.in-Some.at c.take-claim.result (sym here))),
     )
 
 pub place_of-at-requires : goal.place_of-at-requires
@@ -44,17 +55,31 @@ place_of-at-requires c =
 
 pub invariant_of-self-in-None : goal.invariant_of-self-in-None
 invariant_of-self-in-None c =
-    let room = ap (λ (k : Kept). k.room) c.take.ensures.after in
-    let long = ap (λ (k : Kept). length k.claims) c.take.ensures.after in
+    let room = ap (λ (k : Kept). k.room) c.take-claim-in-None.ensures.after in
+    let long = ap (λ (k : Kept). length k.claims) c.take-claim-in-None.ensures.after in
     let less = length-remove c.self.inside.deferred.claims c.place_of-at.result c.place_of-at.ensures.within in (
       c.self.invariant.0,
-      subst (λ (k : Kept). Rise k.claims) (sym c.take.ensures.after)
+      subst (λ (k : Kept). Rise k.claims) (sym c.take-claim-in-None.ensures.after)
           (all_pairs_remove (λ (a b : Claim). a.number < b.number) c.self.inside.deferred.claims c.place_of-at.result
           c.place_of-at.ensures.within c.self.invariant.1),
       c.self.invariant.2,
       omega (arith, long, less, c.self.invariant.3),
       omega (arith, room, c.self.invariant.4),
       c.self.invariant.5,
+      λ calm.
+          let note = c.note_left-in-None.ensures calm in
+          let x : Claim = c.take-claim-in-None.result in
+          let here : x ≡ get_or c.self.inside.deferred.claims c.place_of-at.result x =
+          c.take-claim-in-None.ensures.claim
+          ∙ get_or_default c.self.inside.deferred.claims c.place_of-at.result no_claim x c.place_of-at.ensures.within in
+          subst (λ (l : List Claim). IsWatched (claims_of c.self.inside.started.claims c.take-claim-in-None.new.self.claims
+          c.self.inside.closed c.self.inside.suspended.items c.self.inside.spare) l [] c.take-claim-in-None.new.self.claims) (sym note.1)
+          (subst (λ (k : Kept). IsWatched (claims_of c.self.inside.started.claims k.claims c.self.inside.closed
+          c.self.inside.suspended.items c.self.inside.spare) (c.self.inside.left.items ++ x ∷ []) [] k.claims)
+          (sym c.take-claim-in-None.ensures.after)
+          (watch_gone c.self.inside.started.claims c.self.inside.deferred.claims c.self.inside.closed c.self.inside.suspended.items
+          c.self.inside.spare c.self.inside.left.items (c.self.invariant.6 note.0) c.place_of-at.result x c.place_of-at.ensures.within
+          (sym here))),
     )
 
 pub returns-in-Some : goal.returns-in-Some
@@ -68,7 +93,7 @@ returns-in-Some c =
 pub returns-in-None : goal.returns-in-None
 returns-in-None c =
     ap (λ (k : Kept). claims_of c.self.inside.started.claims k.claims c.self.inside.closed c.self.inside.suspended.items
-    c.self.inside.spare) c.take.ensures.after
+    c.self.inside.spare) c.take-claim-in-None.ensures.after
     ∙ leave_deferred (claims_of c.self.inside.started.claims c.self.inside.deferred.claims c.self.inside.closed
     c.self.inside.suspended.items c.self.inside.spare) c.args.number c.place_of-at.result (sym c.in-None.ensures)
     c.place_of-at.ensures.place

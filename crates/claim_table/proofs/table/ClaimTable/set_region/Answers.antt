@@ -1,4 +1,4 @@
-use Rattle.std.proofs.Common.{length, sym, ap, subst, ◌∙◌, arith}
+use Rattle.std.proofs.Common.{length, sym, ap, subst, ◌∙◌, arith, true≢false}
 use Rattle.std.proofs.lemmas.List.{length-set}
 use Rattle.claim_table.specs.Places.{Kept}
 use Rattle.claim_table.specs.Steps.{no_claim}
@@ -18,4 +18,5 @@ invariant_of-self c =
       omega (arith, long, c.self.invariant.3),
       omega (arith, room, c.self.invariant.4),
       c.self.invariant.5,
+      λ calm. absurd (true≢false calm),
     )
