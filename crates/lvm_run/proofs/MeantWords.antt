@@ -410,12 +410,14 @@ request_meant name.Vgcreate split here pass =
     one_meant _ (vgcreate_meant (value_in split.given) split.arguments fits both.1)
 request_meant name.Vgextend split here pass = one_meant _ (vgextend_meant split.arguments)
 request_meant name.Vgreduce split here pass = one_meant _ (vgreduce_meant split.arguments)
-request_meant name.Vgremove split here pass = one_meant _ (mapped IsMeant Vgremove (λ vg id drawn built changing. tt) (one_word split.arguments))
+request_meant name.Vgremove split here pass =
+    one_meant _ (mapped IsMeant Vgremove (λ vg id drawn built changing. tt) (one_word split.arguments))
 request_meant name.Vgrename split here pass =
     one_meant _ (vgrename_meant split.arguments
     (and_parts (list_all (given_passes (options_of name.Vgrename)) split.given) (arguments_pass name.Vgrename 0 split.arguments)
     pass).1)
-request_meant name.Vgcfgbackup split here pass = one_meant _ (mapped IsMeant Vgcfgbackup (λ vg. reads_meant (Vgcfgbackup vg) refl) (one_word split.arguments))
+request_meant name.Vgcfgbackup split here pass =
+    one_meant _ (mapped IsMeant Vgcfgbackup (λ vg. reads_meant (Vgcfgbackup vg) refl) (one_word split.arguments))
 request_meant name.Vgcfgrestore split here pass =
     one_meant _ (mapped IsMeant (λ vg. Vgcfgrestore vg []) (λ vg id drawn built changing. tt) (one_word split.arguments))
 request_meant name.Vgck split here pass = one_meant _ (alone_meant Vgck (reads_meant Vgck refl) split.arguments)
@@ -450,7 +452,8 @@ request_meant name.Lvreduce split here pass =
     let extents = extents_fit (value_in split.given key.Extents) (value_fits (options_of name.Lvreduce) split.given key.Extents all) in
     let sectors = sectors_fit (value_in split.given key.Size) (value_fits (options_of name.Lvreduce) split.given key.Size all) in
     one_meant _ (lvreduce_meant (value_in split.given) split.arguments (amount_fits _ _ extents sectors))
-request_meant name.Lvremove split here pass = one_meant _ (mapped IsMeant Lvremove (λ path id drawn built changing. tt) (one_path split.arguments))
+request_meant name.Lvremove split here pass =
+    one_meant _ (mapped IsMeant Lvremove (λ path id drawn built changing. tt) (one_path split.arguments))
 request_meant name.Lvrename split here pass =
     one_meant _ (lvrename_meant split.arguments
     (and_parts (list_all (given_passes (options_of name.Lvrename)) split.given) (arguments_pass name.Lvrename 0 split.arguments)

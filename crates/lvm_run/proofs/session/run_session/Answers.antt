@@ -1,6 +1,7 @@
 use Rattle.std.proofs.Common.{◌∙◌, ℕ, length, refl, sym, ap, subst, arith}
 use Rattle.lvm_run.specs.Disks.{AreDisks}
 use Rattle.lvm_run.specs.Sessions.{NoLines, Ran, Unbegun, Unbuilt, Unready}
+use Rattle.lvm_run.specs.Sourced.{source}
 use Rattle.lvm_run.specs.declared.ending.Ending.TheVariants.{NoMemory, WordsRefused}
 use Rattle.lvm_run.proofs.SessionCauses.{ended}
 use Rattle.lvm_run.proofs.session.run_session.Goals as goal
@@ -8,7 +9,8 @@ use Rattle.lvm_run.proofs.session.run_session.Goals as goal
 pub returns-then-not-is_built_session : goal.returns-then-not-is_built_session
 returns-then-not-is_built_session g c =
     let e = c.end_before.ensures in
-    ended c.end_before.result.entered WordsRefused c.args.shelf
+    let from = source (g.R.Source.left c.args.script.now) (g.R.Source.fault_count c.args.script.now) in
+    ended {from = from} {to = from} c.end_before.result.entered WordsRefused c.args.shelf
     (Unbuilt (record {
       unbuilt = sym c.is_built_session.ensures ∙ c.if-not-is_built_session.true;
       refused = refl;
@@ -20,7 +22,9 @@ returns-then-not-is_built_session g c =
 pub returns-in-Err : goal.returns-in-Err
 returns-in-Err g c =
     let e = c.end_before-in-Err.ensures in
-    ended c.end_before-in-Err.result.entered c.in-Err.ending c.args.shelf
+    let from = source (g.R.Source.left c.args.script.now) (g.R.Source.fault_count c.args.script.now) in
+    let to = source (g.R.Source.left c.read_lines.new.script) (g.R.Source.fault_count c.read_lines.new.script) in
+    ended {from = from} {to = to} c.end_before-in-Err.result.entered c.in-Err.ending c.args.shelf
     (NoLines (sym c.is_built_session.ensures ∙ c.if-not-is_built_session.false) c.in-Err.ensures refl) e.shelf e.nothing e.ends
 
 pub open_whole-requires-clause-disks : goal.open_whole-requires-clause-disks
@@ -36,7 +40,9 @@ open_whole-requires-clause-few g c = omega (arith, c.requires.disks.many, c.requ
 pub returns-in-Err-open_whole : goal.returns-in-Err-open_whole
 returns-in-Err-open_whole g c =
     let e = c.end_before-in-Err-open_whole.ensures in
-    ended c.end_before-in-Err-open_whole.result.entered c.in-Err-open_whole.ending c.open_whole.new.shelf
+    let from = source (g.R.Source.left c.args.script.now) (g.R.Source.fault_count c.args.script.now) in
+    let to = source (g.R.Source.left c.read_lines.new.script) (g.R.Source.fault_count c.read_lines.new.script) in
+    ended {from = from} {to = to} c.end_before-in-Err-open_whole.result.entered c.in-Err-open_whole.ending c.open_whole.new.shelf
     (Unready (sym c.is_built_session.ensures ∙ c.if-not-is_built_session.false) c.in-Ok.lines.items c.in-Ok.ensures
     c.in-Err-open_whole.ensures.ready) e.shelf e.nothing e.ends
 
@@ -71,7 +77,9 @@ returns-in-Ok-run_lines g c =
 pub returns-in-Err-run_lines : goal.returns-in-Err-run_lines
 returns-in-Err-run_lines g c =
     let e = c.end_before-in-Err-run_lines.ensures in
-    ended c.end_before-in-Err-run_lines.result.entered NoMemory c.open_whole.new.shelf
+    let from = source (g.R.Source.left c.args.script.now) (g.R.Source.fault_count c.args.script.now) in
+    let to = source (g.R.Source.left c.read_lines.new.script) (g.R.Source.fault_count c.read_lines.new.script) in
+    ended {from = from} {to = to} c.end_before-in-Err-run_lines.result.entered NoMemory c.open_whole.new.shelf
     (Unbegun (sym c.is_built_session.ensures ∙ c.if-not-is_built_session.false) c.in-Ok.lines.items c.in-Ok.ensures
     (record { wanting = refl; repaired = c.in-Ok-open_whole.whole; ready = c.in-Ok-open_whole.ensures.ready }))
     (e.shelf ∙ c.in-Err-run_lines.ensures) e.nothing e.ends
