@@ -4,12 +4,12 @@ use Rattle.std.proofs.Common.{unwrap_or}
 use Rattle.std.specs.Result.{result_err}
 use Rattle.std.specs.Option.{option_map_or}
 use Rattle.command_table.specs.declared.command.Command.{Command}
-use Rattle.command_table.specs.declared.line_fault.LineFault.TheVariants.{UnknownWord}
+use Rattle.command_table.specs.declared.line_fault.LineFault.{LineFault}
 use Rattle.lvm_script.specs.declared.line.Line.{Line}
 use Rattle.lvm_script.specs.declared.script_refusal.ScriptRefusal.{ScriptRefusal}
 use Rattle.lvm_script.specs.declared.script_refusal.ScriptRefusal.TheVariants.{LineRefused, NoMemory}
 use Rattle.lvm_script.specs.Script.{AreLines, IsScriptRefusal, commands_from, lines_in}
-use Rattle.session_run.specs.SessionScript.{first_unrun, refused_at, session_commands}
+use Rattle.session_run.specs.SessionScript.{first_unrun, refused_at, session_commands, unrun_fault}
 
 -- the commands of a script, by its first line that begins with a name which doesn't run
 commands_by : (text : List ℕ) (unrun : Option (ℕ × ℕ)) → first_unrun 1 (lines_in text) ≡ unrun
@@ -35,11 +35,13 @@ pub refused_first : (text front : List ℕ) (number place : ℕ) → first_unrun
     → (wrong : Option ScriptRefusal)
     → MatchOption wrong ((commands : List (ℕ × Command)) × (commands_from (lines_in front) 1 0 ≡ Ok commands))
     (IsScriptRefusal (commands_from (lines_in front) 1 0))
-    → IsScriptRefusal (session_commands text) (unwrap_or wrong (LineRefused number UnknownWord place))
-refused_first text front number place first before None (commands, is) =
+    → (fault : LineFault × ℕ) → fault ≡ unrun_fault (number, place)
+    → IsScriptRefusal (session_commands text) (unwrap_or wrong (LineRefused number fault.0 fault.1))
+refused_first text front number place first before None (commands, is) fault of_it =
     commands_before text front number place first before ∙ ap (refused_at (number, place)) is
-refused_first text front number place first before (Some NoMemory) is = tt
-refused_first text front number place first before (Some (LineRefused line fault at)) is =
+    ∙ ap (λ (f : LineFault × ℕ). Err (number, f.0, f.1)) (sym of_it)
+refused_first text front number place first before (Some NoMemory) is fault of_it = tt
+refused_first text front number place first before (Some (LineRefused line other at)) is fault of_it =
     commands_before text front number place first before ∙ ap (refused_at (number, place)) is
 
 -- the refusal, if there is one

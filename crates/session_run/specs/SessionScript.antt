@@ -1,13 +1,14 @@
 -- The script of a session: until commands run beside reads and writes, a line that asks for one is refused.
 use Rattle.std.specs.Prelude.{ℕ, ◌+◌, ◌-◌, Bool, true, false, not, ◌&&◌, if◌then◌else◌, List, [], ◌∷◌, take, Option, None, Some, option_map}
-use Rattle.std.specs.Prelude.{Ok, Err}
+use Rattle.std.specs.Prelude.{Ok, Err, nat_lt}
 use Rattle.std.specs.Option.{option_map_or, option_or}
-use Rattle.command_table.specs.declared.line_fault.LineFault.TheVariants.{UnknownWord}
+use Rattle.command_table.specs.declared.line_fault.LineFault.{LineFault}
+use Rattle.command_table.specs.declared.line_fault.LineFault.TheVariants.{SessionFull, UnknownWord}
 use Rattle.command_table.specs.declared.table.CommandName.{CommandName}
 use Rattle.command_table.specs.declared.table.CommandName.TheVariants as name
 use Rattle.command_table.specs.Options.{Word}
 use Rattle.command_table.specs.Table.{command_named, is_for_scripts}
-use Rattle.lvm_script.specs.Script.{Commands, commands_from, is_comment, lines_in, words_in}
+use Rattle.lvm_script.specs.Script.{Commands, commands_from, is_comment, lines_in, most_lines, words_in}
 
 -- whether lines of this name run in a session
 abbrev pub runs_named : CommandName → Bool
@@ -36,10 +37,14 @@ abbrev pub first_unrun : ℕ → List (List ℕ) → Option (ℕ × ℕ)
 first_unrun number [] = None
 first_unrun number (line ∷ lines) = option_or (option_map (λ place. (number, place)) (unrun_line line)) (first_unrun (number + 1) lines)
 
+-- what is wrong with such a line, and where: where it is one too many, that
+abbrev pub unrun_fault : ℕ × ℕ → LineFault × ℕ
+unrun_fault unrun = if nat_lt most_lines unrun.0 then (SessionFull, 0) else (UnknownWord, unrun.1)
+
 -- the refusal of such a line, unless a line before it is refused
 abbrev pub refused_at : ℕ × ℕ → Commands → Commands
 refused_at unrun (Err refusal) = Err refusal
-refused_at unrun (Ok commands) = Err (unrun.0, UnknownWord, unrun.1)
+refused_at unrun (Ok commands) = Err (unrun.0, (unrun_fault unrun).0, (unrun_fault unrun).1)
 
 -- the commands of a script, or the first line that is refused
 abbrev pub session_commands : List ℕ → Commands

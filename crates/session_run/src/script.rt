@@ -4,7 +4,7 @@ ghost use Rattle.std.specs.List.{after_first, before_first, position_or_len};
 ghost use Rattle.command_table.specs.declared.command.Command.{Command as CommandRecord};
 ghost use Rattle.data_lines.specs.DataLines.{runs_beside};
 ghost use Rattle.lvm_script.specs.Script.{AreLines, IsScriptRefusal, commands_from, lines_in, words_in};
-ghost use Rattle.session_run.specs.SessionScript.{first_unrun, is_unrun, runs_named, session_commands, unrun_in, unrun_line};
+ghost use Rattle.session_run.specs.SessionScript.{first_unrun, is_unrun, runs_named, session_commands, unrun_fault, unrun_in, unrun_line};
 
 use command_table::{CommandName, LineFault};
 use io_core::DataLine;
@@ -18,8 +18,8 @@ use std::collections::VecDeque;
 ///
 /// # Errors
 ///
-/// As `script_of`, and `UnknownWord` at the first word of a line that asks for a command which doesn't run in a session yet: of the
-/// first line with a fault. `NoMemory` where memory is wanting. After each of them no number of `ids` was drawn.
+/// As `script_of`, and `UnknownWord` at the first word of one of the first 65,536 lines that asks for a command which doesn't run in a
+/// session yet: of the first line with a fault. `NoMemory` where memory is wanting. After each of them no number of `ids` was drawn.
 pub fn session_script<N: Words64>(
     alloc: Global,
     text: &Text,
@@ -44,6 +44,9 @@ struct Unrun {
     place: u64,
     before: usize,
 }
+
+// The most lines of a script.
+const MOST_LINES: u64 = 65536;
 
 // The lines of a text of which none begins with such a name.
 fn lines_that_run<N: Words64>(
@@ -93,12 +96,24 @@ fn refusal_at(alloc: Global, text: &[u8], unrun: Unrun) -> ScriptRefusal
     requires before { lines_in (take unrun.before text.now) ≡ take (unrun.number - 1) (lines_in text.now) }
     ensures { IsScriptRefusal (session_commands text.now) result }
 {
-    let fault = ScriptRefusal::LineRefused {
+    let (fault, place) = fault_of(unrun);
+    let refusal = ScriptRefusal::LineRefused {
         number: unrun.number,
-        fault: LineFault::UnknownWord,
-        place: unrun.place,
+        fault,
+        place,
     };
-    refusal_of(alloc, &text[..unrun.before]).unwrap_or(fault)
+    refusal_of(alloc, &text[..unrun.before]).unwrap_or(refusal)
+}
+
+// What is wrong with such a line, and where: where it is one too many, that.
+fn fault_of(unrun: Unrun) -> (LineFault, u64)
+    ensures { result ≡ unrun_fault (unrun.number, unrun.place) }
+{
+    if unrun.number > MOST_LINES {
+        (LineFault::SessionFull, 0)
+    } else {
+        (LineFault::UnknownWord, unrun.place)
+    }
 }
 
 // The refusal of a script, if it is refused.

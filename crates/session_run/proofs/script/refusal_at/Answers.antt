@@ -10,4 +10,5 @@ returns c =
     let text = c.args.text.now in
     let u = c.args.unrun in
     subst (λ (r : ScriptRefusal). IsScriptRefusal (session_commands text) r) (sym c.unwrap_or.ensures)
-    (refused_first text (take u.before text) u.number u.place c.requires.first c.requires.before _ c.refusal_of.ensures)
+    (refused_first text (take u.before text) u.number u.place c.requires.first c.requires.before _ c.refusal_of.ensures
+    c.fault_of-fault.result c.fault_of-fault.ensures)
