@@ -252,34 +252,3 @@ fn cut(bytes: &[u8], wanted: u8) -> (&[u8], &[u8])
         (bytes, &[])
     }
 }
-
-#[cfg(test)]
-mod tests {
-    use super::session_script;
-    use command_table::LineFault;
-    use lvm_id::MixWords;
-    use lvm_script::ScriptRefusal;
-    use sector_base::Text;
-    use std::test::Fail;
-
-    #[test]
-    fn the_first_fault_is_told(rt: HostRuntime) -> Result<(), Fail> {
-        let text = Text::from_vec(b"list\n lvcreate x\nread\n".to_vec(rt.alloc())?);
-        let refusal = session_script(rt.alloc(), &text, &mut MixWords { state: 1 }).err();
-        let told = ScriptRefusal::LineRefused {
-            number: 2,
-            fault: LineFault::UnknownWord,
-            place: 1,
-        };
-        assert!(rt; refusal == Some(told));
-        Ok(())
-    }
-
-    #[test]
-    fn lines_that_run_are_read(rt: HostRuntime) -> Result<(), Fail> {
-        let text = Text::from_vec(b"list\nread vg0/data 0 1\n# lvs\nwait\n".to_vec(rt.alloc())?);
-        let lines = session_script(rt.alloc(), &text, &mut MixWords { state: 1 })?;
-        assert_eq!(rt; lines.len(), 3);
-        Ok(())
-    }
-}
