@@ -1,8 +1,10 @@
 //! Regions in their order, of which a search learns by steps alone.
 ghost use Rattle.std.specs.Prelude.{◌≡◌, ◌<◌, ◌+◌, length, slice_index_or};
 ghost use Rattle.std.specs.Ordering.{nat_cmp};
+ghost use Rattle.std.specs.VecDeque.{deque_len};
 
 use std::cmp::Ordering;
+use std::collections::VecDeque;
 use std::marker::Model;
 use std::sync::ledger::Ledger;
 use step_count::Steps;
@@ -10,21 +12,25 @@ use step_count::Steps;
 /// Some regions. Contracts see the list of them.
 #[derive(Drop)]
 pub(crate) struct KeptRegions<'a> {
-    regions: &'a [u64],
+    regions: &'a VecDeque<u64>,
 }
 
 impl<'a> Model for KeptRegions<'a> {
-    ghost use Rattle.std.specs.Prelude.{ℕ, List};
+    ghost use Rattle.std.specs.Prelude.{◌≡◌, ℕ, List, length};
+    ghost use Rattle.std.specs.VecDeque.{deque_len};
 
     ghost Value = { List ℕ };
 
-    ghost view = { λ kept. kept.regions.now };
+    ghost view = { λ kept. kept.regions.now.items };
+
+    ghost invariant = { λ kept. deque_len kept.regions.now ≡ length kept.regions.now.items };
 }
 
 impl<'a> KeptRegions<'a> {
     /// These.
-    pub(crate) fn of(regions: &'a [u64]) -> Self
-        ensures { result ≡ regions.now }
+    pub(crate) fn of(regions: &'a VecDeque<u64>) -> Self
+        requires { deque_len regions.now ≡ length regions.now.items }
+        ensures { result ≡ regions.now.items }
     {
         KeptRegions { regions }
     }

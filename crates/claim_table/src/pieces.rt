@@ -9,28 +9,30 @@ use crate::Claim;
 use crate::numbers::{find_number, first_from};
 use crate::placed::{Placed, claim_place};
 use crate::places::{first_met, is_of_volume};
-use crate::sorted::{put_in, take_out};
+use crate::sorted::{put_in, take_at, take_out};
 use std::alloc::{AllocError, Global};
+use std::collections::VecDeque;
 use std::marker::Model;
 
 // Pieces in the order of their numbers, their places in order, and what none is longer than. There is room for so many more.
 #[derive(Drop)]
 pub(crate) struct Pieces {
-    claims: Vec<Claim>,
-    places: Vec<Placed>,
+    claims: VecDeque<Claim>,
+    places: VecDeque<Placed>,
     longest: u32,
     room: u64,
 }
 
 impl Model for Pieces {
-    ghost use Rattle.std.specs.Prelude.{◌≤◌, ◌+◌, vec_capacity, vec_len};
+    ghost use Rattle.std.specs.Prelude.{◌≡◌, ◌≤◌, ◌+◌, length};
+    ghost use Rattle.std.specs.VecDeque.{deque_capacity, deque_len};
     ghost use Rattle.claim_table.specs.Places.{IsIndexed, Kept};
 
     ghost Value = { Kept };
 
     ghost view = { λ p. record { claims = p.claims.items; room = p.room } };
 
-    ghost invariant = { λ p. IsIndexed p.claims.items p.places.items p.longest × (vec_len p.claims + p.room ≤ vec_capacity p.claims) × (vec_len p.places + p.room ≤ vec_capacity p.places) };
+    ghost invariant = { λ p. IsIndexed p.claims.items p.places.items p.longest × (deque_len p.claims + p.room ≤ deque_capacity p.claims) × (deque_len p.places + p.room ≤ deque_capacity p.places) × (deque_len p.claims ≡ length p.claims.items) × (deque_len p.places ≡ length p.places.items) };
 }
 
 impl Pieces {
@@ -39,8 +41,8 @@ impl Pieces {
         ensures { result ≡ record { claims = []; room = 0 } }
     {
         Pieces {
-            claims: Vec::new(alloc),
-            places: Vec::new(alloc),
+            claims: VecDeque::new(alloc),
+            places: VecDeque::new(alloc),
             longest: 0,
             room: 0,
         }
@@ -79,7 +81,7 @@ impl Pieces {
         ensures claim { result ≡ slice_index_or self.old.claims at no_claim }
         ensures after { self.new ≡ record self.old { claims = remove self.old.claims at } }
     {
-        let claim = self.claims.remove(at);
+        let claim = take_at(&mut self.claims, at);
         take_out(&mut self.places, &claim_place(&claim));
         claim
     }

@@ -2,6 +2,7 @@
 ghost use Rattle.std.specs.Prelude.{◌≡◌, ◌<◌, ◌≤◌, ◌&&◌, ◌==◌, ℕ, false, All, IfNone, IfSome, IsFalse, IsTrue, length, nat_lt, slice_index_or, true};
 ghost use Rattle.std.specs.List.{list_any};
 ghost use Rattle.std.specs.List.Sorted.{IsPartitionPoint};
+ghost use Rattle.std.specs.VecDeque.{deque_len};
 ghost use Rattle.claim_table.specs.Extents.{overlaps};
 ghost use Rattle.claim_table.specs.Places.{is_below, is_met, is_past, meets, piece_of, placed, placed_cmp};
 ghost use Rattle.claim_table.specs.Sorted.{IsAscending};
@@ -9,6 +10,7 @@ ghost use Rattle.claim_table.specs.Sorted.{IsAscending};
 use crate::placed::Placed;
 use crate::sorted::place_for;
 use sector_base::Piece;
+use std::collections::VecDeque;
 
 // Whether they are of one volume and share a sector.
 pub(crate) fn overlap(place: &Placed, piece: &Piece) -> bool
@@ -52,11 +54,12 @@ fn is_past(place: &Placed, piece: &Piece) -> bool
 }
 
 // Where the places begin that may reach into the piece, where none is longer than this.
-fn window_start(places: &[Placed], longest: u32, piece: &Piece) -> usize
-    requires ascending { IsAscending placed_cmp places.now }
-    requires short { All (λ e. e.count ≤ longest) places.now }
-    ensures within { result ≤ length places.now }
-    ensures before { (k : ℕ) (d : Placed) → k < result → meets piece.now (slice_index_or places.now k d) ≡ false }
+fn window_start(places: &VecDeque<Placed>, longest: u32, piece: &Piece) -> usize
+    requires ascending { IsAscending placed_cmp places.now.items }
+    requires counted { deque_len places.now ≡ length places.now.items }
+    requires short { All (λ e. e.count ≤ longest) places.now.items }
+    ensures within { result ≤ length places.now.items }
+    ensures before { (k : ℕ) (d : Placed) → k < result → meets piece.now (slice_index_or places.now.items k d) ≡ false }
 {
     let start = Placed {
         volume: piece.volume,
@@ -70,15 +73,16 @@ fn window_start(places: &[Placed], longest: u32, piece: &Piece) -> usize
 
 // The number of one of those below the limit that the piece meets.
 pub(crate) fn first_met(
-    places: &[Placed],
+    places: &VecDeque<Placed>,
     longest: u32,
     piece: &Piece,
     limit: Option<u64>,
 ) -> Option<u64>
-    requires ascending { IsAscending placed_cmp places.now }
-    requires short { All (λ e. e.count ≤ longest) places.now }
-    ensures some { IfSome result (λ number. IsTrue (list_any (λ e. is_below limit e.number && ((e.number == number) && meets piece.now e)) places.now)) }
-    ensures none { IfNone result (IsFalse (list_any (is_met piece.now limit) places.now)) }
+    requires ascending { IsAscending placed_cmp places.now.items }
+    requires counted { deque_len places.now ≡ length places.now.items }
+    requires short { All (λ e. e.count ≤ longest) places.now.items }
+    ensures some { IfSome result (λ number. IsTrue (list_any (λ e. is_below limit e.number && ((e.number == number) && meets piece.now e)) places.now.items)) }
+    ensures none { IfNone result (IsFalse (list_any (is_met piece.now limit) places.now.items)) }
 {
     let mut at = window_start(places, longest, piece);
     while at < places.len() && !is_past(&places[at], piece) {
@@ -91,10 +95,11 @@ pub(crate) fn first_met(
 }
 
 // How many places are of volumes below this one.
-fn first_of_volume(places: &[Placed], volume: u32) -> usize
-    requires { IsAscending placed_cmp places.now }
-    ensures parts { IsPartitionPoint (λ e. nat_lt e.volume volume ≡ true) (λ e. nat_lt e.volume volume ≡ false) places.now result }
-    ensures within { result ≤ length places.now }
+fn first_of_volume(places: &VecDeque<Placed>, volume: u32) -> usize
+    requires ascending { IsAscending placed_cmp places.now.items }
+    requires counted { deque_len places.now ≡ length places.now.items }
+    ensures parts { IsPartitionPoint (λ e. nat_lt e.volume volume ≡ true) (λ e. nat_lt e.volume volume ≡ false) places.now.items result }
+    ensures within { result ≤ length places.now.items }
 {
     places.partition_point(
         |place: &Placed| -> bool
@@ -104,9 +109,10 @@ fn first_of_volume(places: &[Placed], volume: u32) -> usize
 }
 
 // Whether one of the places is of the volume.
-pub(crate) fn is_of_volume(places: &[Placed], volume: u32) -> bool
-    requires ascending { IsAscending placed_cmp places.now }
-    ensures { result ≡ list_any (λ e. e.volume == volume) places.now }
+pub(crate) fn is_of_volume(places: &VecDeque<Placed>, volume: u32) -> bool
+    requires ascending { IsAscending placed_cmp places.now.items }
+    requires counted { deque_len places.now ≡ length places.now.items }
+    ensures { result ≡ list_any (λ e. e.volume == volume) places.now.items }
 {
     let at = first_of_volume(places, volume);
     if at < places.len() {

@@ -16,6 +16,7 @@ use crate::regions::{forget_region, has_region, note_region};
 use crate::{By, Claim, Entry};
 use sector_base::Piece;
 use std::alloc::{AllocError, Global};
+use std::collections::VecDeque;
 use std::marker::{Brand, Model};
 use std::sync::ledger::{Blank, Ledger};
 use step_count::Steps;
@@ -25,7 +26,7 @@ use step_count::Steps;
 #[derive(Drop)]
 pub struct ClaimTable {
     started: Pieces,
-    regions: Vec<u64>,
+    regions: VecDeque<u64>,
     deferred: Pieces,
     closed: Option<u64>,
     suspended: Vec<u32>,
@@ -73,7 +74,8 @@ fn clashes(one: &Claim, other: &Claim) -> bool
 const SUSPENSIONS: usize = 1024;
 
 impl Model for ClaimTable {
-    ghost use Rattle.std.specs.Prelude.{◌≡◌, ◌≤◌, ◌<◌, ◌+◌, [], AllPairs, false, length, vec_capacity, vec_len};
+    ghost use Rattle.std.specs.Prelude.{◌≡◌, ◌≤◌, ◌<◌, ◌+◌, [], AllPairs, false, length, vec_capacity};
+    ghost use Rattle.std.specs.VecDeque.{deque_capacity, deque_len};
     ghost use Rattle.claim_table.specs.Claims.{Claims};
     ghost use Rattle.claim_table.specs.Watched.{IsWatched};
     ghost use Rattle.claim_table.specs.Regions.{AreRegionsOf};
@@ -85,7 +87,7 @@ impl Model for ClaimTable {
     // The regions are those of the started pieces, and the deferred ones have numbers of their own. A deferred piece has room
     // among the started ones, and a spare place is room among both. Unless any deferred piece may start, those that clash with none
     // of the pieces that left conflict with something.
-    ghost invariant = { λ t. AreRegionsOf t.started.claims t.regions.items × AllPairs (λ c d. c.number < d.number) t.deferred.claims × (vec_len t.regions + t.started.room ≤ vec_capacity t.regions) × (length t.deferred.claims + t.spare ≤ t.started.room) × (t.spare ≤ t.deferred.room) × (1024 ≤ vec_capacity t.suspended) × (t.any ≡ false → IsWatched (record { started = t.started.claims; deferred = t.deferred.claims; closed = t.closed; suspended = t.suspended.items; spare = t.spare }) t.left.items [] t.deferred.claims) };
+    ghost invariant = { λ t. AreRegionsOf t.started.claims t.regions.items × AllPairs (λ c d. c.number < d.number) t.deferred.claims × (deque_len t.regions + t.started.room ≤ deque_capacity t.regions) × (length t.deferred.claims + t.spare ≤ t.started.room) × (t.spare ≤ t.deferred.room) × (1024 ≤ vec_capacity t.suspended) × (t.any ≡ false → IsWatched (record { started = t.started.claims; deferred = t.deferred.claims; closed = t.closed; suspended = t.suspended.items; spare = t.spare }) t.left.items [] t.deferred.claims) × (deque_len t.regions ≡ length t.regions.items) };
 }
 
 impl ClaimTable {
@@ -95,7 +97,7 @@ impl ClaimTable {
     {
         Ok(ClaimTable {
             started: Pieces::new(alloc),
-            regions: Vec::new(alloc),
+            regions: VecDeque::new(alloc),
             deferred: Pieces::new(alloc),
             closed: None,
             suspended: Vec::with_capacity(alloc, SUSPENSIONS)?,

@@ -1,4 +1,4 @@
-use Rattle.std.proofs.Common.{rules, nat_lt}
+use Rattle.std.proofs.Common.{rules, nat_lt, arith}
 use Rattle.std.proofs.lemmas.Fn.{always_returns_same}
 use Rattle.std.proofs.lemmas.List.Sorted.{IsPartitionedBy-ltb}
 use Rattle.claim_table.specs.declared.claim.Claim.{Claim}
@@ -9,10 +9,10 @@ pub returns-clause-parts : goal.returns-clause-parts
 returns-clause-parts c =
     c.partition_point.ensures.partitioned (λ (d : Claim). nat_lt d.number c.args.number)
     (always_returns_same _ _ _ (λ a r f k. search rules))
-    (IsPartitionedBy-ltb (λ (d : Claim). d.number) c.args.claims.now c.args.number c.requires)
+    (IsPartitionedBy-ltb (λ (d : Claim). d.number) c.args.claims.now.items c.args.number c.requires.order)
 
 pub returns-clause-place : goal.returns-clause-place
-returns-clause-place c = parted_at c.args.claims.now c.args.number c.partition_point.result c.partition_point.ensures.bound
+returns-clause-place c = parted_at c.args.claims.now.items c.args.number c.partition_point.result (omega (arith, c.requires.counted, c.partition_point.ensures.bound))
     (c.partition_point.ensures.partitioned (λ (d : Claim). nat_lt d.number c.args.number)
     (always_returns_same _ _ _ (λ a r f k. search rules))
-    (IsPartitionedBy-ltb (λ (d : Claim). d.number) c.args.claims.now c.args.number c.requires))
+    (IsPartitionedBy-ltb (λ (d : Claim). d.number) c.args.claims.now.items c.args.number c.requires.order))

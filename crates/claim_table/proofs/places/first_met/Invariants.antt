@@ -4,7 +4,7 @@ use Rattle.claim_table.specs.Places.{is_met}
 use Rattle.claim_table.proofs.places.first_met.Given as goal
 
 abbrev pub invariant-loop-at : goal.invariant-loop-at
-invariant-loop-at l = (k : ℕ) (d : Placed) → k < l.at → is_met l.piece l.limit (get_or l.places k d) ≡ false
+invariant-loop-at l = (k : ℕ) (d : Placed) → k < l.at → is_met l.piece l.limit (get_or l.places.items k d) ≡ false
 
 abbrev pub decreases-loop-at : goal.decreases-loop-at
-decreases-loop-at l = length l.places - l.at
+decreases-loop-at l = length l.places.items - l.at

@@ -7,4 +7,4 @@ use Rattle.claim_table.proofs.places.first_of_volume.Goals as goal
 pub returns-clause-parts : goal.returns-clause-parts
 returns-clause-parts c =
     c.partition_point.ensures.partitioned (λ (e : Placed). nat_lt e.volume c.args.volume)
-    (always_returns_same _ _ _ (λ a r f k. search rules)) (volumes_partitioned c.args.places.now c.args.volume c.requires)
+    (always_returns_same _ _ _ (λ a r f k. search rules)) (volumes_partitioned c.args.places.now.items c.args.volume c.requires.ascending)

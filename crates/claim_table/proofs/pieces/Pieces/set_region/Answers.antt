@@ -1,4 +1,5 @@
-use Rattle.std.proofs.Common.{◌<◌, length, set, sym, subst}
+use Rattle.std.proofs.Common.{◌<◌, length, set, sym, subst, arith}
+use Rattle.std.proofs.lemmas.List.{length-set}
 use Rattle.claim_table.specs.declared.claim.Claim.{Claim}
 use Rattle.claim_table.specs.Places.{IsIndexed, Kept}
 use Rattle.claim_table.proofs.Indexed.{indexed_region}
@@ -14,4 +15,10 @@ invariant_of-self c =
           c.self.inside.places.items c.self.inside.longest) (sym c.index_mut.ensures.value) indexed,
       c.self.invariant.1,
       c.self.invariant.2,
+      omega (
+        arith,
+        length-set c.self.inside.claims.items c.args.at (record c.index_mut.result.now { region = c.args.region }),
+        c.self.invariant.3,
+      ),
+      c.self.invariant.4,
     )

@@ -19,4 +19,5 @@ invariant_of-self c =
           (subst (λ (o : Option ℕ). IsWatched (claims_of c.self.inside.started.claims c.self.inside.deferred.claims o
           c.self.inside.suspended.items c.self.inside.spare) c.self.inside.left.items [] c.self.inside.deferred.claims) none
           (c.self.invariant.6 calm)),
+      c.self.invariant.7,
     )

@@ -36,6 +36,7 @@ invariant_of-self c =
           (watch_more c.self.inside.started.claims c.self.inside.deferred.claims c.self.inside.closed c.self.inside.suspended.items
           c.self.inside.spare c.self.inside.left.items (c.self.invariant.6 calm)
           (place_by_number c.self.inside.started.claims c.args.number) claim (c.self.inside.spare - 1)),
+      c.note_region.ensures.counted,
     )
 
 pub invariant_of-self-in-Some : goal.invariant_of-self-in-Some
@@ -68,6 +69,7 @@ invariant_of-self-in-Some c =
           (watch_deferred c.self.inside.started.claims c.self.inside.deferred.claims c.self.inside.closed c.self.inside.suspended.items
           c.self.inside.spare c.self.inside.left.items (c.self.invariant.6 calm) claim (c.self.inside.spare - 1)
           (subst (λ (v : Claims). is_free v v.deferred claim ≡ false) (sym c.self.view_is) blocked))),
+      c.self.invariant.7,
     )
 
 pub returns-in-None-clause-answer : goal.returns-in-None-clause-answer

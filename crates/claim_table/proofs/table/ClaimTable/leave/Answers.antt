@@ -44,6 +44,7 @@ invariant_of-self c =
           [] c.self.inside.deferred.claims) (sym c.take-claim.ensures.after)
           (watch_left c.self.inside.started.claims c.self.inside.deferred.claims c.self.inside.closed c.self.inside.suspended.items
           c.self.inside.spare c.self.inside.left.items (c.self.invariant.6 note.0) c.in-Some.at c.take-claim.result (sym here))),
+      c.forget_region.ensures.counted,
     )
 
 pub place_of-at-requires : goal.place_of-at-requires
@@ -80,6 +81,7 @@ invariant_of-self-in-None c =
           (watch_gone c.self.inside.started.claims c.self.inside.deferred.claims c.self.inside.closed c.self.inside.suspended.items
           c.self.inside.spare c.self.inside.left.items (c.self.invariant.6 note.0) c.place_of-at.result x c.place_of-at.ensures.within
           (sym here))),
+      c.self.invariant.7,
     )
 
 pub returns-in-Some : goal.returns-in-Some

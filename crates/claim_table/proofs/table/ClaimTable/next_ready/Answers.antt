@@ -30,6 +30,7 @@ invariant_of-self c =
       c.self.invariant.5,
       λ calm. subst (λ (l : List Claim). IsWatched now l [] c.self.inside.deferred.claims) (sym c.clear.ensures.items)
           (none_ready now [] c.self.inside.deferred.claims none),
+      c.self.invariant.7,
     )
 
 pub invariant_of-self-2 : goal.invariant_of-self-2
@@ -64,6 +65,7 @@ invariant_of-self-2 c =
           (watch_started c.self.inside.started.claims c.self.inside.deferred.claims c.self.inside.closed c.self.inside.suspended.items
           c.self.inside.spare c.self.inside.left.items (c.self.invariant.6 calm) c.first_ready-at.result
           (place_by_number c.self.inside.started.claims x.number) x within (sym here))),
+      c.note_region.ensures.counted,
     )
 
 pub returns-clause-number : goal.returns-clause-number

@@ -31,4 +31,5 @@ invariant_of-self-2 c =
           c.self.inside.suspended.items c.max-spare.result) l [] c.self.inside.deferred.claims) (sym c.reserve-4.ensures.items)
           (watch_spare c.self.inside.started.claims c.self.inside.deferred.claims c.self.inside.closed c.self.inside.suspended.items
           c.self.inside.spare c.self.inside.left.items (c.self.invariant.6 calm) c.max-spare.result))),
+      rw c.reserve.ensures.items (omega (arith, c.reserve.ensures.len, c.self.invariant.7)),
     )

@@ -19,4 +19,5 @@ invariant_of-self c =
       omega (arith, room, c.self.invariant.4),
       c.self.invariant.5,
       λ calm. absurd (true≢false calm),
+      c.self.invariant.7,
     )

@@ -16,4 +16,5 @@ invariant_of-self c = (
       c.self.inside.spare) c.self.inside.left.items [] c.self.inside.deferred.claims) (sym c.push_reserved.ensures.items)
       (watch_suspended c.self.inside.started.claims c.self.inside.deferred.claims c.self.inside.closed c.self.inside.suspended.items
       c.self.inside.spare c.self.inside.left.items (c.self.invariant.6 calm) c.args.volume),
+  c.self.invariant.7,
 )
