@@ -1,52 +1,59 @@
 -- Events that go on by further acts: what they reach is orderly and plain as before.
-use Rattle.std.proofs.Common.{◌≡◌, ℕ, true, List, [], None, sym, ap, subst, ◌∙◌}
+use Rattle.std.proofs.Common.{◌≡◌, ℕ, true, List, [], length, Option, None, is_some, sym, ap, subst, ◌∙◌}
 use Rattle.sector_base.specs.declared.places.Piece.{Piece}
 use Rattle.command_table.specs.declared.command.Command.{Command}
 use Rattle.command_table.specs.declared.command.Command.TheVariants as command
 use Rattle.lvm_script.specs.declared.line.Line.{Line}
 use Rattle.disk_model.specs.State.{State}
 use Rattle.disk_model.specs.declared.ops.Done.{Done}
+use Rattle.claim_table.specs.declared.claim.By.{By}
 use Rattle.flush_plan.specs.Plans.{flight_of}
 use Rattle.flush_waits.specs.Waits.{Waits, disk_waits}
 use Rattle.world_acts.specs.declared.open_line.OpenLine.{OpenLine}
 use Rattle.world_acts.specs.declared.state.Core.{Core}
 use Rattle.world_acts.specs.Acts.{Begins, Reaches, World, after, carries_on, follows}
-use Rattle.world_acts.specs.OpenLines.{is_whole}
+use Rattle.world_acts.specs.OpenLines.{Opens, is_whole, open_at}
 use Rattle.world_acts.specs.Orderly.{AreReleased, IsOrderly}
 use Rattle.world_acts.proofs.Orderly.{orderly_after, orderly_reaches}
 use Rattle.world_acts.proofs.Reaching.{prepared_carried, reaches_both, reaches_carried}
 use Rattle.line_plans.specs.declared.preparing.Plan.{Plan}
-use Rattle.io_core.specs.Events.{BeginsIn, Follows, IsPreparedAndGoes, ending}
+use Rattle.io_core.specs.declared.beginning.Begun.{Begun}
+use Rattle.io_core.specs.Events.{BeginsIn, Follows, IsPreparedAndGoes, begun_as, ending}
 use Rattle.line_plans.specs.Plans.{MayBeBegun, opened_for}
 use Rattle.io_core.specs.Rest.{IsCalm, IsPlain, IsSettled, NoneReady, no_one}
 use Rattle.io_core.proofs.Plain.{plain_after, plain_reaches}
 
 -- ---- a line is begun
 
-pub carried_reaches : {line : ℕ} {pieces : List Piece} {w v : World} → IsPreparedAndGoes line pieces w v → Reaches carries_on w v
-carried_reaches {line} {pieces} {w} {v} is =
-    reaches_both carries_on w is.mid v (prepared_carried line pieces w is.mid is.prepares) (reaches_carried is.mid v is.goes)
+pub carried_reaches : {line : ℕ} {pieces : List Piece} {first : Option By} {w v : World} → IsPreparedAndGoes line pieces first w v
+    → Reaches carries_on w v
+carried_reaches {line} {pieces} {first} {w} {v} is =
+    reaches_both carries_on w is.mid v (prepared_carried line pieces first w is.mid is.prepares) (reaches_carried is.mid v is.goes)
 
-pub begins_orderly : (w v : World) (line : Line) → IsOrderly w → BeginsIn w line v → IsOrderly v
+pub begins_orderly : (w v : World) (line : Line) {begun : Begun} → IsOrderly w → BeginsIn w line begun v → IsOrderly v
 begins_orderly w v line o is =
     orderly_reaches (carried_reaches is.carried) (orderly_after w (Begins line is.opened) o is.may)
 
-pub begins_plain : (w v : World) (line : Line) → IsPlain w.core → BeginsIn w line v → IsPlain v.core
+pub begins_plain : (w v : World) (line : Line) {begun : Begun} → IsPlain w.core → BeginsIn w line begun v → IsPlain v.core
 begins_plain w v line plain is =
     plain_reaches (carried_reaches is.carried) (plain_after w (Begins line is.opened) is.may plain)
 
-pub begins_on : (w v u : World) (line : Line) → BeginsIn w line v → Reaches follows v u → u.core.barrier ≡ v.core.barrier
-    → BeginsIn w line u
-begins_on w v u line is goes stays = record {
+pub begins_on : (w v u : World) (line : Line) (begun : Begun) → BeginsIn w line begun v → Reaches follows v u
+    → u.core.opens ≡ v.core.opens
+    → BeginsIn w line begun u
+begins_on w v u line begun is goes stays = record {
+  free = is.free;
   opened = is.opened;
   is = is.is;
   may = is.may;
+  first = is.first;
   carried = record {
     mid = is.carried.mid;
     prepares = is.carried.prepares;
     goes = reaches_both follows is.carried.mid v u is.carried.goes goes;
   };
-  holds = λ waits others. stays ∙ is.holds waits others;
+  how = is.how ∙ ap (λ (o : Opens). begun_as is.first (is_some (open_at o (length w.core.lines.begun)))) (sym stays);
+  holds = λ waits others. reaches_both follows _ v u (is.holds waits others) goes;
 }
 
 -- a line that waits for all others takes place as a whole

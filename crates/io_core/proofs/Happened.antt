@@ -16,17 +16,20 @@ use Rattle.world_acts.proofs.Left.{left_ended, left_flushed, left_reaches}
 use Rattle.world_acts.proofs.Orderly.{orderly_after}
 use Rattle.world_acts.proofs.Reaching.{reaches_act, reaches_both, reaches_carried, reaches_none}
 use Rattle.io_core.proofs.Continued.{carried_reaches}
-use Rattle.io_core.specs.Events.{Follows, IsBegun, IsCompleted, IsIdle, ending}
+use Rattle.io_core.specs.declared.beginning.Begun.{Begun}
+use Rattle.io_core.specs.Events.{Follows, IsBegunAs, IsCompleted, IsIdle, ending}
 
 -- ---- a line is begun
 
-pub begun_more : (w v : World) (line : Line) → IsBegun w line v → v.core.lines.begun ≡ w.core.lines.begun ++ line ∷ []
+pub begun_more : (w v : World) (line : Line) {begun : Begun} → IsBegunAs w line begun v
+    → v.core.lines.begun ≡ w.core.lines.begun ++ line ∷ []
 begun_more w v line is =
     let b = is.begins in
     begun_reaches (after is.grown (Begins line b.opened)) v (carried_reaches b.carried)
     ∙ ap (λ (c : Core). c.lines.begun ++ line ∷ []) is.grows.core
 
-pub begun_longer : (w v : World) (line : Line) → IsBegun w line v → IsPrefix w.core.lines.journal v.core.lines.journal
+pub begun_longer : (w v : World) (line : Line) {begun : Begun} → IsBegunAs w line begun v
+    → IsPrefix w.core.lines.journal v.core.lines.journal
 begun_longer w v line is =
     let b = is.begins in
     let any : Act → Bool = λ a. true in
@@ -76,12 +79,12 @@ follows_left w v done now o is =
 
 pub turned_begun : (w v : World) (b : Bool) (X : Type 0) → MatchBool b (IsCompleted w v × X) (IsIdle w v)
     → v.core.lines.begun ≡ w.core.lines.begun
-turned_begun w v true X made = follows_begun (record w { shelf = made.0.looked }) v made.0.done made.0.now made.0.completes
+turned_begun w v true X made = follows_begun w v made.0.done made.0.now made.0.completes
 turned_begun w v false X made = ap (λ (c : Core). c.lines.begun) made.same
 
 pub turned_longer : (w v : World) (b : Bool) (X : Type 0) → MatchBool b (IsCompleted w v × X) (IsIdle w v)
     → IsPrefix w.core.lines.journal v.core.lines.journal
-turned_longer w v true X made = follows_longer (record w { shelf = made.0.looked }) v made.0.done made.0.now made.0.completes
+turned_longer w v true X made = follows_longer w v made.0.done made.0.now made.0.completes
 turned_longer w v false X made =
     subst (λ (c : Core). IsPrefix w.core.lines.journal c.lines.journal) (sym made.same)
     (journal_reaches follows w w (reaches_none follows w))

@@ -32,7 +32,7 @@ use Rattle.piece_table.specs.Pieces.{Pieces, flying_at, flying_in, flying_of, is
 use Rattle.piece_table.specs.Steps as pieces
 use Rattle.piece_table.specs.Steps.{live_of, no_live, with_flying}
 use Rattle.world_acts.specs.declared.state.Core.{Core}
-use Rattle.world_acts.specs.Acts.{Reaches, World, after, follows, piece_at, world}
+use Rattle.world_acts.specs.Acts.{Reaches, World, follows, piece_at, world}
 use Rattle.world_acts.specs.Orderly.{IsOrderly}
 use Rattle.world_acts.specs.Owners.{flush_at, in_flight_at, owned_work, piece_work}
 use Rattle.world_acts.specs.Steps.{after_ends, after_flushed}

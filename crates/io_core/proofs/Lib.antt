@@ -22,7 +22,7 @@ pub mod LineBegins
 mod Plain
 mod Resting
 mod Happened
-mod MoreSpare
+pub mod MoreSpare
 mod Continued
 mod Landing
 mod Opening

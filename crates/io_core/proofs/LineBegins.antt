@@ -13,6 +13,7 @@ use Rattle.line_answers.specs.declared.answer.Answer.{Answer}
 use Rattle.line_answers.specs.declared.op_refusal.OpRefusal.{OpRefusal}
 use Rattle.lvm_script.specs.declared.line.Line.{Line}
 use Rattle.line_table.specs.Steps.{is_open}
+use Rattle.claim_table.specs.declared.claim.By.{By}
 use Rattle.claim_table.specs.Claims.{ready_at}
 use Rattle.flush_plan.specs.Plans.{flight_of}
 use Rattle.flush_waits.specs.Waits.{Waits, disk_waits}
@@ -27,11 +28,13 @@ use Rattle.world_acts.specs.OpenLines.{IsBarrier, is_whole, left_of, no_open, op
 use Rattle.world_acts.specs.Orderly.{IsOrderly}
 use Rattle.world_acts.specs.Rooms.{more}
 use Rattle.world_acts.proofs.Orderly.{orderly_after, orderly_reaches}
-use Rattle.world_acts.proofs.Reaching.{prepared_carried, prepares_both, prepares_none, reaches_act}
+use Rattle.world_acts.proofs.Reaching.{prepared_carried, prepares_both, prepares_none, reaches_act, reaches_none}
 use Rattle.line_plans.specs.declared.preparing.NewPiece.{NewPiece}
 use Rattle.line_plans.specs.declared.preparing.Plan.{Plan}
 use Rattle.io_core.specs.Beginning.{MayCarryOn}
-use Rattle.io_core.specs.Events.{BeginsIn, IsPreparedAndGoes}
+use Rattle.io_core.specs.declared.beginning.Begun.{Begun}
+use Rattle.io_core.specs.declared.beginning.Begun.TheVariants.{Started}
+use Rattle.io_core.specs.Events.{BeginsIn, IsPreparedAndGoes, begun_as}
 use Rattle.line_plans.specs.Plans.{AreTickets, MayBeBegun, MayBeOf, flushes_room, opened_on, opened_refused, pieces_for, pieces_room}
 use Rattle.io_core.specs.Rest.{IsCalm, IsSettled, just, no_one}
 use Rattle.io_core.proofs.Calm.{OthersStay, asked_same, unfinished_changed}
@@ -93,7 +96,7 @@ then_by w line pieces tickets d m s (inl none) =
     })
 then_by w line pieces tickets d m s (inr are) =
     let v : World = world w.shelf d in
-    let o : IsOrderly v = orderly_reaches (prepared_carried line [] w v s.prepares) m.orderly in
+    let o : IsOrderly v = orderly_reaches (prepared_carried line [] None w v s.prepares) m.orderly in
     let kind : KindKept (open_at w.core.opens line) (open_at v.core.opens line) =
     kept_kind w.core.opens v.core.opens line s.opens m.opened in
     subst (λ (l : List NewPiece). MayEnterPieces v line l)
@@ -118,36 +121,36 @@ pub record MayClose (w : World) (line : ℕ) : Type 0 where
   pub opened : is_some (open_at w.core.opens line) ≡ true
   pub other : w.core.barrier ≡ Some line → ⊥
 
-pub then_closes : (w v u : World) (line tickets : ℕ) (pieces : List NewPiece) → MayCarryOn w line pieces tickets
+pub then_closes : (w v u : World) (line tickets : ℕ) (pieces : List NewPiece) (by : Option By) → MayCarryOn w line pieces tickets
     → HasWaited line w v tickets tickets
-    → HasEntered line (pieces_in pieces) v u
+    → HasEntered line (pieces_in pieces) by v u
     → MayClose u line
-then_closes w v u line tickets pieces m s t =
+then_closes w v u line tickets pieces by m s t =
     let first : KindKept (open_at w.core.opens line) (open_at v.core.opens line) =
     kept_kind w.core.opens v.core.opens line s.opens m.opened in
     let later : KindKept (open_at v.core.opens line) (open_at u.core.opens line) =
     kept_kind v.core.opens u.core.opens line t.opens first.opened in
     record {
       orderly =
-          orderly_reaches (prepared_carried line (pieces_in pieces) v u t.prepares)
-          (orderly_reaches (prepared_carried line [] w v s.prepares) m.orderly);
+          orderly_reaches (prepared_carried line (pieces_in pieces) by v u t.prepares)
+          (orderly_reaches (prepared_carried line [] None w v s.prepares) m.orderly);
       opened = later.opened;
       other = λ e. none-some line (sym (t.barrier ∙ s.barrier) ∙ e);
     }
 
-pub record IsCarriedOn (line : ℕ) (pieces : List Piece) (w v : World) : Type 0 where
-  pub carried : IsPreparedAndGoes line pieces w v
+pub record IsCarriedOn (line : ℕ) (pieces : List Piece) (first : Option By) (w v : World) : Type 0 where
+  pub carried : IsPreparedAndGoes line pieces first w v
   pub settled : IsSettled v.core
 
-pub carried_on : (w v u t : World) (line tickets : ℕ) (pieces : List NewPiece) → MayCarryOn w line pieces tickets
+pub carried_on : (w v u t : World) (line tickets : ℕ) (pieces : List NewPiece) (by : Option By) → MayCarryOn w line pieces tickets
     → HasWaited line w v tickets tickets
-    → HasEntered line (pieces_in pieces) v u
+    → HasEntered line (pieces_in pieces) by v u
     → HasClosed line u t
-    → IsCarriedOn line (pieces_in pieces) w t
-carried_on w v u t line tickets pieces m a b c = record {
+    → IsCarriedOn line (pieces_in pieces) by w t
+carried_on w v u t line tickets pieces by m a b c = record {
   carried = record {
     mid = u;
-    prepares = prepares_both line [] (pieces_in pieces) (pieces_in pieces) w v u refl a.prepares b.prepares;
+    prepares = prepares_both line [] (pieces_in pieces) (pieces_in pieces) None by w v u refl a.prepares b.prepares;
     goes = c.reaches;
   };
   settled = record {
@@ -301,18 +304,22 @@ module _ (w : World) (line : Line) (plan : Plan) (m : MayBeginBy w line plan) wh
       subst (λ (x : Core). MayCarryOn (world w.shelf x) at plan.pieces.items (length plan.tickets.items)) (sym same)
       (subst (λ (n : ℕ). MayCarryOn begun n plan.pieces.items (length plan.tickets.items)) (sym is) carries)
 
-  pub begins_so : (d : Core) (v : World) (at : ℕ) → d ≡ begun.core → at ≡ place
-      → IsCarriedOn at (pieces_in plan.pieces.items) (world w.shelf d) v
+  pub begins_so : (d : Core) (v : World) (at : ℕ) (by : Option By) (how : Begun) → d ≡ begun.core → at ≡ place
+      → IsCarriedOn at (pieces_in plan.pieces.items) by (world w.shelf d) v
+      → how ≡ begun_as by (is_some (open_at v.core.opens at))
       → (line.command ≡ Wait → length (filter is_open d.lines.answers) ≤ 1)
-      → BeginsIn w line v
-  begins_so d v at same is k alone = record {
+      → BeginsIn w line how v
+  begins_so d v at by how same is k so alone = record {
+    free = m.free;
     opened = plan.opened;
     is = m.may.planned.opened;
     may = may_begin;
+    first = by;
     carried =
-        subst (λ (ps : List Piece). IsPreparedAndGoes place ps begun v) m.may.planned.cut
-        (subst (λ (n : ℕ). IsPreparedAndGoes n (pieces_in plan.pieces.items) begun v) is
-        (subst (λ (x : Core). IsPreparedAndGoes at (pieces_in plan.pieces.items) (world w.shelf x) v) same k.carried));
+        subst (λ (ps : List Piece). IsPreparedAndGoes place ps by begun v) m.may.planned.cut
+        (subst (λ (n : ℕ). IsPreparedAndGoes n (pieces_in plan.pieces.items) by begun v) is
+        (subst (λ (x : Core). IsPreparedAndGoes at (pieces_in plan.pieces.items) by (world w.shelf x) v) same k.carried));
+    how = so ∙ ap (λ (n : ℕ). begun_as by (is_some (open_at v.core.opens n))) is;
     holds = λ waits others.
         let few : length (filter is_open begun.core.lines.answers) ≤ 1 =
         subst (λ (x : Core). length (filter is_open x.lines.answers) ≤ 1) same (alone waits) in
@@ -325,22 +332,25 @@ module _ (w : World) (line : Line) (plan : Plan) (m : MayBeginBy w line plan) wh
     abbrev held : World
     held = after begun (Holds place)
 
-    held_begins : BeginsIn w line held
+    held_begins : BeginsIn w line Started held
     held_begins =
         let barrier : IsBarrier begun.core.opens place =
         record { opened = plan.opened; is_open = own_open; whole = whole; alone = may_begin.none } in
         record {
+          free = m.free;
           opened = plan.opened;
           is = m.may.planned.opened;
           may = may_begin;
+          first = None;
           carried = record {
             mid = begun;
             prepares =
-                subst (λ (ps : List Piece). Prepares place ps begun begun)
+                subst (λ (ps : List Piece). Prepares place ps None begun begun)
                 (sym (ap (λ (c : Command). pieces_for w.core.volumes c) waits)) (prepares_none place begun);
             goes = reaches_act follows begun (Holds place) refl (m.free, barrier);
           };
-          holds = λ waits others. refl;
+          how = ap (λ (o : Option OpenLine). begun_as None (is_some o)) (sym own_open);
+          holds = λ waits others. reaches_none follows held;
         }
 
     held_settled : IsSettled held.core
@@ -360,7 +370,7 @@ module _ (w : World) (line : Line) (plan : Plan) (m : MayBeginBy w line plan) wh
     }
 
 pub record IsHeld (w : World) (line : Line) (v : World) : Type 0 where
-  pub begins : BeginsIn w line v
+  pub begins : BeginsIn w line Started v
   pub settled : IsSettled v.core
 
 pub holds_so : (w : World) (line : Line) (plan : Plan) (d : Core) (at : ℕ) → MayBeginBy w line plan → line.command ≡ Wait

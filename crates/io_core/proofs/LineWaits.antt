@@ -1,10 +1,11 @@
 -- A line that waits for flushes.
 use Rattle.std.proofs.Common.{◌≡◌, ◌≤◌, ◌<◌, ◌⊎◌, ℕ, ◌+◌, ◌*◌, ◌^◌, Bool, true, false, cond, nat_eq, List, [], length, Option, None, Some}
-use Rattle.std.proofs.Common.{inl, inr, is_some, slice_get, refl, sym, ap, subst, ◌∙◌, arith}
+use Rattle.std.proofs.Common.{IfSome, inl, inr, is_some, slice_get, unwrap_or, refl, sym, ap, subst, ◌∙◌, arith}
 use Rattle.std.specs.Option.{option_map_or}
 use Rattle.std.proofs.lemmas.Bool.{eqb-false, eqb-true, eq-eqb}
 use Rattle.std.proofs.lemmas.List.{get_or-set_other, get_or-set_same}
 use Rattle.std.proofs.lemmas.Option.{none-some}
+use Rattle.line_answers.specs.declared.answer.Answer.{Answer}
 use Rattle.line_answers.specs.declared.answer.Answer.TheVariants.{PvFailed}
 use Rattle.lvm_script.specs.declared.line.Line.{Line}
 use Rattle.data_lines.specs.DataLines.{is_flush}
@@ -19,15 +20,15 @@ use Rattle.flush_waits.specs.Waits.{DiskWaits, awaited, dirty_at, disk_waits, no
 use Rattle.world_acts.specs.declared.state.Core.{Core}
 use Rattle.world_acts.specs.declared.open_line.OpenLine.{OpenLine}
 use Rattle.world_acts.specs.declared.room.Room.{Room}
-use Rattle.world_acts.specs.Acts.{Awaits, IsBorne, LineFails, MayAwait, Prepares, Reaches, World, after, carries_on, world}
-use Rattle.world_acts.specs.OpenLines.{is_whole, left_of, open_at, open_of}
+use Rattle.world_acts.specs.Acts.{Awaits, IsBorne, LineFails, MayAwait, Prepares, Reaches, TellsDisk, World, after, carries_on, world}
+use Rattle.world_acts.specs.OpenLines.{Opens, after_failure, is_pv_failed, is_whole, left_of, no_open, open_at, open_of, with_open}
 use Rattle.world_acts.specs.Orderly.{AreReleased, IsOrderly}
 use Rattle.world_acts.specs.Rooms.{more}
 use Rattle.world_acts.specs.Steps.{after_awaits, after_line_fails}
 use Rattle.world_acts.specs.Volumes.{lv_of}
 use Rattle.world_acts.proofs.Awaiting.{WaitsMore, unended, waits_served, waits_unserved}
 use Rattle.world_acts.proofs.Lasting.{begun_reaches, sizes_reach, volumes_reach}
-use Rattle.world_acts.proofs.LinesKept.{hit, line_added, line_failed, open_is}
+use Rattle.world_acts.proofs.LinesKept.{hit, line_added, line_failed, open_is, open_within}
 use Rattle.world_acts.proofs.Orderly.{orderly_reaches}
 use Rattle.world_acts.proofs.Reaching.{prepared_carried, prepares_act, prepares_both, prepares_none}
 use Rattle.world_acts.proofs.Tables.{some_of}
@@ -42,7 +43,8 @@ use Rattle.io_core.proofs.SameKinds.{KindKept, kept_kind}
 
 -- what a line leaves that waits on a disk, or has no need to
 pub record WaitsOn (line : ℕ) (w v : World) : Type 0 where
-  pub prepares : Prepares line [] w v
+  pub prepares : Prepares line [] None w v
+  pub well : IfSome (open_of v.core.opens line).failure TellsDisk
   pub room : (r : Room) → IsBorne w (more w.core.owed (more (flushes_room 1) r)) → IsBorne v (more v.core.owed r)
   pub calm : IsCalm no_one (just line) w.core → IsCalm no_one (just line) v.core
   pub released : AreReleased w.core → AreReleased v.core
@@ -51,9 +53,10 @@ pub record WaitsOn (line : ℕ) (w v : World) : Type 0 where
   pub barrier : v.core.barrier ≡ w.core.barrier
   pub left : left_of v.core.opens line ≤ left_of w.core.opens line + 1
 
-waits_none : (line : ℕ) (w : World) → WaitsOn line w w
-waits_none line w = record {
+waits_none : (line : ℕ) (w : World) → IfSome (open_of w.core.opens line).failure TellsDisk → WaitsOn line w w
+waits_none line w well = record {
   prepares = prepares_none line w;
+  well = well;
   room =
       λ r b. borne_less w (more w.core.owed (more (flushes_room 1) r)) (more w.core.owed r)
       (covers_last w.core.owed (flushes_room 1) r) b;
@@ -65,15 +68,34 @@ waits_none line w = record {
   left = omega arith;
 }
 
+-- the line at a place that another takes
+with_is : (opens : Opens) (line : ℕ) (o p : OpenLine) → open_at opens line ≡ Some o → open_of (with_open opens line p) line ≡ p
+with_is opens line o p at =
+    ap (λ (x : Option OpenLine). unwrap_or x no_open) (get_or-set_same opens.list line (Some p) None (open_within opens line o at))
+
+failed_well : (opens : Opens) (line : ℕ) (o : OpenLine) (pv : ℕ) → open_at opens line ≡ Some o
+    → IfSome (open_of opens line).failure TellsDisk
+    → IfSome (open_of (after_failure opens line (PvFailed pv)) line).failure TellsDisk
+failed_well opens line o pv at well =
+    let p : OpenLine = record (open_of opens line) { failure = Some (PvFailed pv) } in
+    elim (is_pv_failed (open_of opens line).failure) as (λ b. IfSome
+    (open_of (cond b opens (with_open opens line p)) line).failure TellsDisk) [
+      | true ↦ well
+      | false ↦ subst (λ (x : OpenLine). IfSome x.failure TellsDisk) (sym (with_is opens line o p at)) (pv, refl)
+    ]
+
 waits_failed : (line pv : ℕ) (w : World) → is_some (open_at w.core.opens line) ≡ true
     → option_map_or (λ (l : Line). is_flush l.command) (slice_get w.core.lines.begun line) false ≡ true
+    → IfSome (open_of w.core.opens line).failure TellsDisk
     → WaitsOn line w (after w (LineFails line (PvFailed pv)))
-waits_failed line pv w opened flushes =
+waits_failed line pv w opened flushes well =
     let c : Core = w.core in
     let d : Core = after_line_fails c line (PvFailed pv) in
     let found : (x : OpenLine) × (open_at c.opens line ≡ Some x) = some_of (open_at c.opens line) opened in
     record {
-      prepares = prepares_act w line (LineFails line (PvFailed pv)) (eq-eqb line line refl) refl (opened, (pv, refl), inl flushes);
+      prepares =
+          prepares_act w line (LineFails line (PvFailed pv)) (eq-eqb line line refl) refl refl (opened, (pv, refl), inl (flushes, well));
+      well = failed_well c.opens line found.0 pv found.1 well;
       room = λ r b. borne_same w (after w (LineFails line (PvFailed pv))) (more c.owed (more (flushes_room 1) r)) (more c.owed r)
           (covers_last c.owed (flushes_room 1) r) refl refl refl refl b;
       calm = λ k. record {
@@ -96,8 +118,9 @@ hit_most : (b : Bool) → hit b ≤ 1
 hit_most true = omega arith
 hit_most false = omega arith
 
-waits_on : (w : World) (line pv : ℕ) → IsOrderly w → (m : MayAwait w line pv) → WaitsOn line w (after w (Awaits line pv))
-waits_on w line pv o m =
+waits_on : (w : World) (line pv : ℕ) → IsOrderly w → (m : MayAwait w line pv) → IfSome (open_of w.core.opens line).failure TellsDisk
+    → WaitsOn line w (after w (Awaits line pv))
+waits_on w line pv o m well =
     let c : Core = w.core in
     let v : World = after w (Awaits line pv) in
     let place : ℕ = dirty_at c.waits (open_of c.opens line).key pv in
@@ -116,7 +139,10 @@ waits_on w line pv o m =
     ]) in
     let within : pv < length c.waits.disks = let disk = m.disk in omega (arith, disk, o.backed.places.many) in
     record {
-      prepares = prepares_act w line (Awaits line pv) (eq-eqb line line refl) refl m;
+      prepares = prepares_act w line (Awaits line pv) (eq-eqb line line refl) refl refl m;
+      well =
+          subst (λ (x : OpenLine). IfSome x.failure TellsDisk)
+          (sym (with_is c.opens line m.opened (record (open_of c.opens line) { left = (open_of c.opens line).left + 1 }) m.is_open)) well;
       room = λ r b. record {
         counted = record {
           ops = omega (arith, b.counted.ops, k.one);
@@ -170,6 +196,7 @@ pub record MayAwaitFlush (w : World) (line pv : ℕ) : Type 0 where
   pub opened : is_some (open_at w.core.opens line) ≡ true
   pub whole : is_whole (open_of w.core.opens line).work ≡ true
   pub flushes : option_map_or (λ (l : Line). is_flush l.command) (slice_get w.core.lines.begun line) false ≡ true
+  pub well : IfSome (open_of w.core.opens line).failure TellsDisk
   pub stands : is_some (lv_of w.core.volumes (open_of w.core.opens line).key) ≡ true
   pub disk : pv < length w.core.waits.disks
   pub other : w.core.barrier ≡ None
@@ -193,9 +220,9 @@ pub awaits_so : (w : World) (line pv place : ℕ) (d : Core) → MayAwaitFlush w
     ⊎ (((marks_of w.core.waits.plan pv).ended < place) × (d ≡ after_awaits w.core line pv place)))
     → WaitsOn line w (world w.shelf d)
 awaits_so w line pv place d m at (inl same) =
-    subst (λ (x : Core). WaitsOn line w (world w.shelf x)) (sym same) (waits_none line w)
+    subst (λ (x : Core). WaitsOn line w (world w.shelf x)) (sym same) (waits_none line w m.well)
 awaits_so w line pv place d m at (inr (inl fails)) =
-    subst (λ (x : Core). WaitsOn line w (world w.shelf x)) (sym fails) (waits_failed line pv w m.opened m.flushes)
+    subst (λ (x : Core). WaitsOn line w (world w.shelf x)) (sym fails) (waits_failed line pv w m.opened m.flushes m.well)
 awaits_so w line pv place d m at (inr (inr waits)) =
     let found : (x : OpenLine) × (open_at w.core.opens line ≡ Some x) = some_of (open_at w.core.opens line) m.opened in
     let is : open_of w.core.opens line ≡ found.0 = open_is w.core.opens line found.0 found.1 in
@@ -207,6 +234,7 @@ awaits_so w line pv place d m at (inr (inr waits)) =
       is_open = found.1;
       whole = ap (λ (x : OpenLine). is_whole x.work) (sym is) ∙ m.whole;
       flushes = m.flushes;
+      well = subst (λ (x : OpenLine). IfSome x.failure TellsDisk) is m.well;
       disk = omega (arith, m.disk, m.orderly.backed.places.many);
       behind = omega (arith, behind, key, at);
       other = λ e. none-some line (sym m.other ∙ e);
@@ -217,7 +245,7 @@ awaits_so w line pv place d m at (inr (inr waits)) =
           (record { ops = omega arith; sectors = omega arith; writes = omega arith; waits = omega arith; entries = omega arith }) m.room;
     } in
     subst (λ (x : Core). WaitsOn line w (world w.shelf x)) (sym (waits.1 ∙ ap (λ (n : ℕ). after_awaits w.core line pv n) at))
-    (waits_on w line pv m.orderly may)
+    (waits_on w line pv m.orderly may m.well)
 
 -- ---- all disks
 
@@ -232,7 +260,7 @@ pub record MayAwaitFlushes (w : World) (line many : ℕ) : Type 0 where
 
 -- what it leaves
 pub record HasWaited (line : ℕ) (w v : World) (waited many : ℕ) : Type 0 where
-  pub prepares : Prepares line [] w v
+  pub prepares : Prepares line [] None w v
   pub none : many ≡ 0 → v.core ≡ w.core
   pub calm : IsCalm no_one (just line) w.core → IsCalm no_one (just line) v.core
   pub released : AreReleased w.core → AreReleased v.core
@@ -244,12 +272,20 @@ pub record HasWaited (line : ℕ) (w v : World) (waited many : ℕ) : Type 0 whe
 -- the line has waited on so many of the disks, and waits on so many more
 pub record Waited (line : ℕ) (w v : World) (pv rest many : ℕ) : Type 0 where
   pub count : pv + rest ≡ many
+  pub well : (rest ≡ 0 → ⊥) → IfSome (open_of v.core.opens line).failure TellsDisk
   pub room : IsBorne v (more v.core.owed (flushes_room rest))
   pub has : HasWaited line w v pv many
+
+for_disks : (w : World) (line many : ℕ) → (many ≡ 0 → ⊥)
+    → AreTickets w.core.volumes w.shelf.sizes (open_of w.core.opens line) (slice_get w.core.lines.begun line) many
+    → AreForDisks w.core.volumes w.shelf.sizes (open_of w.core.opens line) (slice_get w.core.lines.begun line) many
+for_disks w line many some (inl none) = absurd (some none)
+for_disks w line many some (inr are) = are
 
 pub waited_none : (line many : ℕ) (w : World) → MayAwaitFlushes w line many → Waited line w w 0 many many
 waited_none line many w m = record {
   count = omega arith;
+  well = λ some. subst (λ (x : Option Answer). IfSome x TellsDisk) (sym (for_disks w line many some m.tickets).well) tt;
   room = m.room;
   has = record {
     prepares = prepares_none line w;
@@ -263,18 +299,12 @@ waited_none line many w m = record {
   };
 }
 
-for_disks : (w : World) (line many : ℕ) → (many ≡ 0 → ⊥)
-    → AreTickets w.core.volumes w.shelf.sizes (open_of w.core.opens line) (slice_get w.core.lines.begun line) many
-    → AreForDisks w.core.volumes w.shelf.sizes (open_of w.core.opens line) (slice_get w.core.lines.begun line) many
-for_disks w line many some (inl none) = absurd (some none)
-for_disks w line many some (inr are) = are
-
 -- the next one may be awaited
 pub waited_next : (line : ℕ) (w v : World) (pv rest more_rest many : ℕ) → MayAwaitFlushes w line many → more_rest ≡ rest + 1
     → Waited line w v pv more_rest many
     → MayAwaitFlush v line pv
 waited_next line w v pv rest more_rest many m next k =
-    let goes : Reaches carries_on w v = prepared_carried line [] w v k.has.prepares in
+    let goes : Reaches carries_on w v = prepared_carried line [] None w v k.has.prepares in
     let are = for_disks w line many (λ none. omega (arith, none, next, k.count)) m.tickets in
     let kind : KindKept (open_at w.core.opens line) (open_at v.core.opens line) =
     kept_kind w.core.opens v.core.opens line k.has.opens m.opened in
@@ -287,6 +317,7 @@ waited_next line w v pv rest more_rest many m next k =
       flushes =
           ap (λ (ls : List Line). option_map_or (λ (l : Line). is_flush l.command) (slice_get ls line) false) (begun_reaches w v goes)
           ∙ are.flushes;
+      well = k.well (λ none. omega (arith, none, next));
       stands =
           (λ i. is_some (lv_of (volumes_reach carries_on w v goes i) (kind.key i))) ∙ are.stands;
       disk = omega (arith, next, k.count, are.many, sizes, o.backed.places.many);
@@ -309,6 +340,7 @@ pub waited_more : (line : ℕ) (w v u : World) (pv rest more_rest many : ℕ) �
     → Waited line w u (pv + 1) rest many
 waited_more line w v u pv rest more_rest many next k s = record {
   count = omega (arith, next, k.count);
+  well = λ some. s.well;
   room =
       s.room (flushes_room rest)
       (borne_less v (more v.core.owed (flushes_room more_rest)) (more v.core.owed (more (flushes_room 1) (flushes_room rest)))
@@ -320,7 +352,7 @@ waited_more line w v u pv rest more_rest many next k s = record {
         entries = omega arith;
       }) k.room);
   has = record {
-    prepares = prepares_both line [] [] [] w v u refl k.has.prepares s.prepares;
+    prepares = prepares_both line [] [] [] None None w v u refl k.has.prepares s.prepares;
     none = λ is. absurd (omega (arith, is, next, k.count));
     calm = λ z. s.calm (k.has.calm z);
     released = λ z. s.released (k.has.released z);

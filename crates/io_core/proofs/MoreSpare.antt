@@ -32,7 +32,7 @@ settled_grown c d s = record {
   released = s.released;
 }
 
-rest_grown : (c d : Core) → IsAtRest c → IsAtRest (grown c d)
+pub rest_grown : (c d : Core) → IsAtRest c → IsAtRest (grown c d)
 rest_grown c d rest = record { settled = settled_grown c d rest.settled; flushed = rest.flushed }
 
 pub kept_grown : (w v : World) → IsKept w → IsGrown w v → IsKept v

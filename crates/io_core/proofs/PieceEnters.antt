@@ -3,6 +3,7 @@ use Rattle.std.proofs.Common.{◌≡◌, ◌≤◌, ◌<◌, ◌⊎◌, ℕ, suc
 use Rattle.std.proofs.Common.{◌++◌, length, map, All}
 use Rattle.std.proofs.Common.{Option, None, Some, count_by, inl, inr, is_some, slice_get, unwrap_or, refl, sym, ap, subst, ◌∙◌}
 use Rattle.std.proofs.Common.{append_assoc, arith, true≢false}
+use Rattle.std.specs.Option.{option_or}
 use Rattle.std.specs.Prelude.{remove}
 use Rattle.std.specs.List.{list_any, position_or_len}
 use Rattle.std.proofs.lemmas.Bool.{eq-eqb}
@@ -34,7 +35,8 @@ use Rattle.world_acts.proofs.Borne.{borne_reaches}
 use Rattle.world_acts.proofs.Lasting.{begun_reaches, sizes_reach, spare_reaches, volumes_reach}
 use Rattle.world_acts.proofs.LinesKept.{line_added, open_is}
 use Rattle.world_acts.proofs.Orderly.{orderly_after, orderly_reaches}
-use Rattle.world_acts.proofs.Reaching.{prepared_carried, prepares_both, prepares_enter, prepares_none, prepares_starts, starts_follow}
+use Rattle.world_acts.proofs.Reaching.{deferral, prepared_carried, prepares_both, prepares_enter, prepares_none, prepares_starts}
+use Rattle.world_acts.proofs.Reaching.{starts_follow}
 use Rattle.world_acts.proofs.Tables.{Changes, appended, none_counted, own_at, some_of}
 use Rattle.line_plans.specs.declared.preparing.NewPiece.{NewPiece}
 use Rattle.line_plans.specs.Plans.{MayBeOf, pieces_room}
@@ -181,8 +183,8 @@ pub record MayEnterPiece (w : World) (line : ℕ) (new : NewPiece) : Type 0 wher
   pub few : left_of w.core.opens line + 1 < 2 ^ 64
 
 -- and what it leaves
-pub record PieceEnters (line : ℕ) (new : NewPiece) (w v : World) : Type 0 where
-  pub prepares : Prepares line (new.piece ∷ []) w v
+pub record PieceEnters (line : ℕ) (new : NewPiece) (first : Option By) (w v : World) : Type 0 where
+  pub prepares : Prepares line (new.piece ∷ []) first w v
   pub room : (r : Room) → IsBorne w (more w.core.owed (more (piece_room new.piece (is_some new.ticket)) r)) → IsBorne v (more v.core.owed r)
   pub spare : v.core.pieces.claims.spare + 1 ≡ w.core.pieces.claims.spare
   pub calm : IsCalm no_one (just line) w.core → IsCalm no_one (just line) v.core
@@ -236,7 +238,8 @@ module _ (w : World) (line : ℕ) (new : NewPiece) (m : MayEnterPiece w line new
   entered_orderly : (entry : Entry) → IsEntry w.core.pieces.claims own_claim entry → IsOrderly (act entry)
   entered_orderly entry is = orderly_after w (Enters line new.piece new.sectors new.ticket entry) m.orderly (enter_allowed entry is)
 
-  enter_prepares : (entry : Entry) → IsEntry w.core.pieces.claims own_claim entry → Prepares line (new.piece ∷ []) w (act entry)
+  enter_prepares : (entry : Entry) → IsEntry w.core.pieces.claims own_claim entry
+      → Prepares line (new.piece ∷ []) (deferral entry) w (act entry)
   enter_prepares entry is =
       prepares_enter w line new.piece new.sectors new.ticket entry (enter_allowed entry is)
 
@@ -264,7 +267,7 @@ module _ (w : World) (line : ℕ) (new : NewPiece) (m : MayEnterPiece w line new
   -- it waits
   deferred_enters : (by : By) → FreeWithoutConflict → AreNumbered w.core.pieces.next w.core.pieces.lives
       → IsEntry w.core.pieces.claims own_claim (Deferred by)
-      → PieceEnters line new w (act (Deferred by))
+      → PieceEnters line new (Some by) w (act (Deferred by))
   deferred_enters by law numbered is =
       let c : Core = w.core in
       let d : Core = (act (Deferred by)).core in
@@ -304,7 +307,7 @@ module _ (w : World) (line : ℕ) (new : NewPiece) (m : MayEnterPiece w line new
   started_enters : (v : World) → AreClaimed w.core.pieces.claims w.core.pieces.lives → AreNumbered w.core.pieces.next w.core.pieces.lives
       → IsEntry w.core.pieces.claims own_claim Started
       → HasStarted w.core.pieces.next (act Started) v
-      → PieceEnters line new w v
+      → PieceEnters line new None w v
   started_enters v claimed numbered is s =
       let c : Core = w.core in
       let u : World = act Started in
@@ -313,7 +316,7 @@ module _ (w : World) (line : ℕ) (new : NewPiece) (m : MayEnterPiece w line new
       let spare : v.core.pieces.claims.spare ≡ u.core.pieces.claims.spare = spare_reaches u v (starts_follow u v s.reaches) in
       record {
         prepares =
-            prepares_both line (new.piece ∷ []) [] (new.piece ∷ []) w u v refl (enter_prepares Started is)
+            prepares_both line (new.piece ∷ []) [] (new.piece ∷ []) None None w u v refl (enter_prepares Started is)
             (prepares_starts line u v s.reaches);
         room = λ r b. borne_reaches u v r (entered_orderly Started is) (starts_follow u v s.reaches) (enter_room Started r b);
         spare = let some = m.spare in omega (arith, some, spare);
@@ -350,9 +353,9 @@ module _ (w : World) (line : ℕ) (new : NewPiece) (m : MayEnterPiece w line new
       → IsEntry w.core.pieces.claims own_claim entry
       → entry ≡ Deferred by
       → d ≡ (act entry).core
-      → PieceEnters line new w (world w.shelf d)
+      → PieceEnters line new (Some by) w (world w.shelf d)
   deferred_so d entry by law numbered is waits same =
-      subst (λ (x : Core). PieceEnters line new w (world w.shelf x)) (sym (same ∙ ap (λ (e : Entry). (act e).core) waits))
+      subst (λ (x : Core). PieceEnters line new (Some by) w (world w.shelf x)) (sym (same ∙ ap (λ (e : Entry). (act e).core) waits))
       (deferred_enters by law numbered (subst (λ (e : Entry). IsEntry w.core.pieces.claims own_claim e) waits is))
 
   pub started_so : (d : Core) (number : ℕ) (entry : Entry) (v : World) → AreClaimed w.core.pieces.claims w.core.pieces.lives
@@ -362,7 +365,7 @@ module _ (w : World) (line : ℕ) (new : NewPiece) (m : MayEnterPiece w line new
       → entry ≡ Started
       → d ≡ (act entry).core
       → HasStarted number (world w.shelf d) v
-      → PieceEnters line new w v
+      → PieceEnters line new None w v
   started_so d number entry v claimed numbered at is starts same s =
       started_enters v claimed numbered (subst (λ (e : Entry). IsEntry w.core.pieces.claims own_claim e) starts is)
       (subst (λ (n : ℕ). HasStarted n (act Started) v) at
@@ -380,8 +383,8 @@ pub record MayEnterPieces (w : World) (line : ℕ) (pieces : List NewPiece) : Ty
   pub few : left_of w.core.opens line + length pieces < 2 ^ 64
 
 -- what `enter_pieces` leaves
-pub record HasEntered (line : ℕ) (pieces : List Piece) (w v : World) : Type 0 where
-  pub prepares : Prepares line pieces w v
+pub record HasEntered (line : ℕ) (pieces : List Piece) (first : Option By) (w v : World) : Type 0 where
+  pub prepares : Prepares line pieces first w v
   pub calm : IsCalm no_one (just line) w.core → IsCalm no_one (just line) v.core
   pub ready : NoneReady w.core → NoneReady v.core
   pub opens : SameLines w.core.opens v.core.opens
@@ -392,14 +395,15 @@ pub record HasEntered (line : ℕ) (pieces : List Piece) (w v : World) : Type 0 
 abbrev pub pieces_in : List NewPiece → List Piece
 pieces_in pieces = map (λ (new : NewPiece). new.piece) pieces
 
--- some of all have entered, and these are left
-pub record PiecesEnter (line : ℕ) (w v : World) (all rest : List NewPiece) : Type 0 where
+-- some of all have entered, of which the first that waits conflicts with this, and these are left
+pub record PiecesEnter (line : ℕ) (first : Option By) (w v : World) (all rest : List NewPiece) : Type 0 where
   pub done : List Piece
   pub some : done ++ pieces_in rest ≡ pieces_in all
   pub may : MayEnterPieces v line rest
-  pub has : HasEntered line done w v
+  pub has : HasEntered line done first w v
 
-pub none_entered : (line : ℕ) (w : World) (pieces : List NewPiece) → MayEnterPieces w line pieces → PiecesEnter line w w pieces pieces
+pub none_entered : (line : ℕ) (w : World) (pieces : List NewPiece) → MayEnterPieces w line pieces
+    → PiecesEnter line None w w pieces pieces
 none_entered line w pieces m = record {
   done = [];
   some = refl;
@@ -430,11 +434,12 @@ first_enters line w new rest m = record {
 }
 
 -- and then the others
-pub others_enter : (line : ℕ) (w v : World) (new : NewPiece) (rest : List NewPiece) → MayEnterPieces w line (new ∷ rest)
-    → PieceEnters line new w v
+pub others_enter : (line : ℕ) (first : Option By) (w v : World) (new : NewPiece) (rest : List NewPiece)
+    → MayEnterPieces w line (new ∷ rest)
+    → PieceEnters line new first w v
     → MayEnterPieces v line rest
-others_enter line w v new rest m s =
-    let goes : Reaches carries_on w v = prepared_carried line (new.piece ∷ []) w v s.prepares in
+others_enter line first w v new rest m s =
+    let goes : Reaches carries_on w v = prepared_carried line (new.piece ∷ []) first w v s.prepares in
     let kind : KindKept (open_at w.core.opens line) (open_at v.core.opens line) =
     kept_kind w.core.opens v.core.opens line s.opens m.opened in
     record {
@@ -455,15 +460,16 @@ others_enter line w v new rest m s =
       few = let most : left_of w.core.opens line + suc (length rest) < 2 ^ 64 = m.few in omega (arith, most, s.left);
     }
 
-pub one_entered : (line : ℕ) (w v u : World) (new : NewPiece) (all rest : List NewPiece) → PiecesEnter line w v all (new ∷ rest)
-    → PieceEnters line new v u
-    → PiecesEnter line w u all rest
-one_entered line w v u new all rest k s = record {
+pub one_entered : (line : ℕ) (first by : Option By) (w v u : World) (new : NewPiece) (all rest : List NewPiece)
+    → PiecesEnter line first w v all (new ∷ rest)
+    → PieceEnters line new by v u
+    → PiecesEnter line (option_or first by) w u all rest
+one_entered line first by w v u new all rest k s = record {
   done = k.done ++ new.piece ∷ [];
   some = append_assoc k.done (new.piece ∷ []) (pieces_in rest) ∙ k.some;
-  may = others_enter line v u new rest k.may s;
+  may = others_enter line by v u new rest k.may s;
   has = record {
-    prepares = prepares_both line k.done (new.piece ∷ []) (k.done ++ new.piece ∷ []) w v u refl k.has.prepares s.prepares;
+    prepares = prepares_both line k.done (new.piece ∷ []) (k.done ++ new.piece ∷ []) first by w v u refl k.has.prepares s.prepares;
     calm = λ z. s.calm (k.has.calm z);
     ready = λ z. s.ready (k.has.ready z);
     opens = same_both w.core.opens v.core.opens u.core.opens k.has.opens s.opens;

@@ -3,14 +3,15 @@ use Rattle.std.proofs.Common.{◌≡◌, ◌<◌, [], None, false, refl, ap, sub
 use Rattle.std.specs.List.{list_any}
 use Rattle.line_table.specs.Steps.{is_open}
 use Rattle.disk_model.specs.Calls.{MakesReady}
-use Rattle.disk_model.specs.State.{State}
+use Rattle.disk_model.specs.State.{IsLawful, State}
 use Rattle.disk_model.specs.declared.ops.Done.{Done}
 use Rattle.lvm_script.specs.declared.line.Line.{Line}
 use Rattle.piece_table.specs.Pieces.{AreClaimed}
 use Rattle.world_acts.specs.declared.state.Core.{Core}
 use Rattle.world_acts.specs.Acts.{IsGrown, World, left_in, world}
-use Rattle.io_core.specs.Events.{BeginsIn, Follows, IsBegun, IsCompleted, IsIdle}
-use Rattle.io_core.specs.Rest.{IsKept}
+use Rattle.io_core.specs.declared.beginning.Begun.{Begun}
+use Rattle.io_core.specs.Events.{BeginsIn, Follows, IsBegunAs, IsCompleted, IsIdle}
+use Rattle.io_core.specs.Rest.{IsAtRest, IsKept}
 use Rattle.io_core.specs.Worlds.{WorldOn}
 use Rattle.io_core.proofs.Happened.{follows_left}
 use Rattle.io_core.proofs.Resting.{resting}
@@ -26,17 +27,19 @@ module _ {S : Type 0} (state : S → State) (d now : WorldOn S) (view : d ≡ no
   -- an operation has completed
   pub turned_well : (mid : State) (v : World) (done : Done) → IsKept (world (state d.shelf) d.core)
       → Follows (world (state d.shelf) d.core) done mid v
+      → IsAtRest v.core
       → IsCompleted (world (state now.shelf) now.core) v × (left_in v < left_in (world (state now.shelf) now.core))
-  turned_well mid v done kept goes =
+  turned_well mid v done kept goes rest =
       let w : World = world (state d.shelf) d.core in
       seen (λ (x : World). IsCompleted x v × (left_in v < left_in x)) (
-        record { looked = w.shelf; makes = record { ready = λ t h. h; same = refl }; done = done; now = mid; completes = goes },
+        record { done = done; now = mid; completes = goes; rest = rest },
         follows_left w v done mid kept.orderly goes,
       )
 
   -- none has
-  pub turned_idle : (mid : State) → MakesReady (state d.shelf) mid → IsIdle (world (state now.shelf) now.core) (world mid d.core)
-  turned_idle mid makes = seen (λ (x : World). IsIdle x (world mid d.core)) (record { same = refl; looked = makes })
+  pub turned_idle : (mid : State) → MakesReady (state d.shelf) mid → IsLawful mid
+      → IsIdle (world (state now.shelf) now.core) (world mid d.core)
+  turned_idle mid makes lawful = seen (λ (x : World). IsIdle x (world mid d.core)) (record { same = refl; looked = makes; lawful = lawful })
 
   -- nothing is in flight
   pub rested : IsKept (world (state d.shelf) d.core) → AreClaimed d.core.pieces.claims d.core.pieces.lives
@@ -48,7 +51,8 @@ module _ {S : Type 0} (state : S → State) (d now : WorldOn S) (view : d ≡ no
       (none, still.0, still.1)
 
   -- a line was begun, once there was room for it
-  pub seen_begun : (mid v : World) (line : Line) → IsGrown (world (state d.shelf) d.core) mid → BeginsIn mid line v
-      → IsBegun (world (state now.shelf) now.core) line v
-  seen_begun mid v line grows begins =
-      seen (λ (x : World). IsBegun x line v) (record { grown = mid; grows = grows; begins = begins })
+  pub seen_begun : (mid v : World) (line : Line) (begun : Begun) → IsGrown (world (state d.shelf) d.core) mid → BeginsIn mid line begun v
+      → IsAtRest v.core
+      → IsBegunAs (world (state now.shelf) now.core) line begun v
+  seen_begun mid v line begun grows begins rest =
+      seen (λ (x : World). IsBegunAs x line begun v) (record { grown = mid; grows = grows; begins = begins; rest = rest })

@@ -133,7 +133,7 @@ pub record IsFlushed (pv : ℕ) (w v : World) : Type 0 where
   pub reaches : Reaches follows w v
   pub settled : IsSettled v.core
   pub here : is_wanted v.core.waits pv ≡ false
-  pub barrier : v.core.barrier ≡ w.core.barrier
+  pub opens : v.core.opens ≡ w.core.opens
   pub others : (other : ℕ) → nat_eq pv other ≡ false → is_wanted w.core.waits other ≡ false → is_wanted v.core.waits other ≡ false
 
 -- a flush is wanted of a disk of which none is in flight, and all that the last one served has been released
@@ -154,7 +154,7 @@ flush_submitted w pv tag now d o s wanted submits lawful is =
       reaches = reaches_act follows w (AsksFlush pv tag now) refl (submits, lawful, wanted, wanted_released w.core pv s wanted);
       settled = flush_settled w.core pv tag within s;
       here = unwanted_here w.core pv tag within;
-      barrier = refl;
+      opens = refl;
       others = λ q apart not_wanted. unwanted_other w.core pv tag within q apart not_wanted;
     })
 

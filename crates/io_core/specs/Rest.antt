@@ -1,5 +1,6 @@
 -- What holds at the end of each event: nothing is left to do until an operation completes or a line is begun.
-use Rattle.std.specs.Prelude.{◌≡◌, ◌≤◌, ◌<◌, ◌⊎◌, All, ℕ, Bool, true, false, ◌==◌, IfSome, List, [], filter, length, Option, None, Some, is_some, option_map, slice_index_or}
+use Rattle.std.specs.Prelude.{◌≡◌, ◌≤◌, ◌<◌, ◌⊎◌, All, ℕ, Bool, true, false, ◌==◌, IfSome, List, [], filter, length, Option, None, Some}
+use Rattle.std.specs.Prelude.{is_some, option_map, slice_index_or}
 use Rattle.std.specs.List.{list_any}
 use Rattle.sector_base.specs.declared.places.At.{At}
 use Rattle.line_table.specs.Steps.{is_open}
@@ -8,9 +9,6 @@ use Rattle.volume_view.specs.Places.{primary}
 use Rattle.claim_table.specs.Claims.{ready_at}
 use Rattle.claim_table.specs.Steps.{has_number}
 use Rattle.flush_plan.specs.Plans.{flight_of}
-use Rattle.flush_waits.specs.declared.ticket.Waiter.{Waiter}
-use Rattle.flush_waits.specs.declared.ticket.Waiter.TheVariants as waiter
-use Rattle.flush_waits.specs.declared.ticket.Waiting.{Waiting}
 use Rattle.flush_waits.specs.Waits.{disk_waits, is_wanted}
 use Rattle.piece_table.specs.declared.live.LivePiece.{LivePiece}
 use Rattle.piece_table.specs.Pieces.{flying_of, is_started_stage, is_waiting_stage}
@@ -19,7 +17,7 @@ use Rattle.vg_found.specs.declared.found.Found.{Found}
 use Rattle.world_acts.specs.declared.open_line.OpenLine.{OpenLine}
 use Rattle.world_acts.specs.declared.open_line.Work.{Work}
 use Rattle.world_acts.specs.declared.state.Core.{Core}
-use Rattle.world_acts.specs.Acts.{Reaches, World, follows, released_at}
+use Rattle.world_acts.specs.Acts.{Reaches, World, follows}
 use Rattle.world_acts.specs.Counts.{awaited_of, is_taken}
 use Rattle.world_acts.specs.OpenLines.{Opens, left_of, open_at}
 use Rattle.world_acts.specs.Orderly.{AreReleased, IsOrderly}

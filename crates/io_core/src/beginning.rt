@@ -1,5 +1,5 @@
 //! A line is begun, as it was prepared.
-ghost use Rattle.std.specs.Prelude.{◌≡◌, ◌⊎◌, ◌≤◌, ◌<◌, ◌+◌, ◌^◌, [], ◌∷◌, All, IsTrue, None, false, is_some, length, map, slice_get, true};
+ghost use Rattle.std.specs.Prelude.{◌≡◌, ◌⊎◌, ◌≤◌, ◌<◌, ◌+◌, ◌^◌, [], ◌∷◌, All, IfSome, IsTrue, None, false, is_some, length, map, slice_get, true};
 ghost use Rattle.std.specs.Option.{option_map_or};
 ghost use Rattle.command_table.specs.declared.command.Command.TheVariants.{Wait};
 ghost use Rattle.lvm_script.specs.declared.line.Line.{Line as LineRecord};
@@ -11,14 +11,14 @@ ghost use Rattle.flush_plan.specs.Plans.{marks_of};
 ghost use Rattle.line_answers.specs.declared.answer.Answer.TheVariants.{PvFailed};
 ghost use Rattle.piece_table.specs.Pieces.{claim_of, may_start};
 ghost use Rattle.world_acts.specs.declared.room.Room.{Room as RoomRecord};
-ghost use Rattle.world_acts.specs.Acts.{IsBorne, MayBegin, Prepares, world};
+ghost use Rattle.world_acts.specs.Acts.{IsBorne, MayBegin, Prepares, TellsDisk, world};
 ghost use Rattle.world_acts.specs.OpenLines.{is_whole, left_of, open_at, open_of};
 ghost use Rattle.world_acts.specs.Orderly.{AreReleased, IsOrderly};
 ghost use Rattle.world_acts.specs.Rooms.{IsCounted, more, piece_room};
 ghost use Rattle.world_acts.specs.Steps.{after_awaits, after_begins, after_enters, after_line_fails, await_room};
 ghost use Rattle.world_acts.specs.Volumes.{lv_of};
 ghost use Rattle.io_core.specs.Beginning.{MayCarryOn};
-ghost use Rattle.io_core.specs.Events.{BeginsIn, IsPreparedAndGoes};
+ghost use Rattle.io_core.specs.Events.{BeginsIn, IsPreparedAndGoes, begun_as};
 ghost use Rattle.line_plans.specs.Plans.{AreTickets, MayBeBegun, MayBeOf, flushes_room, pieces_room};
 ghost use Rattle.io_core.specs.Rest.{IsCalm, IsSettled, NoneReady, SameLines, just, no_one};
 
@@ -58,7 +58,7 @@ pub(crate) fn begin<S: Shelf>(
     requires waits { is_wait ≡ true → is_whole plan.opened.work ≡ true }
     requires holds { is_wait ≡ true → line.command ≡ Wait }
     requires all { line.command ≡ Wait → is_wait ≡ true }
-    ensures begins { BeginsIn (world (S.state shelf.old) core.old) line (world (S.state shelf.new) core.new) }
+    ensures begins { BeginsIn (world (S.state shelf.old) core.old) line result (world (S.state shelf.new) core.new) }
     ensures settled { IsSettled core.new }
 {
     let Plan {
@@ -76,7 +76,9 @@ pub(crate) fn begin<S: Shelf>(
 }
 
 // What becomes of the line whose first piece that waits conflicts with this.
-fn how_begun(core: &Core, line: u32, first: Option<By>) -> Begun {
+fn how_begun(core: &Core, line: u32, first: Option<By>) -> Begun
+    ensures { result ≡ begun_as first (is_some (open_at core.now.opens line)) }
+{
     match first {
         Some(by) => Begun::Deferred(by),
         None if core.opens.is_open(line) => Begun::Started,
@@ -94,7 +96,7 @@ fn carry_on<S: Shelf>(
     tickets: Vec<Ticket>,
 ) -> Option<By>
     requires may { MayCarryOn (world (S.state shelf.old) core.old) line pieces.items (length tickets.items) }
-    ensures carried { IsPreparedAndGoes line (map (λ (new : NewRecord). new.piece) pieces.items) (world (S.state shelf.old) core.old)
+    ensures carried { IsPreparedAndGoes line (map (λ (new : NewRecord). new.piece) pieces.items) result (world (S.state shelf.old) core.old)
         (world (S.state shelf.new) core.new) }
     ensures settled { IsSettled core.new }
 {
@@ -125,7 +127,7 @@ fn await_flushes<S: Shelf>(shelf: &S, core: &mut Core, line: u32, tickets: Vec<T
     requires other { core.old.barrier ≡ None }
     requires room { IsBorne (world (S.state shelf.now) core.old) (more core.old.owed (flushes_room (length tickets.items))) }
     requires few { left_of core.old.opens line + length tickets.items < 2 ^ 64 }
-    ensures prepares { Prepares line [] (world (S.state shelf.now) core.old) (world (S.state shelf.now) core.new) }
+    ensures prepares { Prepares line [] None (world (S.state shelf.now) core.old) (world (S.state shelf.now) core.new) }
     ensures none { length tickets.items ≡ 0 → core.new ≡ core.old }
     ensures calm { IsCalm no_one (just line) core.old → IsCalm no_one (just line) core.new }
     ensures released { AreReleased core.old → AreReleased core.new }
@@ -149,12 +151,14 @@ fn await_flush<S: Shelf>(shelf: &S, core: &mut Core, line: u32, pv: u32, ticket:
     requires opened { IsTrue (is_some (open_at core.old.opens line)) }
     requires whole { is_whole (open_of core.old.opens line).work ≡ true }
     requires flushes { option_map_or (λ (l : LineRecord). is_flush l.command) (slice_get core.old.lines.begun line) false ≡ true }
+    requires well { IfSome (open_of core.old.opens line).failure TellsDisk }
     requires stands { is_some (lv_of core.old.volumes (open_of core.old.opens line).key) ≡ true }
     requires disk { pv < length core.old.waits.disks }
     requires other { core.old.barrier ≡ None }
     requires room { IsBorne (world (S.state shelf.now) core.old) (more core.old.owed (flushes_room 1)) }
     requires few { left_of core.old.opens line + 1 < 2 ^ 64 }
-    ensures prepares { Prepares line [] (world (S.state shelf.now) core.old) (world (S.state shelf.now) core.new) }
+    ensures prepares { Prepares line [] None (world (S.state shelf.now) core.old) (world (S.state shelf.now) core.new) }
+    ensures well { IfSome (open_of core.new.opens line).failure TellsDisk }
     ensures room { (r : RoomRecord) → IsBorne (world (S.state shelf.now) core.old) (more core.old.owed (more (flushes_room 1) r)) → IsBorne (world (S.state shelf.now) core.new) (more core.new.owed r) }
     ensures calm { IsCalm no_one (just line) core.old → IsCalm no_one (just line) core.new }
     ensures released { AreReleased core.old → AreReleased core.new }
@@ -230,7 +234,7 @@ fn enter_pieces<S: Shelf>(
     requires room { IsBorne (world (S.state shelf.old) core.old) (more core.old.owed (pieces_room pieces.items)) }
     requires spare { length pieces.items ≤ core.old.pieces.claims.spare }
     requires few { left_of core.old.opens line + length pieces.items < 2 ^ 64 }
-    ensures prepares { Prepares line (map (λ (new : NewRecord). new.piece) pieces.items) (world (S.state shelf.old) core.old) (world (S.state shelf.new) core.new) }
+    ensures prepares { Prepares line (map (λ (new : NewRecord). new.piece) pieces.items) result (world (S.state shelf.old) core.old) (world (S.state shelf.new) core.new) }
     ensures calm { IsCalm no_one (just line) core.old → IsCalm no_one (just line) core.new }
     ensures ready { NoneReady core.old → NoneReady core.new }
     ensures opens { SameLines core.old.opens core.new.opens }
@@ -255,7 +259,7 @@ fn enter_piece<S: Shelf>(shelf: &mut S, core: &mut Core, line: u32, new: NewPiec
     requires room { IsBorne (world (S.state shelf.old) core.old) (more core.old.owed (piece_room new.piece (is_some new.ticket))) }
     requires spare { 0 < core.old.pieces.claims.spare }
     requires few { left_of core.old.opens line + 1 < 2 ^ 64 }
-    ensures prepares { Prepares line (new.piece ∷ []) (world (S.state shelf.old) core.old) (world (S.state shelf.new) core.new) }
+    ensures prepares { Prepares line (new.piece ∷ []) result (world (S.state shelf.old) core.old) (world (S.state shelf.new) core.new) }
     ensures room { (r : RoomRecord) → IsBorne (world (S.state shelf.old) core.old) (more core.old.owed (more (piece_room new.piece (is_some new.ticket)) r))
         → IsBorne (world (S.state shelf.new) core.new) (more core.new.owed r) }
     ensures spare { core.new.pieces.claims.spare + 1 ≡ core.old.pieces.claims.spare }

@@ -17,7 +17,7 @@ pub(crate) fn submit_flushes<S: Shelf>(shelf: &mut S, core: &mut Core)
     requires settled { IsSettled core.old }
     ensures reaches { Reaches follows (world (S.state shelf.old) core.old) (world (S.state shelf.new) core.new) }
     ensures rest { IsAtRest core.new }
-    ensures barrier { core.new.barrier ≡ core.old.barrier }
+    ensures opens { core.new.opens ≡ core.old.opens }
 {
     for pv in 0..shelf.count() {
         flush_wanted(shelf, core, pv);
@@ -32,7 +32,7 @@ fn flush_wanted<S: Shelf>(shelf: &mut S, core: &mut Core, pv: u32)
     ensures reaches { Reaches follows (world (S.state shelf.old) core.old) (world (S.state shelf.new) core.new) }
     ensures settled { IsSettled core.new }
     ensures here { is_wanted core.new.waits pv ≡ false }
-    ensures barrier { core.new.barrier ≡ core.old.barrier }
+    ensures opens { core.new.opens ≡ core.old.opens }
     ensures others { (other : ℕ) → (pv == other) ≡ false → is_wanted core.old.waits other ≡ false → is_wanted core.new.waits other ≡ false }
 {
     if !core.waits.wants(pv) {

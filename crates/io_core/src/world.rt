@@ -114,13 +114,13 @@ fn parts_of(alloc: Global, whole: &Whole, disks: u32) -> Result<Parts, AllocErro
 }
 
 impl<S: Shelf> World<S> {
-    ghost use Rattle.std.specs.Prelude.{◌≡◌, ◌≤◌, ◌<◌, IfErr, IfOk, MatchBool, None, OnOk, [], is_none, length, not, false};
+    ghost use Rattle.std.specs.Prelude.{◌≡◌, ◌≤◌, ◌<◌, IfErr, IfOk, MatchBool, None, [], is_none, length, not, false};
     ghost use Rattle.std.specs.List.{list_any};
     ghost use Rattle.line_table.specs.Steps.{is_open};
-    ghost use Rattle.io_session.specs.Events.{Begins, Completes as CompletesOne, Idles, RefusesLine};
+    ghost use Rattle.io_session.specs.Events.{Completes as CompletesOne, Idles, RefusesLine};
     ghost use Rattle.world_acts.specs.Acts.{left_in, world};
-    ghost use Rattle.io_core.specs.Events.{Makes};
-    ghost use Rattle.io_core.specs.Rest.{LiesOn};
+    ghost use Rattle.io_core.specs.Events.{IsBegunAs, Makes};
+    ghost use Rattle.io_core.specs.Rest.{IsKept, LiesOn};
     ghost use Rattle.io_core.specs.Worlds.{IsOpenedOn};
 
     /// The world of what a scan found, which lies on the shelf's disks. Only memory can be wanting; then what it was to be made of
@@ -130,6 +130,7 @@ impl<S: Shelf> World<S> {
         requires few { length (S.state shelf).sizes ≤ 64 }
         requires lies { LiesOn (S.state shelf).sizes whole }
         ensures opened { IfOk result (λ w. (w.shelf ≡ shelf) × IsOpenedOn whole (length (S.state shelf).sizes) w.core) }
+        ensures kept { IfOk result (λ w. IsKept (world (S.state w.shelf) w.core)) }
         ensures refused { IfErr result (λ refused. (refused.whole ≡ whole) × (refused.shelf ≡ shelf)) }
     {
         see_accepted(&whole.found().group);
@@ -148,10 +149,11 @@ impl<S: Shelf> World<S> {
         self.core.barrier.is_none()
     }
 
-    /// Begins the line. Only memory can be wanting; then the line comes back, and nothing changes but what is spare.
+    /// Begins the line, and says how it was begun. Only memory can be wanting; then the line comes back, and nothing changes but what
+    /// is spare.
     pub fn begin(&mut self, line: DataLine) -> Result<Begun, BeginRefused>
         requires { self.old.core.barrier ≡ None }
-        ensures begun { OnOk result (Makes (world (S.state self.old.shelf) self.old.core) (Begins line) (world (S.state self.new.shelf) self.new.core)) }
+        ensures begun { IfOk result (λ begun. IsBegunAs (world (S.state self.old.shelf) self.old.core) line begun (world (S.state self.new.shelf) self.new.core)) }
         ensures refused { IfErr result (λ refused. (refused.line ≡ line)
             × Makes (world (S.state self.old.shelf) self.old.core) (RefusesLine line) (world (S.state self.new.shelf) self.new.core)) }
     {
@@ -286,7 +288,7 @@ fn begin_prepared<S: Shelf>(shelf: &mut S, core: &mut Core, line: Line, plan: Pl
     requires kept { IsKept (world (S.state shelf.old) core.old) }
     requires free { core.old.barrier ≡ None }
     requires may { MayBeBegun (world (S.state shelf.old) core.old) line plan }
-    ensures begins { BeginsIn (world (S.state shelf.old) core.old) line (world (S.state shelf.new) core.new) }
+    ensures begins { BeginsIn (world (S.state shelf.old) core.old) line result (world (S.state shelf.new) core.new) }
     ensures kept { IsKept (world (S.state shelf.new) core.new) }
 {
     let is_wait = waits_for_all(&line.command);

@@ -34,7 +34,8 @@ use Rattle.world_acts.specs.Volumes.{AreLaidOut, IsPlaced, lv_of}
 use Rattle.line_plans.specs.declared.preparing.NewPiece.{NewPiece}
 use Rattle.line_plans.specs.declared.preparing.Plan.{Plan}
 use Rattle.line_plans.specs.Judging.{IsFoundIn, number_on, refusal_of, rows_on}
-use Rattle.line_plans.specs.Plans.{AreForDisks, IsAlone, IsBroughtBy, IsCut, IsFlushing, IsPlanFor, IsPlanned, IsReadInto, IsRefusal, MayBeOf}
+use Rattle.line_plans.specs.Plans.{AreForDisks, IsAlone, IsBroughtBy, IsCut, IsFlushing, IsPlanFor, IsPlanned, IsReadInto, IsRefusal}
+use Rattle.line_plans.specs.Plans.{MayBeOf}
 use Rattle.line_plans.specs.Plans.{key_for, key_of, opened_for, opened_on, opened_refused, pieces_for, work_for}
 use Rattle.line_plans.proofs.Judged.{few_sectors}
 use Rattle.line_plans.proofs.PlacedPieces.{IsPieceOf, key_found, piece_of, piece_placed}
@@ -178,6 +179,7 @@ module _ (volumes : Volumes) (command : Command) (path : Path) (range : Option (
                 many = made.tickets ∙ disks;
                 whole = refl;
                 flushes = ap is_flush is ∙ flushes;
+                well = refl;
                 stands = ap (λ (o : Option ℕ). is_some o) (stands sizes (subst (λ (v : Volumes). AreLaidOut v sizes) same laid));
               }));
         })
@@ -273,7 +275,8 @@ module _ (core : Core) (line : Line) (path : Path) (row : VolumeRow) (start coun
       cut_planned core.volumes (verb.Read path start count) path (Some (start, count)) false
       (record { volume = refl; sectors = refl; kind = refl }) row none found start count refl core line plan
       (Read start (replicate count zero_sector)) IsReadInto refl is refl cover request cuts
-      (λ sizes new suits piece placed. read_suits core.volumes sizes line row.key start count new (ap is_through is) suits piece placed) made
+      (λ sizes new suits piece placed. read_suits core.volumes sizes line row.key start count new (ap is_through is) suits piece placed)
+      made
 
   pub write_planned : Names line.command path (Some (start, count)) true
       → first_refusal (rows_on core.volumes.group path true (Some (start, count))) ≡ None

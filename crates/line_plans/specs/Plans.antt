@@ -1,5 +1,6 @@
 -- What a line is to be, before it is begun.
-use Rattle.std.specs.Prelude.{◌≡◌, ◌≤◌, ◌<◌, ◌⊎◌, All, ℕ, ◌+◌, false, true, is_some, List, [], ◌∷◌, length, map, replicate, Option, None, Some}
+use Rattle.std.specs.Prelude.{◌≡◌, ◌≤◌, ◌<◌, ◌⊎◌, All, ℕ, ◌+◌, false, true, is_some, List, [], ◌∷◌, length, map, replicate, Option, None}
+use Rattle.std.specs.Prelude.{Some}
 use Rattle.std.specs.Prelude.{nat_eq}
 use Rattle.std.specs.Prelude.{find, slice_get}
 use Rattle.std.specs.List.{range_with_len}
@@ -114,11 +115,12 @@ pub record MayBeOf (volumes : Volumes) (sizes : List ℕ) (opened : OpenLine) (l
   pub through : is_some new.ticket ≡ true → new.piece.write ≡ true
   pub waits : is_some new.ticket ≡ option_map_or (λ (l : Line). is_through l.command) line false
 
--- the tickets: none, or, of a line that flushes a volume, one for each disk
+-- the tickets: none, or, of a line that flushes a volume and isn't refused, one for each disk
 pub record AreForDisks (volumes : Volumes) (sizes : List ℕ) (opened : OpenLine) (line : Option Line) (tickets : ℕ) : Type 0 where
   pub many : tickets ≡ length sizes
   pub whole : is_whole opened.work ≡ true
   pub flushes : option_map_or (λ (l : Line). is_flush l.command) line false ≡ true
+  pub well : opened.failure ≡ None
   pub stands : is_some (lv_of volumes opened.key) ≡ true
 
 abbrev pub AreTickets : Volumes → List ℕ → OpenLine → Option Line → ℕ → Type 0

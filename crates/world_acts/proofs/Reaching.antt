@@ -1,12 +1,15 @@
 -- Acts that follow one another: none, one, those of two lists, and what each of them keeps.
-use Rattle.std.proofs.Common.{◌≡◌, ℕ, Bool, true, not, All, List, [], ◌∷◌, ◌++◌, Option, refl, sym, ap, subst, ◌∙◌, true≢false}
+use Rattle.std.proofs.Common.{◌≡◌, ℕ, Bool, true, not, All, List, [], ◌∷◌, ◌++◌, Option, None, Some, refl, sym, ap, subst, ◌∙◌, true≢false}
+use Rattle.std.specs.Option.{option_or}
 use Rattle.std.proofs.lemmas.Bool.{and_parts, eq-eqb}
 use Rattle.std.proofs.lemmas.List.Elements.{All-append, All-cons, All-head, All-nil, All-tail, All-weaker}
 use Rattle.sector_base.specs.declared.places.Piece.{Piece}
+use Rattle.claim_table.specs.declared.claim.By.{By}
 use Rattle.claim_table.specs.declared.claim.Entry.{Entry}
+use Rattle.claim_table.specs.declared.claim.Entry.TheVariants.{Deferred, Started}
 use Rattle.world_acts.specs.Acts.{Act, Allowed, Answers, Asks, AsksFlush, Awaits, Begins, Ends, EndsFlush, Enters, Fails, Grows, Holds}
 use Rattle.world_acts.specs.Acts.{LineFails, Marks, Passes, Prepares, Reaches, Readies, Reads, Releases, Runs, Starts, Wakes, World, Writes}
-use Rattle.world_acts.specs.Acts.{after, carries_on, follows, opens_event, owes_more, pieces_entered, prepares, starts}
+use Rattle.world_acts.specs.Acts.{after, carries_on, first_deferral, follows, opens_event, owes_more, pieces_entered, prepares, starts}
 
 pub reaches_none : (may : Act → Bool) (w : World) → Reaches may w w
 reaches_none may w = record { acts = []; all = All-nil (λ (a : Act). may a ≡ true); run = refl }
@@ -56,17 +59,19 @@ start_prepares line (Asks number op tag now) is = refl
 start_prepares line (Fails number why) is = refl
 start_prepares line a is = absurd (true≢false (sym is))
 
-start_enters : (a : Act) (acts : List Act) → starts a ≡ true → pieces_entered (a ∷ acts) ≡ pieces_entered acts
-start_enters (Starts number) acts is = refl
-start_enters (Asks number op tag now) acts is = refl
-start_enters (Fails number why) acts is = refl
+start_enters : (a : Act) (acts : List Act) → starts a ≡ true
+    → (pieces_entered (a ∷ acts) ≡ pieces_entered acts) × (first_deferral (a ∷ acts) ≡ first_deferral acts)
+start_enters (Starts number) acts is = (refl, refl)
+start_enters (Asks number op tag now) acts is = (refl, refl)
+start_enters (Fails number why) acts is = (refl, refl)
 start_enters a acts is = absurd (true≢false (sym is))
 
-none_enters : (acts : List Act) → All (λ (a : Act). starts a ≡ true) acts → pieces_entered acts ≡ []
-none_enters [] all = refl
+none_enters : (acts : List Act) → All (λ (a : Act). starts a ≡ true) acts → (pieces_entered acts ≡ []) × (first_deferral acts ≡ None)
+none_enters [] all = (refl, refl)
 none_enters (a ∷ acts) all =
-    start_enters a acts (All-head (λ (b : Act). starts b ≡ true) a acts all)
-    ∙ none_enters acts (All-tail (λ (b : Act). starts b ≡ true) a acts all)
+    let first = start_enters a acts (All-head (λ (b : Act). starts b ≡ true) a acts all) in
+    let rest = none_enters acts (All-tail (λ (b : Act). starts b ≡ true) a acts all) in
+    (first.0 ∙ rest.0, first.1 ∙ rest.1)
 
 pub starts_follow : (w v : World) → Reaches starts w v → Reaches follows w v
 starts_follow w v goes = reaches_weaker starts follows w v start_follows goes
@@ -82,67 +87,100 @@ prepare_carries line (Asks number op tag now) is = refl
 prepare_carries line (Fails number why) is = refl
 prepare_carries line a is = absurd (true≢false (sym is))
 
-pub prepared_carried : (line : ℕ) (pieces : List Piece) (w v : World) → Prepares line pieces w v → Reaches carries_on w v
-prepared_carried line pieces w v p = reaches_weaker (prepares line) carries_on w v (prepare_carries line) p.reaches
+pub prepared_carried : (line : ℕ) (pieces : List Piece) (first : Option By) (w v : World) → Prepares line pieces first w v
+    → Reaches carries_on w v
+prepared_carried line pieces first w v p = reaches_weaker (prepares line) carries_on w v (prepare_carries line) p.reaches
 
-pub prepares_none : (line : ℕ) (w : World) → Prepares line [] w w
+pub prepares_none : (line : ℕ) (w : World) → Prepares line [] None w w
 unfolding reaches_none
-prepares_none line w = record { reaches = reaches_none (prepares line) w; entered = refl }
+prepares_none line w = record { reaches = reaches_none (prepares line) w; entered = refl; deferred = refl }
 
-pub prepares_starts : (line : ℕ) (w v : World) → Reaches starts w v → Prepares line [] w v
+pub prepares_starts : (line : ℕ) (w v : World) → Reaches starts w v → Prepares line [] None w v
 unfolding reaches_weaker
 prepares_starts line w v goes = record {
   reaches = reaches_weaker starts (prepares line) w v (start_prepares line) goes;
-  entered = none_enters goes.acts goes.all;
+  entered = (none_enters goes.acts goes.all).0;
+  deferred = (none_enters goes.acts goes.all).1;
 }
+
+-- what a piece that enters waits for
+abbrev pub deferral : Entry → Option By
+deferral Started = None
+deferral (Deferred by) = Some by
+
+entry_deferral : (line : ℕ) (piece : Piece) (sectors : List (List ℕ)) (ticket : Option (Unit {0})) (entry : Entry) (acts : List Act)
+    → first_deferral (Enters line piece sectors ticket entry ∷ acts) ≡ option_or (deferral entry) (first_deferral acts)
+entry_deferral line piece sectors ticket Started acts = refl
+entry_deferral line piece sectors ticket (Deferred by) acts = refl
 
 pub prepares_enter : (w : World) (line : ℕ) (piece : Piece) (sectors : List (List ℕ)) (ticket : Option (Unit {0})) (entry : Entry)
     → Allowed w (Enters line piece sectors ticket entry)
-    → Prepares line (piece ∷ []) w (after w (Enters line piece sectors ticket entry))
+    → Prepares line (piece ∷ []) (deferral entry) w (after w (Enters line piece sectors ticket entry))
 unfolding reaches_act
 prepares_enter w line piece sectors ticket entry allowed = record {
   reaches = reaches_act (prepares line) w (Enters line piece sectors ticket entry) (eq-eqb line line refl) allowed;
   entered = refl;
+  deferred = entry_deferral line piece sectors ticket entry [] ∙ or_none (deferral entry);
 }
+  where
+    or_none : (o : Option By) → option_or o None ≡ o
+    or_none None = refl
+    or_none (Some by) = refl
 
-pub prepares_act : (w : World) (line : ℕ) (a : Act) → prepares line a ≡ true → pieces_entered (a ∷ []) ≡ [] → Allowed w a
-    → Prepares line [] w (after w a)
+pub prepares_act : (w : World) (line : ℕ) (a : Act) → prepares line a ≡ true → pieces_entered (a ∷ []) ≡ []
+    → first_deferral (a ∷ []) ≡ None
+    → Allowed w a
+    → Prepares line [] None w (after w a)
 unfolding reaches_act
-prepares_act w line a passes none allowed = record { reaches = reaches_act (prepares line) w a passes allowed; entered = none }
-
-entered_both : (first later : List Act) → pieces_entered (first ++ later) ≡ pieces_entered first ++ pieces_entered later
-entered_both [] later = refl
-entered_both (Enters line piece sectors ticket entry ∷ first) later = ap (λ (ps : List Piece). piece ∷ ps) (entered_both first later)
-entered_both (Begins line opened ∷ first) later = entered_both first later
-entered_both (Awaits line pv ∷ first) later = entered_both first later
-entered_both (LineFails line why ∷ first) later = entered_both first later
-entered_both (Answers line ∷ first) later = entered_both first later
-entered_both (Holds line ∷ first) later = entered_both first later
-entered_both (Passes line ∷ first) later = entered_both first later
-entered_both (Wakes ∷ first) later = entered_both first later
-entered_both (Starts number ∷ first) later = entered_both first later
-entered_both (Asks number op tag now ∷ first) later = entered_both first later
-entered_both (Ends done now ∷ first) later = entered_both first later
-entered_both (Marks pv ∷ first) later = entered_both first later
-entered_both (Fails number why ∷ first) later = entered_both first later
-entered_both (Writes number pv ∷ first) later = entered_both first later
-entered_both (Reads number sectors ∷ first) later = entered_both first later
-entered_both (AsksFlush pv tag now ∷ first) later = entered_both first later
-entered_both (EndsFlush done now ∷ first) later = entered_both first later
-entered_both (Releases pv ∷ first) later = entered_both first later
-entered_both (Readies now ∷ first) later = entered_both first later
-entered_both (Grows v ∷ first) later = entered_both first later
-
-pub prepares_both : (line : ℕ) (first later all : List Piece) (w v u : World) → first ++ later ≡ all → Prepares line first w v
-    → Prepares line later v u
-    → Prepares line all w u
-unfolding reaches_both
-prepares_both line first later all w v u is p q = record {
-  reaches = reaches_both (prepares line) w v u p.reaches q.reaches;
-  entered =
-      entered_both p.reaches.acts q.reaches.acts ∙ ap (λ (ps : List Piece). ps ++ pieces_entered q.reaches.acts) p.entered
-      ∙ ap (λ (ps : List Piece). first ++ ps) q.entered ∙ is;
+prepares_act w line a passes none first allowed = record {
+  reaches = reaches_act (prepares line) w a passes allowed;
+  entered = none;
+  deferred = first;
 }
+
+entered_both : (acts later : List Act)
+    → (pieces_entered (acts ++ later) ≡ pieces_entered acts ++ pieces_entered later)
+    × (first_deferral (acts ++ later) ≡ option_or (first_deferral acts) (first_deferral later))
+entered_both [] later = (refl, refl)
+entered_both (Enters line piece sectors ticket Started ∷ acts) later =
+    let rest = entered_both acts later in
+    (ap (λ (ps : List Piece). piece ∷ ps) rest.0, rest.1)
+entered_both (Enters line piece sectors ticket (Deferred by) ∷ acts) later =
+    (ap (λ (ps : List Piece). piece ∷ ps) (entered_both acts later).0, refl)
+entered_both (Begins line opened ∷ acts) later = entered_both acts later
+entered_both (Awaits line pv ∷ acts) later = entered_both acts later
+entered_both (LineFails line why ∷ acts) later = entered_both acts later
+entered_both (Answers line ∷ acts) later = entered_both acts later
+entered_both (Holds line ∷ acts) later = entered_both acts later
+entered_both (Passes line ∷ acts) later = entered_both acts later
+entered_both (Wakes ∷ acts) later = entered_both acts later
+entered_both (Starts number ∷ acts) later = entered_both acts later
+entered_both (Asks number op tag now ∷ acts) later = entered_both acts later
+entered_both (Ends done now ∷ acts) later = entered_both acts later
+entered_both (Marks pv ∷ acts) later = entered_both acts later
+entered_both (Fails number why ∷ acts) later = entered_both acts later
+entered_both (Writes number pv ∷ acts) later = entered_both acts later
+entered_both (Reads number sectors ∷ acts) later = entered_both acts later
+entered_both (AsksFlush pv tag now ∷ acts) later = entered_both acts later
+entered_both (EndsFlush done now ∷ acts) later = entered_both acts later
+entered_both (Releases pv ∷ acts) later = entered_both acts later
+entered_both (Readies now ∷ acts) later = entered_both acts later
+entered_both (Grows v ∷ acts) later = entered_both acts later
+
+pub prepares_both : (line : ℕ) (pieces others all : List Piece) (first later : Option By) (w v u : World) → pieces ++ others ≡ all
+    → Prepares line pieces first w v
+    → Prepares line others later v u
+    → Prepares line all (option_or first later) w u
+unfolding reaches_both
+prepares_both line pieces others all first later w v u is p q =
+    let both = entered_both p.reaches.acts q.reaches.acts in
+    record {
+      reaches = reaches_both (prepares line) w v u p.reaches q.reaches;
+      entered =
+          both.0 ∙ ap (λ (ps : List Piece). ps ++ pieces_entered q.reaches.acts) p.entered
+          ∙ ap (λ (ps : List Piece). pieces ++ ps) q.entered ∙ is;
+      deferred = both.1 ∙ (λ i. option_or (p.deferred i) (q.deferred i));
+    }
 
 -- what each act keeps that passes the test, all of them keep
 module _ (may : Act → Bool) (P : World → Type 0)

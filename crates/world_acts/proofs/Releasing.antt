@@ -32,7 +32,7 @@ use Rattle.world_acts.proofs.Tables.{at_number, removed}
 use Rattle.world_acts.proofs.WaitsKept.{count_first, one_disk, unserved}
 
 -- what waits on the disks, without the first
-abbrev without_first : Waits → ℕ → List DiskWaits
+abbrev pub without_first : Waits → ℕ → List DiskWaits
 without_first waits pv = set waits.disks pv (record (disk_waits waits pv) { served = drop 1 (disk_waits waits pv).served })
 
 -- what that is
@@ -41,7 +41,7 @@ pub record FirstGone (waits : Waits) (pv : ℕ) (it : Waiting) : Type 0 where
   pub counted : (test : Waiting → Bool) → waiting test (without_first waits pv) + hit (test it) ≡ waiting test waits.disks
   pub nexts : unserved (without_first waits pv) ≡ unserved waits.disks
 
-first_gone : (waits : Waits) (pv : ℕ) (it : Waiting) (rest : List Waiting) → (disk_waits waits pv).served ≡ it ∷ rest
+pub first_gone : (waits : Waits) (pv : ℕ) (it : Waiting) (rest : List Waiting) → (disk_waits waits pv).served ≡ it ∷ rest
     → FirstGone waits pv it
 first_gone waits pv it rest served =
     let x : DiskWaits = disk_waits waits pv in
@@ -67,7 +67,7 @@ first_gone waits pv it rest served =
     }
 
 -- a line of which something is left is open
-open_by_left : (opens : Opens) (line : ℕ) → 0 < left_of opens line → (o : OpenLine) × (open_at opens line ≡ Some o)
+pub open_by_left : (opens : Opens) (line : ℕ) → 0 < left_of opens line → (o : OpenLine) × (open_at opens line ≡ Some o)
 open_by_left opens line some = by (open_at opens line) refl some
   where
     by : (x : Option OpenLine) → open_at opens line ≡ x → 0 < option_map_or (λ (o : OpenLine). o.left) x 0

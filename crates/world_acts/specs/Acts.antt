@@ -1,6 +1,7 @@
 -- Acts: an event is a list of them, and each adds one step of the shelf or one entry at the most.
-use Rattle.std.specs.Prelude.{◌≡◌, ◌≤◌, ◌<◌, ◌≢◌, ◌⊎◌, All, ℕ, ◌+◌, ◌==◌, Bool, true, false, not, ◌&&◌, IsTrue, List, [], ◌∷◌, length, Option}
-use Rattle.std.specs.Prelude.{None, Some, filter, is_some, option_map, slice_get}
+use Rattle.std.specs.Prelude.{◌≡◌, ◌≤◌, ◌<◌, ◌≢◌, ◌⊎◌, All, ℕ, ◌+◌, ◌==◌, Bool, true, false, not, ◌&&◌, IsTrue, List, [], ◌∷◌, length}
+use Rattle.std.specs.Prelude.{Option}
+use Rattle.std.specs.Prelude.{IfSome, None, Some, filter, is_some, option_map, slice_get}
 use Rattle.std.specs.FinSet as set
 use Rattle.std.specs.Option.{option_map_or}
 use Rattle.sector_base.specs.declared.places.Piece.{Piece}
@@ -16,7 +17,9 @@ use Rattle.disk_model.specs.declared.ops.Op.{Op}
 use Rattle.disk_model.specs.declared.ops.Op.TheVariants.{Flush}
 use Rattle.line_table.specs.Steps.{is_open}
 use Rattle.claim_table.specs.Claims.{IsEntry, ready_at}
+use Rattle.claim_table.specs.declared.claim.By.{By}
 use Rattle.claim_table.specs.declared.claim.Entry.{Entry}
+use Rattle.claim_table.specs.declared.claim.Entry.TheVariants.{Deferred}
 use Rattle.flush_plan.specs.Plans.{flight_of, marks_of}
 use Rattle.flush_waits.specs.declared.ticket.Waiter.{Waiter}
 use Rattle.flush_waits.specs.declared.ticket.Waiter.TheVariants as waiter
@@ -167,12 +170,17 @@ pub record MayEnter (w : World) (line : ℕ) (piece : Piece) (sectors : List (Li
   pub spare : 0 < w.core.pieces.claims.spare
   pub room : IsBorne w (more w.core.owed (piece_room piece (is_some ticket)))
 
--- a line waits on a disk for the last write of its volume there, where no flush that has ended serves that
+-- the answer says that a disk has failed
+abbrev pub TellsDisk : Answer → Type 0
+TellsDisk why = (pv : ℕ) × (why ≡ PvFailed pv)
+
+-- a line that isn't refused waits on a disk for the last write of its volume there, where no flush that has ended serves that
 pub record MayAwait (w : World) (line pv : ℕ) : Type 0 where
   pub opened : OpenLine
   pub is_open : open_at w.core.opens line ≡ Some opened
   pub whole : is_whole opened.work ≡ true
   pub flushes : option_map_or (λ (l : Line). is_flush l.command) (slice_get w.core.lines.begun line) false ≡ true
+  pub well : IfSome opened.failure TellsDisk
   pub disk : pv < length w.shelf.sizes
   pub behind : (marks_of w.core.waits.plan pv).ended < dirty_at w.core.waits opened.key pv
   pub other : w.core.barrier ≢ Some line
@@ -194,15 +202,13 @@ line_of_waiter c (waiter.Piece number) = (live_of c.pieces number).line
 abbrev pub line_released : Core → ℕ → Option ℕ
 line_released c pv = option_map (λ (w : Waiting). line_of_waiter c w.waiter) (released_at c pv)
 
--- a line may fail as a whole: it flushes its volume, or is the first that the last flush of a disk served, which has ended
+-- a line may fail as a whole: it flushes its volume and isn't refused, or is the first that the last flush of a disk served, which has
+-- ended
 abbrev pub MayLineFail : Core → ℕ → Type 0
 MayLineFail c line =
-    (option_map_or (λ (l : Line). is_flush l.command) (slice_get c.lines.begun line) false ≡ true)
+    ((option_map_or (λ (l : Line). is_flush l.command) (slice_get c.lines.begun line) false ≡ true)
+    × IfSome (open_of c.opens line).failure TellsDisk)
     ⊎ ((pv : ℕ) × (flight_of c.waits.plan pv ≡ None) × (line_released c pv ≡ Some line))
-
--- the answer says that a disk has failed
-abbrev pub TellsDisk : Answer → Type 0
-TellsDisk why = (pv : ℕ) × (why ≡ PvFailed pv)
 
 -- when an act may be
 abbrev pub Allowed : World → Act → Type 0
@@ -290,16 +296,23 @@ prepares line (Awaits n pv) = n == line
 prepares line (LineFails n why) = n == line
 prepares line a = starts a
 
+-- what the first of the pieces that enter and wait conflicts with
+abbrev pub first_deferral : List Act → Option By
+first_deferral [] = None
+first_deferral (Enters line piece sectors ticket (Deferred by) ∷ acts) = Some by
+first_deferral (_ ∷ acts) = first_deferral acts
+
 -- the pieces that enter
 abbrev pub pieces_entered : List Act → List Piece
 pieces_entered [] = []
 pieces_entered (Enters line piece sectors ticket entry ∷ acts) = piece ∷ pieces_entered acts
 pieces_entered (_ ∷ acts) = pieces_entered acts
 
--- such acts lead from one world to another, in which these pieces enter
-pub record Prepares (line : ℕ) (pieces : List Piece) (w v : World) : Type 0 where
+-- such acts lead from one world to another, in which these pieces enter, and the first that waits conflicts with this
+pub record Prepares (line : ℕ) (pieces : List Piece) (first : Option By) (w v : World) : Type 0 where
   pub reaches : Reaches (prepares line) w v
   pub entered : pieces_entered reaches.acts ≡ pieces
+  pub deferred : first_deferral reaches.acts ≡ first
 
 -- how much is left to do: operations in flight, and those that may still be submitted
 abbrev pub left_in : World → ℕ

@@ -15,6 +15,7 @@ dirty-last-requires g c = record {
         opened = c.requires.opened;
         whole = c.requires.whole;
         flushes = c.requires.flushes;
+        well = c.requires.well;
         stands = c.requires.stands;
         disk = c.requires.disk;
         other = c.requires.other;
@@ -44,6 +45,7 @@ returns g c =
       opened = c.requires.opened;
       whole = c.requires.whole;
       flushes = c.requires.flushes;
+      well = c.requires.well;
       stands = c.requires.stands;
       disk = c.requires.disk;
       other = c.requires.other;
@@ -54,6 +56,7 @@ returns g c =
     (sym (open_is w.core.opens c.args.line c.get.result.now c.get.ensures))) c.await_write.ensures in
     record {
       prepares = is.prepares;
+      well = is.well;
       room = is.room;
       calm = is.calm;
       released = is.released;

@@ -39,6 +39,7 @@ await_flush-requires g c =
       opened = is.opened;
       whole = is.whole;
       flushes = is.flushes;
+      well = is.well;
       stands = is.stands;
       disk = is.disk;
       other = is.other;
@@ -58,6 +59,7 @@ loop-ticket-preserved g c =
     (length c.args.tickets.items) next c.loop-ticket.invariant
     (record {
       prepares = is.prepares;
+      well = is.well;
       room = is.room;
       calm = is.calm;
       released = is.released;

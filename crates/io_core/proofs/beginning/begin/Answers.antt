@@ -1,4 +1,4 @@
-use Rattle.std.proofs.Common.{Some, length, sym, ◌∙◌, arith, true≢false}
+use Rattle.std.proofs.Common.{Some, sym, ◌∙◌, arith, true≢false}
 use Rattle.world_acts.specs.declared.state.Core.{Core}
 use Rattle.world_acts.specs.Acts.{World, world}
 use Rattle.io_core.proofs.LineBegins.{IsHeld, begins_so, holds_so, may_begin, may_carry}
@@ -48,9 +48,9 @@ returns g c =
       begins =
           begins_so w c.args.line c.args.plan
           (record { orderly = r.orderly; settled = r.settled; free = r.free; may = r.may }) c.open_line-place.new.core
-          (world (g.S.Shelf.state e.new.shelf) e.new.core) c.open_line-place.result c.open_line-place.ensures.after
-          c.open_line-place.ensures.place
-          (record { carried = e.ensures.carried; settled = e.ensures.settled }) (λ waits.
+          (world (g.S.Shelf.state e.new.shelf) e.new.core) c.open_line-place.result e.result c.how_begun.result
+          c.open_line-place.ensures.after c.open_line-place.ensures.place
+          (record { carried = e.ensures.carried; settled = e.ensures.settled }) c.how_begun.ensures (λ waits.
           elim c.else-is_wait.branch [
             | else-is_wait-via-then-is_wait+else-open_count-gt1 b ↦ omega (arith, b.open_count.ensures, b.if-open_count-gt1.false)
             | else-is_wait-via-else-is_wait b ↦ absurd (true≢false (sym (r.all waits) ∙ b.if-is_wait.false))

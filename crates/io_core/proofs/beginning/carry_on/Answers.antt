@@ -38,7 +38,7 @@ close_line-requires g c =
     let s = c.await_flushes.ensures in
     let t = c.enter_pieces-first.ensures in
     let is : MayClose u c.args.line =
-    then_closes w v u c.args.line (length c.args.tickets.items) c.args.pieces.items c.requires.may
+    then_closes w v u c.args.line (length c.args.tickets.items) c.args.pieces.items c.enter_pieces-first.result c.requires.may
     (record {
       prepares = s.prepares;
       none = s.none;
@@ -60,8 +60,9 @@ returns g c =
     let s = c.await_flushes.ensures in
     let t = c.enter_pieces-first.ensures in
     let e = c.close_line.ensures in
-    let is : IsCarriedOn c.args.line (pieces_in c.args.pieces.items) w (world u.shelf c.close_line.new.core) =
-    carried_on w v u (world u.shelf c.close_line.new.core) c.args.line (length c.args.tickets.items) c.args.pieces.items c.requires.may
+    let is : IsCarriedOn c.args.line (pieces_in c.args.pieces.items) c.enter_pieces-first.result w (world u.shelf c.close_line.new.core) =
+    carried_on w v u (world u.shelf c.close_line.new.core) c.args.line (length c.args.tickets.items) c.args.pieces.items
+    c.enter_pieces-first.result c.requires.may
     (record {
       prepares = s.prepares;
       none = s.none;

@@ -1,3 +1,4 @@
+use Rattle.std.proofs.Common.{None, Some}
 use Rattle.world_acts.specs.Acts.{World, world}
 use Rattle.io_core.proofs.PieceEnters.{PieceEnters, deferred_so, orderly_so, started_so}
 use Rattle.io_core.proofs.beginning.enter_piece.Goals as goal
@@ -21,7 +22,7 @@ returns-in-Started g c =
     let r = c.requires in
     let e = c.enter-number in
     let s = c.start.ensures in
-    let is : PieceEnters c.args.line c.args.new w v =
+    let is : PieceEnters c.args.line c.args.new None w v =
     started_so w c.args.line c.args.new
     (record { orderly = r.orderly; opened = r.opened; may = r.may; room = r.room; spare = r.spare; few = r.few }) e.new.core e.result.0
     e.result.1 v c.agree.ensures.claimed c.agree.ensures.numbered e.ensures.number e.ensures.answer c.in-Started.is e.ensures.after
@@ -43,7 +44,7 @@ returns-in-Deferred g c =
     let w : World = world (g.S.Shelf.state c.args.shelf.now) c.args.core.now in
     let r = c.requires in
     let e = c.enter-number in
-    let is : PieceEnters c.args.line c.args.new w (world w.shelf e.new.core) =
+    let is : PieceEnters c.args.line c.args.new (Some c.in-Deferred.by) w (world w.shelf e.new.core) =
     deferred_so w c.args.line c.args.new
     (record { orderly = r.orderly; opened = r.opened; may = r.may; room = r.room; spare = r.spare; few = r.few }) e.new.core e.result.1
     c.in-Deferred.by c.claims_stay_apart.ensures.free c.agree.ensures.numbered e.ensures.answer c.in-Deferred.is e.ensures.after in

@@ -1,6 +1,7 @@
-use Rattle.std.proofs.Common.{◌≡◌, ◌∷◌, [], List, reverse, sym, ap, subst, ◌∙◌, arith}
+use Rattle.std.proofs.Common.{◌≡◌, ◌∷◌, [], List, None, Option, reverse, sym, ap, subst, ◌∙◌, arith}
 use Rattle.std.proofs.lemmas.List.{append-nil, nil_from_length, reverse-append, reverse-reverse}
 use Rattle.sector_base.specs.declared.places.Piece.{Piece}
+use Rattle.claim_table.specs.declared.claim.By.{By}
 use Rattle.world_acts.specs.Acts.{Prepares, World, world}
 use Rattle.line_plans.specs.declared.preparing.NewPiece.{NewPiece}
 use Rattle.io_core.proofs.PieceEnters.{MayEnterPiece, PiecesEnter, first_enters, none_entered, one_entered, pieces_in}
@@ -9,7 +10,7 @@ use Rattle.io_core.proofs.beginning.enter_pieces.Goals as goal
 pub loop-new-init : goal.loop-new-init
 loop-new-init g c =
     let w : World = world (g.S.Shelf.state c.args.shelf.now) c.args.core.now in
-    subst (λ (l : List NewPiece). PiecesEnter c.args.line w w c.args.pieces.items l)
+    subst (λ (l : List NewPiece). PiecesEnter c.args.line None w w c.args.pieces.items l)
     (sym (ap (λ (l : List NewPiece). reverse l) c.reverse.ensures.items ∙ reverse-reverse c.args.pieces.items))
     (none_entered c.args.line w c.args.pieces.items
     (record {
@@ -27,7 +28,7 @@ enter_piece-by-requires g c =
     let rest : List NewPiece = c.pop.new.self.items in
     let next : reverse c.loop-new.rest.items ≡ c.in-Some.new ∷ reverse rest =
     ap (λ (l : List NewPiece). reverse l) c.in-Some.ensures.items ∙ reverse-append rest (c.in-Some.new ∷ []) in
-    let all = subst (λ (l : List NewPiece). PiecesEnter c.args.line
+    let all = subst (λ (l : List NewPiece). PiecesEnter c.args.line c.loop-new.first
     (world (g.S.Shelf.state c.args.shelf.now) c.args.core.now) v c.args.pieces.items l) next c.loop-new.invariant in
     let is : MayEnterPiece v c.args.line c.in-Some.new = first_enters c.args.line v c.in-Some.new (reverse rest) all.may in
     record { orderly = is.orderly; opened = is.opened; may = is.may; room = is.room; spare = is.spare; few = is.few }
@@ -41,8 +42,9 @@ loop-new-preserved g c =
     let next : reverse c.loop-new.rest.items ≡ c.in-Some.new ∷ reverse rest =
     ap (λ (l : List NewPiece). reverse l) c.in-Some.ensures.items ∙ reverse-append rest (c.in-Some.new ∷ []) in
     let is = c.enter_piece-by.ensures in
-    one_entered c.args.line w v u c.in-Some.new c.args.pieces.items (reverse rest)
-    (subst (λ (l : List NewPiece). PiecesEnter c.args.line w v c.args.pieces.items l) next c.loop-new.invariant)
+    subst (λ (by : Option By). PiecesEnter c.args.line by w u c.args.pieces.items (reverse rest)) (sym c.or-first.ensures)
+    (one_entered c.args.line c.loop-new.first c.enter_piece-by.result w v u c.in-Some.new c.args.pieces.items (reverse rest)
+    (subst (λ (l : List NewPiece). PiecesEnter c.args.line c.loop-new.first w v c.args.pieces.items l) next c.loop-new.invariant)
     (record {
       prepares = is.prepares;
       room = is.room;
@@ -53,19 +55,19 @@ loop-new-preserved g c =
       barrier = is.barrier;
       waits = is.waits;
       left = is.left;
-    })
+    }))
 
 pub returns : goal.returns
 returns g c =
     let w : World = world (g.S.Shelf.state c.args.shelf.now) c.args.core.now in
     let v : World = world (g.S.Shelf.state c.loop-new.shelf) c.loop-new.core in
-    let k : PiecesEnter c.args.line w v c.args.pieces.items [] =
-    subst (λ (l : List NewPiece). PiecesEnter c.args.line w v c.args.pieces.items (reverse l))
+    let k : PiecesEnter c.args.line c.loop-new.first w v c.args.pieces.items [] =
+    subst (λ (l : List NewPiece). PiecesEnter c.args.line c.loop-new.first w v c.args.pieces.items (reverse l))
     (nil_from_length c.loop-new.rest.items (omega (arith, c.in_default.ensures.cases.0, c.loop-new.rest.ok.0))) c.loop-new.invariant
     in
     let all : k.done ≡ pieces_in c.args.pieces.items = sym (append-nil k.done) ∙ k.some in
     record {
-      prepares = subst (λ (ps : List Piece). Prepares c.args.line ps w v) all k.has.prepares;
+      prepares = subst (λ (ps : List Piece). Prepares c.args.line ps c.loop-new.first w v) all k.has.prepares;
       calm = k.has.calm;
       ready = k.has.ready;
       opens = k.has.opens;

@@ -16,7 +16,7 @@ returns-then-not-wants g c = record {
   reaches = reaches_none follows (world (g.S.Shelf.state c.args.shelf.now) c.args.core.now);
   settled = c.requires.settled;
   here = sym c.wants.ensures ∙ c.if-not-wants.true;
-  barrier = refl;
+  opens = refl;
   others = λ other apart not_wanted. not_wanted;
 }
 
@@ -28,4 +28,4 @@ returns g c =
     (g.S.Shelf.state c.submit_flush.new.shelf) c.submit_flush.new.core c.requires.orderly c.requires.settled
     (sym c.wants.ensures ∙ c.if-not-wants.false) c.submit_flush.ensures.1 (g.met.S.Shelf.lawful c.submit_flush.new.shelf)
     c.submit_flush.ensures.2 in
-    record { reaches = is.reaches; settled = is.settled; here = is.here; barrier = is.barrier; others = is.others }
+    record { reaches = is.reaches; settled = is.settled; here = is.here; opens = is.opens; others = is.others }

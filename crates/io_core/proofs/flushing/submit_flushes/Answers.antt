@@ -10,7 +10,7 @@ pub loop-pv-init : goal.loop-pv-init
 loop-pv-init g c = record {
   reaches = reaches_none follows (world (g.S.Shelf.state c.args.shelf.now) c.args.core.now);
   settled = c.requires.settled;
-  barrier = refl;
+  opens = refl;
   flushed = λ pv below. absurd (omega (arith, below));
 }
 
@@ -36,10 +36,10 @@ loop-pv-preserved g c =
     record {
       reaches = reaches_both follows w v u c.loop-pv.invariant.reaches is.reaches;
       settled = is.settled;
-      barrier = is.barrier ∙ c.loop-pv.invariant.barrier;
+      opens = is.opens ∙ c.loop-pv.invariant.opens;
       flushed =
           flushed_more c.loop-pv.pv v u
-          (record { reaches = is.reaches; settled = is.settled; here = is.here; barrier = is.barrier; others = is.others })
+          (record { reaches = is.reaches; settled = is.settled; here = is.here; opens = is.opens; others = is.others })
           c.loop-pv.invariant.flushed;
     }
 
@@ -52,7 +52,7 @@ returns g c =
     ap (λ (l : List ℕ). length l) (sizes_reach follows w v c.loop-pv.invariant.reaches) in
     record {
       reaches = c.loop-pv.invariant.reaches;
-      barrier = c.loop-pv.invariant.barrier;
+      opens = c.loop-pv.invariant.opens;
       rest = record {
         settled = c.loop-pv.invariant.settled;
         flushed =

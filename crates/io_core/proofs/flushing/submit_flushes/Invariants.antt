@@ -8,6 +8,6 @@ abbrev pub invariant-loop-pv : goal.invariant-loop-pv
 invariant-loop-pv g l = record {
   reaches : Reaches follows (world (g.S.Shelf.state l.fn.shelf) l.fn.core) (world (g.S.Shelf.state l.shelf) l.core);
   settled : IsSettled l.core;
-  barrier : l.core.barrier ≡ l.fn.core.barrier;
+  opens : l.core.opens ≡ l.fn.core.opens;
   flushed : (pv : ℕ) → pv < l.pv → is_wanted l.core.waits pv ≡ false;
 }

@@ -19,8 +19,8 @@ submit_flushes-requires-clause-orderly g c =
 
 pub returns-clause-begins : goal.returns-clause-begins
 returns-clause-begins g c =
-    begins_on (world (g.S.Shelf.state c.args.shelf.now) c.args.core.now) _ _ c.args.line c.begin-begun.ensures.begins
-    c.submit_flushes.ensures.reaches c.submit_flushes.ensures.barrier
+    begins_on (world (g.S.Shelf.state c.args.shelf.now) c.args.core.now) _ _ c.args.line c.begin-begun.result c.begin-begun.ensures.begins
+    c.submit_flushes.ensures.reaches c.submit_flushes.ensures.opens
 
 pub returns-clause-kept : goal.returns-clause-kept
 returns-clause-kept g c =

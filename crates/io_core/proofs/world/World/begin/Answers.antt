@@ -20,5 +20,6 @@ pub returns-in-Ok-clause-begun : goal.returns-in-Ok-clause-begun
 returns-in-Ok-clause-begun g c =
     let mid = world (g.S.Shelf.state c.prepare.new.shelf) c.prepare.new.core in
     let new = world (g.S.Shelf.state c.begin_prepared.new.shelf) c.begin_prepared.new.core in
-    seen_begun g.S.Shelf.state _ _ c.self.view_is mid new c.args.line c.prepare.ensures.grown
-    (subst (λ (l : Line). BeginsIn mid l new) c.into_line-line.ensures.line c.begin_prepared.ensures.begins)
+    seen_begun g.S.Shelf.state _ _ c.self.view_is mid new c.args.line c.begin_prepared.result c.prepare.ensures.grown
+    (subst (λ (l : Line). BeginsIn mid l c.begin_prepared.result new) c.into_line-line.ensures.line c.begin_prepared.ensures.begins)
+    c.begin_prepared.ensures.kept.rest

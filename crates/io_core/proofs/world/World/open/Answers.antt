@@ -16,3 +16,6 @@ invariant_of-result g c =
     c.requires.idle c.requires.few (subst (λ (f : Found). IfSome f.group IsAccepted) c.found.ensures.found c.see_accepted.ensures)
     c.requires.lies.disks c.requires.lies.places made.0 c.core_of-core.ensures.volumes (tables.0 ∙ made.1) tables.1 (tables.2 ∙ made.2)
     (tables.3 ∙ made.3 ∙ ap (λ n. new_waits n (length parts.rows.items)) c.count.ensures) rest.1 rest.2
+
+pub returns-clause-kept : goal.returns-clause-kept
+returns-clause-kept g c = invariant_of-result g c

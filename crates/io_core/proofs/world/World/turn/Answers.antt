@@ -16,4 +16,4 @@ returns-in-Some g c =
     turned_well g.S.Shelf.state _ _ c.self.view_is (g.S.Shelf.state c.reap.new.self) _ c.in-Some.done c.self.invariant
     (c.take.ensures.follows old c.self.invariant
     (completes_ready old c.in-Some.ensures.looked (g.S.Shelf.state c.reap.new.self) c.in-Some.done c.in-Some.ensures.makes
-    c.in-Some.ensures.cases))
+    c.in-Some.ensures.cases)) c.take.ensures.kept.rest
