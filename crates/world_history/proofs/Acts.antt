@@ -1,0 +1,168 @@
+-- Acts that follow one another: what each of them keeps told, all of them do.
+use Rattle.std.proofs.Common.{◌≡◌, All, ℕ, ◌+◌, Bool, true, false, cond, ◌&&◌, ◌==◌, List, [], ◌∷◌, ◌++◌, Option, refl, sym, subst, arith}
+use Rattle.std.proofs.Common.{true≢false}
+use Rattle.std.proofs.lemmas.Bool.{eqb-true}
+use Rattle.std.proofs.lemmas.List.Elements.{All-head, All-tail}
+use Rattle.sector_base.specs.declared.places.Piece.{Piece}
+use Rattle.data_lines.specs.DataLines.{in_range}
+use Rattle.claim_table.specs.declared.claim.By.{By}
+use Rattle.volume_history.specs.Chronicles.{ChronicleEntry}
+use Rattle.world_acts.specs.Acts.{Act, Allowed, Answers, Asks, AsksFlush, Awaits, Enters, Fails, Holds, LineFails}
+use Rattle.world_acts.specs.Acts.{Marks, Passes, Prepares, Reaches, Reads, Releases, Runs, Starts, Wakes, World, Writes, after, follows}
+use Rattle.world_acts.specs.Acts.{pieces_entered, prepares}
+use Rattle.world_acts.specs.Orderly.{IsOrderly}
+use Rattle.world_acts.proofs.LinesKept.{hit}
+use Rattle.world_acts.proofs.Orderly.{orderly_after}
+use Rattle.world_acts.proofs.Reaching.{reaches_keep}
+use Rattle.world_history.specs.Entries.{entries_of}
+use Rattle.world_history.specs.Told.{IsTold, none_coming}
+use Rattle.world_history.proofs.Covering.{coming_of, covering, covering_more}
+use Rattle.world_history.proofs.LineActs.{await_told, enter_told, hold_told, line_fail_told, release_told}
+use Rattle.world_history.proofs.LineClosed.{answer_told}
+use Rattle.world_history.proofs.Passed.{pass_told}
+use Rattle.world_history.proofs.PieceActs.{fail_told, read_told, write_told}
+use Rattle.world_history.proofs.Quiet.{line_still, quiet_told}
+use Rattle.world_history.proofs.ShortActs.{ask_flush_told, ask_told, mark_told, start_told, wake_told}
+
+-- some entries say what a world has done
+pub record HasToldEntries (start : ℕ) (w : World) : Type 0 where
+  pub orderly : IsOrderly w
+  pub entries : List ChronicleEntry
+  pub told : IsTold start none_coming w entries
+
+-- the same pieces are still to enter
+pub same_coming : {start : ℕ} {coming coming' : ℕ → ℕ → ℕ} {w : World} {es : List ChronicleEntry} → ((q x : ℕ) → coming' q x ≡ coming q x)
+    → IsTold start coming w es
+    → IsTold start coming' w es
+same_coming {start} {coming} {coming'} {w} same t =
+    quiet_told t coming' w refl refl refl (omega arith)
+    (λ n o at. line_still o (λ x. let s = same n x in omega (arith, s)) (omega arith) (t.lines n o at)) t.through t.waits
+
+-- ---- what follows
+
+module _ (start : ℕ) (w : World) (o : IsOrderly w) (es : List ChronicleEntry) (t : IsTold start none_coming w es) where
+  told_follows : (a : Act) → follows a ≡ true → Allowed w a → IsTold start none_coming (after w a) (entries_of w a ++ es)
+  told_follows (LineFails line why) is may = line_fail_told t o line why may
+  told_follows (Answers line) is may = answer_told t o (λ q x. refl) line may
+  told_follows (Holds line) is may = hold_told t line may
+  told_follows (Passes line) is may = pass_told t o (λ q x. refl) line may
+  told_follows Wakes is may = wake_told t
+  told_follows (Starts number) is may = start_told t o number may
+  told_follows (Asks number op tag now) is may = ask_told t o number op tag now may
+  told_follows (Marks pv) is may = mark_told t pv
+  told_follows (Fails number why) is may = fail_told t o number why may
+  told_follows (Writes number pv) is may = write_told t o number pv may
+  told_follows (Reads number sectors) is may = read_told t o number sectors may
+  told_follows (AsksFlush pv tag now) is may = ask_flush_told t pv tag now may
+  told_follows (Releases pv) is may = release_told t o pv may
+  told_follows a is may = absurd (true≢false (sym is))
+
+pub follows_told : {start : ℕ} {w v : World} → Reaches follows w v → HasToldEntries start w → HasToldEntries start v
+follows_told {start} {w} {v} goes h =
+    reaches_keep follows (HasToldEntries start)
+    (λ u a is may k. record {
+      orderly = orderly_after u a k.orderly may;
+      entries = entries_of u a ++ k.entries;
+      told = told_follows start u k.orderly k.entries k.told a is may;
+    }) w v goes h
+
+-- ---- a line is prepared
+
+module _ (start : ℕ) (line : ℕ) where
+  -- of these pieces are still to enter
+  record IsPreparing (pieces : List Piece) (w : World) : Type 0 where
+    orderly : IsOrderly w
+    entries : List ChronicleEntry
+    told : IsTold start (coming_of line pieces) w entries
+
+  enters_less : (n : ℕ) (piece : Piece) (pieces : List Piece) → (n == line) ≡ true → (q x : ℕ)
+      → coming_of line (piece ∷ pieces) q x ≡ coming_of line pieces q x + hit ((n == q) && in_range piece.first piece.count x)
+  enters_less n piece pieces own q x =
+      subst (λ (k : ℕ). coming_of line (piece ∷ pieces) q x
+      ≡ coming_of line pieces q x + hit ((k == q) && in_range piece.first piece.count x)) (sym (eqb-true n line own))
+      (by (line == q))
+    where
+      by : (b : Bool)
+          → cond b (covering x (piece ∷ pieces)) 0 ≡ cond b (covering x pieces) 0 + hit (b && in_range piece.first piece.count x)
+      by true = let more = covering_more x piece pieces in omega (arith, more)
+      by false = refl_zero
+        where
+          refl_zero : ◌≡◌ {A = ℕ} 0 (0 + 0)
+          refl_zero = omega arith
+
+  later : (a : Act) (acts : List Act) → All (λ (b : Act). prepares line b ≡ true) (a ∷ acts)
+      → All (λ (b : Act). prepares line b ≡ true) acts
+  later a acts all = All-tail (λ (b : Act). prepares line b ≡ true) a acts all
+
+  prepared : (acts : List Act) (w v : World) → All (λ (a : Act). prepares line a ≡ true) acts → Runs w acts v
+      → IsPreparing (pieces_entered acts) w
+      → IsPreparing [] v
+  prepared [] w v all run k = subst (λ (x : World). IsPreparing [] x) (sym run) k
+  prepared (Enters n piece sectors ticket entry ∷ acts) w v all run k =
+      let own : (n == line) ≡ true = All-head (λ (b : Act). prepares line b ≡ true) (Enters n piece sectors ticket entry) acts all in
+      prepared acts (after w (Enters n piece sectors ticket entry)) v (later (Enters n piece sectors ticket entry) acts all) run.1
+      (record {
+        orderly = orderly_after w (Enters n piece sectors ticket entry) k.orderly run.0;
+        entries = k.entries;
+        told =
+            enter_told k.told (coming_of line (pieces_entered acts)) n piece sectors ticket entry
+            (enters_less n piece (pieces_entered acts) own) run.0;
+      })
+  prepared (Awaits n pv ∷ acts) w v all run k =
+      prepared acts (after w (Awaits n pv)) v (later (Awaits n pv) acts all) run.1
+      (record {
+        orderly = orderly_after w (Awaits n pv) k.orderly run.0;
+        entries = k.entries;
+        told = await_told k.told k.orderly n pv run.0;
+      })
+  prepared (LineFails n why ∷ acts) w v all run k =
+      prepared acts (after w (LineFails n why)) v (later (LineFails n why) acts all) run.1
+      (record {
+        orderly = orderly_after w (LineFails n why) k.orderly run.0;
+        entries = k.entries;
+        told = line_fail_told k.told k.orderly n why run.0;
+      })
+  prepared (Starts number ∷ acts) w v all run k =
+      prepared acts (after w (Starts number)) v (later (Starts number) acts all) run.1
+      (record {
+        orderly = orderly_after w (Starts number) k.orderly run.0;
+        entries = k.entries;
+        told = start_told k.told k.orderly number run.0;
+      })
+  prepared (Asks number op tag now ∷ acts) w v all run k =
+      prepared acts (after w (Asks number op tag now)) v (later (Asks number op tag now) acts all) run.1
+      (record {
+        orderly = orderly_after w (Asks number op tag now) k.orderly run.0;
+        entries = k.entries;
+        told = ask_told k.told k.orderly number op tag now run.0;
+      })
+  prepared (Fails number why ∷ acts) w v all run k =
+      prepared acts (after w (Fails number why)) v (later (Fails number why) acts all) run.1
+      (record {
+        orderly = orderly_after w (Fails number why) k.orderly run.0;
+        entries = entries_of w (Fails number why) ++ k.entries;
+        told = fail_told k.told k.orderly number why run.0;
+      })
+  prepared (a ∷ acts) w v all run k =
+      absurd (true≢false (sym (All-head (λ (b : Act). prepares line b ≡ true) a acts all)))
+
+  pub prepares_told : {pieces : List Piece} {first : Option By} {w v : World} → Prepares line pieces first w v → IsOrderly w
+      → (es : List ChronicleEntry)
+      → IsTold start (coming_of line pieces) w es
+      → HasToldEntries start v
+  prepares_told {pieces} {first} {w} {v} p orderly es t =
+      let k = prepared p.reaches.acts w v p.reaches.all p.reaches.run
+      (record {
+        orderly = orderly;
+        entries = es;
+        told = subst (λ (l : List Piece). IsTold start (coming_of line l) w es) (sym p.entered) t;
+      }) in
+      record {
+        orderly = k.orderly;
+        entries = k.entries;
+        told = same_coming (λ q x. sym (no_more (line == q))) k.told;
+      }
+    where
+      no_more : (b : Bool) → ◌≡◌ {A = ℕ} (cond b 0 0) 0
+      no_more true = refl
+      no_more false = refl
