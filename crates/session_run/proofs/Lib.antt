@@ -4,4 +4,6 @@ mod FrontLines
 mod Refusing
 mod RunCommands
 mod RunLines
+mod SessionLines
+mod SomeSectors
 mod Unbegun

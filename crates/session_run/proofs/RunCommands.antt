@@ -37,92 +37,114 @@ seen : {A : Type 0} (o : Option A) → (o ≡ None) ⊎ ((x : A) × (o ≡ Some 
 seen None = inl refl
 seen (Some x) = inr (x, refl)
 
-ok_same : {A E : Type 0} (x y : A) → ◌≡◌ {A = Result A E} (Ok x) (Ok y) → x ≡ y
+pub ok_same : {A E : Type 0} (x y : A) → ◌≡◌ {A = Result A E} (Ok x) (Ok y) → x ≡ y
 ok_same x y is = cc
 
-err_ok : {A E : Type 0} (e : E) (x : A) → Err e ≡ Ok x → ⊥
+pub err_ok : {A E : Type 0} (e : E) (x : A) → Err e ≡ Ok x → ⊥
 err_ok e x is = cc
 
-some_same : {A : Type 0} (x y : A) → Some x ≡ Some y → x ≡ y
+pub some_same : {A : Type 0} (x y : A) → Some x ≡ Some y → x ≡ y
 some_same x y is = cc
 
 some_err : {A E : Type 0} (e : E) (x : A) → Some (Err e) ≡ Some (Ok x) → ⊥
 some_err e x is = cc
 
-runs_as : (c command : Command) → Runs c → Some c ≡ Some command → Runs command
-runs_as c command runs is = subst Runs (some_same c command is) runs
+as_is : (P : Command → Type 0) (c command : Command) → P c → Some c ≡ Some command → P command
+as_is P c command holds is = subst P (some_same c command is) holds
 
-mapped : {A : Type 0} (f : A → Command) (o : Option A) (command : Command) → ((x : A) → Runs (f x)) → option_map f o ≡ Some command
-    → Runs command
-mapped f None command runs is = absurd (none-some command is)
-mapped f (Some x) command runs is = runs_as (f x) command (runs x) is
+pub mapped : (P : Command → Type 0) {A : Type 0} (f : A → Command) (o : Option A) (command : Command) → ((x : A) → P (f x))
+    → option_map f o ≡ Some command
+    → P command
+mapped P f None command holds is = absurd (none-some command is)
+mapped P f (Some x) command holds is = as_is P (f x) command (holds x) is
 
--- ---- the words of a command that runs
+-- ---- the command that words make: what holds of all that these words may make holds of it
 
-read_runs : (arguments : List Word) (command : Command) → read_words arguments ≡ Some command → Runs command
-read_runs [] command is = absurd (none-some command is)
-read_runs (path ∷ []) command is = absurd (none-some command is)
-read_runs (path ∷ start ∷ []) command is = absurd (none-some command is)
-read_runs (path ∷ start ∷ count ∷ more ∷ rest) command is = absurd (none-some command is)
-read_runs (path ∷ start ∷ count ∷ []) command is = go (seen (path_in path)) (seen (number_of start))
+pub by_read : (P : List Word → Command → Type 0)
+    → ((path start count : Word) (p : Path) (s c : ℕ) → number_of count ≡ Some c → P (path ∷ start ∷ count ∷ []) (Read p s c))
+    → (arguments : List Word) (command : Command) → read_words arguments ≡ Some command → P arguments command
+by_read P holds [] command is = absurd (none-some command is)
+by_read P holds (path ∷ []) command is = absurd (none-some command is)
+by_read P holds (path ∷ start ∷ []) command is = absurd (none-some command is)
+by_read P holds (path ∷ start ∷ count ∷ more ∷ rest) command is = absurd (none-some command is)
+by_read P holds (path ∷ start ∷ count ∷ []) command is = go (seen (path_in path)) (seen (number_of start)) (seen (number_of count))
   where
     go : (path_in path ≡ None) ⊎ ((x : Path) × (path_in path ≡ Some x)) → (number_of start ≡ None) ⊎ ((x : ℕ) × (number_of start ≡ Some x))
-        → Runs command
-    go (inl no_path) s = absurd (none-some command (rw no_path at is))
-    go (inr p) (inl no_start) = absurd (none-some command (rw (p.1, no_start) at is))
-    go (inr p) (inr s) =
-        mapped (Read p.0 s.0) (number_of count) command (λ x. record { beside = refl; undrawn = refl }) (rw (p.1, s.1) at is)
+        → (number_of count ≡ None) ⊎ ((x : ℕ) × (number_of count ≡ Some x))
+        → P (path ∷ start ∷ count ∷ []) command
+    go (inl no_path) s c = absurd (none-some command (rw no_path at is))
+    go (inr p) (inl no_start) c = absurd (none-some command (rw (p.1, no_start) at is))
+    go (inr p) (inr s) (inl no_count) = absurd (none-some command (rw (p.1, s.1, no_count) at is))
+    go (inr p) (inr s) (inr c) =
+        as_is (P (path ∷ start ∷ count ∷ [])) (Read p.0 s.0 c.0) command (holds path start count p.0 s.0 c.0 c.1)
+        (rw (p.1, s.1, c.1) at is)
 
-fill_runs : (given : OptionValues) (arguments : List Word) (command : Command) → fill_words given arguments ≡ Some command → Runs command
-fill_runs given [] command is = absurd (none-some command is)
-fill_runs given (path ∷ []) command is = absurd (none-some command is)
-fill_runs given (path ∷ start ∷ []) command is = absurd (none-some command is)
-fill_runs given (path ∷ start ∷ count ∷ []) command is = absurd (none-some command is)
-fill_runs given (path ∷ start ∷ count ∷ value ∷ more ∷ rest) command is = absurd (none-some command is)
-fill_runs given (path ∷ start ∷ count ∷ value ∷ []) command is =
+pub by_fill : (P : List Word → Command → Type 0) (given : OptionValues)
+    → ((path start count value : Word) (p : Path) (s c v : ℕ) (through : Bool) → number_of count ≡ Some c
+    → P (path ∷ start ∷ count ∷ value ∷ []) (Fill p s c v through))
+    → (arguments : List Word) (command : Command) → fill_words given arguments ≡ Some command → P arguments command
+by_fill P given holds [] command is = absurd (none-some command is)
+by_fill P given holds (path ∷ []) command is = absurd (none-some command is)
+by_fill P given holds (path ∷ start ∷ []) command is = absurd (none-some command is)
+by_fill P given holds (path ∷ start ∷ count ∷ []) command is = absurd (none-some command is)
+by_fill P given holds (path ∷ start ∷ count ∷ value ∷ more ∷ rest) command is = absurd (none-some command is)
+by_fill P given holds (path ∷ start ∷ count ∷ value ∷ []) command is =
     go (seen (path_in path)) (seen (number_of start)) (seen (number_of count)) (seen (number_of value))
   where
     go : (path_in path ≡ None) ⊎ ((x : Path) × (path_in path ≡ Some x)) → (number_of start ≡ None) ⊎ ((x : ℕ) × (number_of start ≡ Some x))
         → (number_of count ≡ None) ⊎ ((x : ℕ) × (number_of count ≡ Some x))
         → (number_of value ≡ None) ⊎ ((x : ℕ) × (number_of value ≡ Some x))
-        → Runs command
+        → P (path ∷ start ∷ count ∷ value ∷ []) command
     go (inl no_path) s c v = absurd (none-some command (rw no_path at is))
     go (inr p) (inl no_start) c v = absurd (none-some command (rw (p.1, no_start) at is))
     go (inr p) (inr s) (inl no_count) v = absurd (none-some command (rw (p.1, s.1, no_count) at is))
     go (inr p) (inr s) (inr c) (inl no_value) = absurd (none-some command (rw (p.1, s.1, c.1, no_value) at is))
     go (inr p) (inr s) (inr c) (inr v) =
-        runs_as (Fill p.0 s.0 c.0 v.0 (is_some (given key.Through))) command (record { beside = refl; undrawn = refl })
+        let through = is_some (given key.Through) in
+        as_is (P (path ∷ start ∷ count ∷ value ∷ [])) (Fill p.0 s.0 c.0 v.0 through) command
+        (holds path start count value p.0 s.0 c.0 v.0 through c.1)
         (rw (p.1, s.1, c.1, v.1) at is)
 
-write_runs : (given : OptionValues) (arguments : List Word) (command : Command) → write_words given arguments ≡ Some command → Runs command
-write_runs given [] command is = absurd (none-some command is)
-write_runs given (path ∷ []) command is = absurd (none-some command is)
-write_runs given (path ∷ start ∷ []) command is = absurd (none-some command is)
-write_runs given (path ∷ start ∷ hex ∷ more ∷ rest) command is = absurd (none-some command is)
-write_runs given (path ∷ start ∷ hex ∷ []) command is = go (seen (path_in path)) (seen (number_of start))
+pub by_write : (P : List Word → Command → Type 0) (given : OptionValues)
+    → ((path start hex : Word) (p : Path) (s : ℕ) (through : Bool) → P (path ∷ start ∷ hex ∷ []) (Write p s hex through))
+    → (arguments : List Word) (command : Command) → write_words given arguments ≡ Some command → P arguments command
+by_write P given holds [] command is = absurd (none-some command is)
+by_write P given holds (path ∷ []) command is = absurd (none-some command is)
+by_write P given holds (path ∷ start ∷ []) command is = absurd (none-some command is)
+by_write P given holds (path ∷ start ∷ hex ∷ more ∷ rest) command is = absurd (none-some command is)
+by_write P given holds (path ∷ start ∷ hex ∷ []) command is = go (seen (path_in path)) (seen (number_of start))
   where
     go : (path_in path ≡ None) ⊎ ((x : Path) × (path_in path ≡ Some x)) → (number_of start ≡ None) ⊎ ((x : ℕ) × (number_of start ≡ Some x))
-        → Runs command
+        → P (path ∷ start ∷ hex ∷ []) command
     go (inl no_path) s = absurd (none-some command (rw no_path at is))
     go (inr p) (inl no_start) = absurd (none-some command (rw (p.1, no_start) at is))
     go (inr p) (inr s) =
-        runs_as (Write p.0 s.0 hex (is_some (given key.Through))) command (record { beside = refl; undrawn = refl }) (rw (p.1, s.1) at is)
+        let through = is_some (given key.Through) in
+        as_is (P (path ∷ start ∷ hex ∷ [])) (Write p.0 s.0 hex through) command (holds path start hex p.0 s.0 through)
+        (rw (p.1, s.1) at is)
 
-alone_runs : (c : Command) (arguments : List Word) (command : Command) → Runs c → alone c arguments ≡ Some command → Runs command
-alone_runs c [] command runs is = runs_as c command runs is
-alone_runs c (argument ∷ arguments) command runs is = absurd (none-some command is)
+pub by_alone : (P : Command → Type 0) (c : Command) (arguments : List Word) (command : Command) → P c → alone c arguments ≡ Some command
+    → P command
+by_alone P c [] command holds is = as_is P c command holds is
+by_alone P c (argument ∷ arguments) command holds is = absurd (none-some command is)
+
+-- ---- the words of a command that runs
 
 words_run : (called : CommandName) (given : OptionValues) (arguments : List Word) (command : Command)
     → command_by_name called given arguments ≡ Some command → runs_named called ≡ true → Runs command
-words_run name.Read given arguments command is runs = read_runs arguments command is
-words_run name.Fill given arguments command is runs = fill_runs given arguments command is
-words_run name.Write given arguments command is runs = write_runs given arguments command is
+words_run name.Read given arguments command is runs =
+    by_read (λ words. Runs) (λ path start count p s c is. record { beside = refl; undrawn = refl }) arguments command is
+words_run name.Fill given arguments command is runs =
+    by_fill (λ words. Runs) given (λ path start count value p s c v through is. record { beside = refl; undrawn = refl })
+    arguments command is
+words_run name.Write given arguments command is runs =
+    by_write (λ words. Runs) given (λ path start hex p s through. record { beside = refl; undrawn = refl }) arguments command is
 words_run name.Flush given arguments command is runs =
-    mapped Flush (one_path arguments) command (λ path. record { beside = refl; undrawn = refl }) is
+    mapped Runs Flush (one_path arguments) command (λ path. record { beside = refl; undrawn = refl }) is
 words_run name.List given arguments command is runs =
-    alone_runs Listing arguments command (record { beside = refl; undrawn = refl }) is
+    by_alone Runs Listing arguments command (record { beside = refl; undrawn = refl }) is
 words_run name.Wait given arguments command is runs =
-    alone_runs Wait arguments command (record { beside = refl; undrawn = refl }) is
+    by_alone Runs Wait arguments command (record { beside = refl; undrawn = refl }) is
 words_run called given arguments command is runs = absurd (false≢true runs)
 
 -- ---- a line
@@ -134,9 +156,9 @@ placed end (Err wrong.WrongWords) command is = absurd (err_ok _ command is)
 placed end (Err wrong.NoMemory) command is = absurd (err_ok _ command is)
 
 faultless : (fault : Option (Fault × ℕ)) (meaning : Option Command) (command : Command) → meaning_with fault meaning ≡ Ok command
-    → meaning ≡ Some command
+    → (fault ≡ None) × (meaning ≡ Some command)
 faultless (Some fault) meaning command is = absurd (err_ok _ command is)
-faultless None (Some meaning) command is = ap Some (ok_same meaning command is)
+faultless None (Some meaning) command is = (refl, ap Some (ok_same meaning command is))
 faultless None None command is = absurd (err_ok _ command is)
 
 complete : (all : Bool) (meaning : Option Command) (command : Command) → (if all then meaning else None) ≡ Some command
@@ -144,16 +166,22 @@ complete : (all : Bool) (meaning : Option Command) (command : Command) → (if a
 complete true meaning command is = is
 complete false meaning command is = absurd (none-some command is)
 
+-- words that mean a command have no fault, and it is made of them
+pub made_of : (called : CommandName) (end : ℕ) (words : List (Word × ℕ)) (command : Command)
+    → at_place end (meaning_of called words) ≡ Ok command
+    → ((read called words).fault ≡ None)
+    × (command_by_name called (value_in (read called words).split.given) (read called words).split.arguments ≡ Some command)
+made_of called end words command is =
+    let split = (read called words).split in
+    let made = command_by_name called (value_in split.given) split.arguments in
+    let so = faultless (read called words).fault (command_of called split) command (placed end (meaning_of called words) command is) in
+    (so.0, complete (is_complete split) made command so.1)
+
 meaning_runs : (called : CommandName) (end : ℕ) (words : List (Word × ℕ)) (command : Command) → runs_named called ≡ true
     → at_place end (meaning_of called words) ≡ Ok command → Runs command
 meaning_runs called end words command runs is =
-    let read_so = read called words in
-    let split = read_so.split in
-    let meaning = command_by_name called (value_in split.given) split.arguments in
-    words_run called (value_in split.given) split.arguments command
-    (complete (is_complete split) meaning command
-    (faultless read_so.fault (command_of called split) command (placed end (meaning_of called words) command is)))
-    runs
+    let split = (read called words).split in
+    words_run called (value_in split.given) split.arguments command (made_of called end words command is).1 runs
 
 -- the test of a name that doesn't run, by what is asked of it
 runs_then : (scripts runs : Bool) (called : CommandName) (place end : ℕ) (words : List (Word × ℕ)) (command : Command)
@@ -196,12 +224,17 @@ unlimited sectors (Some (Err refusal)) command is = is
 unlimited sectors (Some (Ok other)) command is =
     not_past (nat_lt most_sectors (sectors + sectors_of other)) (Some (Ok other)) command is
 
+-- a line that isn't past the limits means what its words do
+pub in_limits : (number sectors : ℕ) (line : List ℕ) (command : Command) → limited sectors (line_meant number line) ≡ Some (Ok command)
+    → meaning_of_line line ≡ Some (Ok command)
+in_limits number sectors line command is =
+    not_past (nat_lt most_lines number) (meaning_of_line line) command (unlimited sectors (line_meant number line) command is)
+
 command_runs : (number sectors : ℕ) (line : List ℕ) (command : Command) → unrun_line line ≡ None
     → limited sectors (line_meant number line) ≡ Some (Ok command)
     → Runs command
 command_runs number sectors line command none is =
-    commented (is_comment line) (length line) (words_in line) command none
-    (not_past (nat_lt most_lines number) (meaning_of_line line) command (unlimited sectors (line_meant number line) command is))
+    commented (is_comment line) (length line) (words_in line) command none (in_limits number sectors line command is)
 
 -- ---- the lines of a script
 
@@ -215,24 +248,25 @@ both_none : (o : Option ℕ) (number : ℕ) (rest : Option (ℕ × ℕ)) → opt
 both_none None number rest is = (refl, is)
 both_none (Some place) number rest is = absurd (none-some (number, place) (sym is))
 
-one_more : (number : ℕ) (command : Command) (after : Commands) (commands : List (ℕ × Command)) → Runs command
-    → ((more : List (ℕ × Command)) → after ≡ Ok more → AllRun more)
+one_more : (P : List (ℕ × Command) → Type 0) (number : ℕ) (command : Command) (after : Commands) (commands : List (ℕ × Command))
+    → ((more : List (ℕ × Command)) → after ≡ Ok more → P ((number, command) ∷ more))
     → behind_all ((number, command) ∷ []) after ≡ Ok commands
-    → AllRun commands
-one_more number command (Err refusal) commands runs rest is = absurd (err_ok refusal commands is)
-one_more number command (Ok more) commands runs rest is =
-    subst AllRun (ok_same ((number, command) ∷ more) commands is) (runs, rest more refl)
+    → P commands
+one_more P number command (Err refusal) commands holds is = absurd (err_ok refusal commands is)
+one_more P number command (Ok more) commands holds is = subst P (ok_same ((number, command) ∷ more) commands is) (holds more refl)
 
-next_run : (number sectors : ℕ) (meant : Option Meant) (after : ℕ → Commands) (commands : List (ℕ × Command))
-    → ((command : Command) → meant ≡ Some (Ok command) → Runs command)
-    → ((sectors : ℕ) (more : List (ℕ × Command)) → after sectors ≡ Ok more → AllRun more)
+-- what holds of the commands of all lines, as it does of those that follow a line, with its own
+pub next_line : (P : List (ℕ × Command) → Type 0) (number sectors : ℕ) (meant : Option Meant) (after : ℕ → Commands)
+    (commands : List (ℕ × Command))
+    → ((command : Command) (more : List (ℕ × Command)) → meant ≡ Some (Ok command) → P more → P ((number, command) ∷ more))
+    → ((sectors : ℕ) (more : List (ℕ × Command)) → after sectors ≡ Ok more → P more)
     → commands_with number sectors meant after ≡ Ok commands
-    → AllRun commands
-next_run number sectors None after commands runs rest is = rest sectors commands is
-next_run number sectors (Some (Err refusal)) after commands runs rest is = absurd (err_ok _ commands is)
-next_run number sectors (Some (Ok command)) after commands runs rest is =
-    one_more number command (after (sectors + sectors_of command)) commands (runs command refl)
-    (λ more. rest (sectors + sectors_of command) more) is
+    → P commands
+next_line P number sectors None after commands first rest is = rest sectors commands is
+next_line P number sectors (Some (Err refusal)) after commands first rest is = absurd (err_ok _ commands is)
+next_line P number sectors (Some (Ok command)) after commands first rest is =
+    let behind = sectors + sectors_of command in
+    one_more P number command (after behind) commands (λ more so. first command more refl (rest behind more so)) is
 
 -- where no line begins with a name that doesn't run, all commands run
 pub commands_run : (lines : List (List ℕ)) (first number sectors : ℕ) (commands : List (ℕ × Command)) → first_unrun first lines ≡ None
@@ -242,7 +276,7 @@ unfolding commands_from
 commands_run [] first number sectors commands none is = subst AllRun (ok_same [] commands is) tt
 commands_run (line ∷ lines) first number sectors commands none is =
     let both = both_none (unrun_line line) first (first_unrun (first + 1) lines) none in
-    next_run number sectors (limited sectors (line_meant number line)) (commands_from lines (number + 1)) commands
-    (λ command. command_runs number sectors line command both.0)
+    next_line AllRun number sectors (limited sectors (line_meant number line)) (commands_from lines (number + 1)) commands
+    (λ command more so all. (command_runs number sectors line command both.0 so, all))
     (λ sectors more. commands_run lines (first + 1) (number + 1) sectors more both.1)
     is

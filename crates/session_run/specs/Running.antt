@@ -12,6 +12,7 @@ use Rattle.io_session.specs.declared.session.Run.{Run}
 use Rattle.world_acts.specs.Acts.{world}
 use Rattle.io_core.specs.Events.{Makes}
 use Rattle.io_core.specs.Worlds.{IsOpenedOn, WorldOn}
+use Rattle.world_history.specs.Ordered.{IsOrderedHistory, lines_with}
 use Rattle.session_run.specs.declared.running.RanLines.{RanLines}
 
 -- the line for which memory was wanted, if it was for one
@@ -34,7 +35,8 @@ IsRun state start script run =
     (λ w. not (list_any is_open w.core.lines.answers)) (λ w line. is_none w.core.barrier)
     (λ old event new. Makes (world (state old.shelf) old.core) event (world (state new.shelf) new.core)) start script run
 
--- The lines were run on this shelf, in a world of what was found there, and that is what they came to.
+-- The lines were run on this shelf, in a world of what was found there, and that is what they came to: the journal and the answers are
+-- those of one history in order.
 pub record RunsLines {S : Type 0} (state : S → State) (found : Found) (shelf : S) (lines : List Line) (ran : RanLines S) : Type 0 where
   pub start : WorldOn S
   pub run : Run (WorldOn S) Line
@@ -45,3 +47,5 @@ pub record RunsLines {S : Type 0} (state : S → State) (found : Found) (shelf :
   pub journal : ran.journal.items ≡ run.world.core.lines.journal
   pub answers : ran.answers.items ≡ run.world.core.lines.answers
   pub unbegun : ran.unbegun.items ≡ unbegun_answers run.refused run.rest.items
+  pub history :
+      IsOrderedHistory (state shelf).steps ran.journal.items (lines_with 0 run.world.core.lines.begun ran.answers.items)

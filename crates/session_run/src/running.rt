@@ -1,6 +1,7 @@
 //! The lines of a session run.
-ghost use Rattle.std.specs.Prelude.{◌≡◌, ◌≤◌, ◌+◌, ◌++◌, MatchResult, [], length, map, vec_capacity, vec_len};
+ghost use Rattle.std.specs.Prelude.{◌≡◌, ◌≤◌, ◌+◌, ◌++◌, All, MatchResult, [], length, map, vec_capacity, vec_len};
 ghost use Rattle.io_core.specs.Rest.{LiesOn};
+ghost use Rattle.world_history.specs.Told.{IsSessionLine};
 ghost use Rattle.session_run.specs.Running.{RunsLines, refused_answers, unanswered, unbegun_answers};
 
 use disk_model::Shelf;
@@ -8,6 +9,7 @@ use io_core::{DataLine, Finished, World};
 use io_session::{Run, run_alone};
 use line_answers::Answer;
 use line_table::{Answers, Journal};
+use piece_split::pieces_cover_requests;
 use std::alloc::Global;
 use std::collections::VecDeque;
 use table_lock::Gate;
@@ -39,13 +41,17 @@ pub fn run_lines<S: Shelf, G: Gate>(
     requires idle { (S.state shelf).in_flight ≡ [] }
     requires few { length (S.state shelf).sizes ≤ 64 }
     requires lies { LiesOn (S.state shelf).sizes whole }
+    requires session { All IsSessionLine lines.items }
     ensures { MatchResult result (RunsLines S.state whole shelf lines.items) (λ back. back ≡ shelf) }
 {
     let Ok(unbegun) = Vec::with_capacity(alloc, lines.len()) else {
         return Err(shelf);
     };
     match World::open(alloc, whole, shelf) {
-        Ok(world) => Ok(ran_of(run_alone(world, lines, gate), unbegun)),
+        Ok(world) => {
+            pieces_cover_requests();
+            Ok(ran_of(run_alone(world, lines, gate), unbegun))
+        }
         Err(refused) => Err(refused.shelf),
     }
 }

@@ -4,8 +4,8 @@ use Rattle.lvm_run.specs.Sourced.{source}
 use Rattle.lvm_run.proofs.SessionCauses.{refused_cause, unread_cause}
 use Rattle.lvm_run.proofs.session.read_lines.Goals as goal
 
-pub returns-in-Err : goal.returns-in-Err
-returns-in-Err g c =
+pub returns-in-Err-clause-read : goal.returns-in-Err-clause-read
+returns-in-Err-clause-read g c =
     let from = source (g.R.Source.left c.args.script.now) (g.R.Source.fault_count c.args.script.now) in
     let to = source (g.R.Source.left c.read_all.new.from) (g.R.Source.fault_count c.read_all.new.from) in
     record {
@@ -14,8 +14,8 @@ returns-in-Err g c =
       undrawn = refl;
     }
 
-pub returns-in-Ok-session_script : goal.returns-in-Ok-session_script
-returns-in-Ok-session_script g c =
+pub returns-in-Ok-session_script-clause-read : goal.returns-in-Ok-session_script-clause-read
+returns-in-Ok-session_script-clause-read g c =
     let e = c.in-Ok.ensures in
     let its = c.in-Ok-session_script.ensures.script in
     record {
@@ -26,8 +26,8 @@ returns-in-Ok-session_script g c =
       drawn = its.2;
     }
 
-pub returns : goal.returns
-returns g c =
+pub returns-clause-read : goal.returns-clause-read
+returns-clause-read g c =
     let from = source (g.R.Source.left c.args.script.now) (g.R.Source.fault_count c.args.script.now) in
     let to = source (g.R.Source.left c.read_all.new.from) (g.R.Source.fault_count c.read_all.new.from) in
     let e = c.in-Ok.ensures in

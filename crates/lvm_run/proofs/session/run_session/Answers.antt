@@ -25,7 +25,7 @@ returns-in-Err g c =
     let from = source (g.R.Source.left c.args.script.now) (g.R.Source.fault_count c.args.script.now) in
     let to = source (g.R.Source.left c.read_lines.new.script) (g.R.Source.fault_count c.read_lines.new.script) in
     ended {from = from} {to = to} c.end_before-in-Err.result.entered c.in-Err.ending c.args.shelf
-    (NoLines (sym c.is_built_session.ensures ∙ c.if-not-is_built_session.false) c.in-Err.ensures refl) e.shelf e.nothing e.ends
+    (NoLines (sym c.is_built_session.ensures ∙ c.if-not-is_built_session.false) c.in-Err.ensures.read refl) e.shelf e.nothing e.ends
 
 pub open_whole-requires-clause-disks : goal.open_whole-requires-clause-disks
 open_whole-requires-clause-disks g c =
@@ -43,7 +43,7 @@ returns-in-Err-open_whole g c =
     let from = source (g.R.Source.left c.args.script.now) (g.R.Source.fault_count c.args.script.now) in
     let to = source (g.R.Source.left c.read_lines.new.script) (g.R.Source.fault_count c.read_lines.new.script) in
     ended {from = from} {to = to} c.end_before-in-Err-open_whole.result.entered c.in-Err-open_whole.ending c.open_whole.new.shelf
-    (Unready (sym c.is_built_session.ensures ∙ c.if-not-is_built_session.false) c.in-Ok.lines.items c.in-Ok.ensures
+    (Unready (sym c.is_built_session.ensures ∙ c.if-not-is_built_session.false) c.in-Ok.lines.items c.in-Ok.ensures.read
     c.in-Err-open_whole.ensures.ready) e.shelf e.nothing e.ends
 
 pub run_lines-requires-clause-few : goal.run_lines-requires-clause-few
@@ -59,7 +59,7 @@ returns-in-Ok-run_lines g c =
       cause = record {
         built = sym c.is_built_session.ensures ∙ c.if-not-is_built_session.false;
         lines = c.in-Ok.lines.items;
-        reads = c.in-Ok.ensures;
+        reads = c.in-Ok.ensures.read;
         repaired = c.in-Ok-open_whole.whole;
         ready = c.open_whole.new.shelf;
         opened = c.in-Ok-open_whole.ensures.ready;
@@ -80,6 +80,6 @@ returns-in-Err-run_lines g c =
     let from = source (g.R.Source.left c.args.script.now) (g.R.Source.fault_count c.args.script.now) in
     let to = source (g.R.Source.left c.read_lines.new.script) (g.R.Source.fault_count c.read_lines.new.script) in
     ended {from = from} {to = to} c.end_before-in-Err-run_lines.result.entered NoMemory c.open_whole.new.shelf
-    (Unbegun (sym c.is_built_session.ensures ∙ c.if-not-is_built_session.false) c.in-Ok.lines.items c.in-Ok.ensures
+    (Unbegun (sym c.is_built_session.ensures ∙ c.if-not-is_built_session.false) c.in-Ok.lines.items c.in-Ok.ensures.read
     (record { wanting = refl; repaired = c.in-Ok-open_whole.whole; ready = c.in-Ok-open_whole.ensures.ready }))
     (e.shelf ∙ c.in-Err-run_lines.ensures) e.nothing e.ends
