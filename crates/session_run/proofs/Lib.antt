@@ -4,6 +4,5 @@ mod FrontLines
 mod Refusing
 mod RunCommands
 mod RunLines
-mod SessionLines
 mod SomeSectors
 mod Unbegun

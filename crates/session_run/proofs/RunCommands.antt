@@ -2,6 +2,7 @@
 use Rattle.std.proofs.Common.{◌≡◌, ◌+◌, ◌&&◌, ℕ, Bool, true, false, not, nat_lt, if◌then◌else◌, List, [], ◌∷◌, length}
 use Rattle.std.proofs.Common.{Option, Result, Some, None, Ok, Err, refl, ap, sym, subst, inl, inr, ◌⊎◌}
 use Rattle.std.specs.Prelude.{⊤, is_some, option_map}
+use Rattle.std.specs.List.{list_all}
 use Rattle.std.specs.Option.{option_map_or, option_or}
 use Rattle.std.proofs.lemmas.Bool.{false≢true}
 use Rattle.std.proofs.lemmas.Option.{none-some}
@@ -11,6 +12,7 @@ use Rattle.command_table.specs.declared.line_fault.LineFault.TheVariants.{NotHer
 use Rattle.command_table.specs.declared.command.Command.{Command}
 use Rattle.command_table.specs.declared.command.Path.{Path}
 use Rattle.command_table.specs.declared.fault.Fault.{Fault}
+use Rattle.command_table.specs.declared.fault.Fault.TheVariants.{BadHex}
 use Rattle.command_table.specs.declared.refusal.CommandRefusal.{CommandRefusal}
 use Rattle.command_table.specs.declared.refusal.CommandRefusal.TheVariants as wrong
 use Rattle.command_table.specs.declared.table.CommandName.{CommandName}
@@ -20,30 +22,32 @@ use Rattle.command_table.specs.Given.{OptionValues, one_path, path_in, value_in}
 use Rattle.command_table.specs.Meaning.{at_place, command_of, meaning_of, meaning_with}
 use Rattle.command_table.specs.Options.{Word}
 use Rattle.command_table.specs.Table.{command_named, is_for_scripts}
-use Rattle.command_table.specs.Values.{number_of}
-use Rattle.command_table.specs.Words.{is_complete, read}
+use Rattle.command_table.specs.Values.{is_hex_digit, number_of, unless}
+use Rattle.command_table.specs.Words.{is_complete, nothing_read, read}
 use Rattle.data_lines.specs.DataLines.{runs_beside}
 use Rattle.lvm_script.specs.Script.{Commands, Meant, behind_all, commands_from, commands_with, is_comment, limited, line_meant, line_named}
 use Rattle.lvm_script.specs.Script.{line_of_words, meaning_of_line, most_lines, most_sectors, words_in}
 use Rattle.session_run.specs.SessionScript.{first_unrun, runs_named, unrun_in, unrun_line}
+use Rattle.session_run.proofs.SomeSectors.{AreFine, argument_fault, count_has, digits_has, has_sectors, words_fine}
 
--- a world runs the command, and it draws no id
+-- a world runs the command, it draws no id, and where it reads or writes it has a sector
 pub record Runs (command : Command) : Type 0 where
   pub beside : runs_beside command ≡ true
   pub undrawn : draws command ≡ false
+  pub sectors : has_sectors command ≡ true
 
 -- what an option holds, with the equation
 seen : {A : Type 0} (o : Option A) → (o ≡ None) ⊎ ((x : A) × (o ≡ Some x))
 seen None = inl refl
 seen (Some x) = inr (x, refl)
 
-pub ok_same : {A E : Type 0} (x y : A) → ◌≡◌ {A = Result A E} (Ok x) (Ok y) → x ≡ y
+ok_same : {A E : Type 0} (x y : A) → ◌≡◌ {A = Result A E} (Ok x) (Ok y) → x ≡ y
 ok_same x y is = cc
 
-pub err_ok : {A E : Type 0} (e : E) (x : A) → Err e ≡ Ok x → ⊥
+err_ok : {A E : Type 0} (e : E) (x : A) → Err e ≡ Ok x → ⊥
 err_ok e x is = cc
 
-pub some_same : {A : Type 0} (x y : A) → Some x ≡ Some y → x ≡ y
+some_same : {A : Type 0} (x y : A) → Some x ≡ Some y → x ≡ y
 some_same x y is = cc
 
 some_err : {A E : Type 0} (e : E) (x : A) → Some (Err e) ≡ Some (Ok x) → ⊥
@@ -52,7 +56,7 @@ some_err e x is = cc
 as_is : (P : Command → Type 0) (c command : Command) → P c → Some c ≡ Some command → P command
 as_is P c command holds is = subst P (some_same c command is) holds
 
-pub mapped : (P : Command → Type 0) {A : Type 0} (f : A → Command) (o : Option A) (command : Command) → ((x : A) → P (f x))
+mapped : (P : Command → Type 0) {A : Type 0} (f : A → Command) (o : Option A) (command : Command) → ((x : A) → P (f x))
     → option_map f o ≡ Some command
     → P command
 mapped P f None command holds is = absurd (none-some command is)
@@ -60,7 +64,7 @@ mapped P f (Some x) command holds is = as_is P (f x) command (holds x) is
 
 -- ---- the command that words make: what holds of all that these words may make holds of it
 
-pub by_read : (P : List Word → Command → Type 0)
+by_read : (P : List Word → Command → Type 0)
     → ((path start count : Word) (p : Path) (s c : ℕ) → number_of count ≡ Some c → P (path ∷ start ∷ count ∷ []) (Read p s c))
     → (arguments : List Word) (command : Command) → read_words arguments ≡ Some command → P arguments command
 by_read P holds [] command is = absurd (none-some command is)
@@ -79,7 +83,7 @@ by_read P holds (path ∷ start ∷ count ∷ []) command is = go (seen (path_in
         as_is (P (path ∷ start ∷ count ∷ [])) (Read p.0 s.0 c.0) command (holds path start count p.0 s.0 c.0 c.1)
         (rw (p.1, s.1, c.1) at is)
 
-pub by_fill : (P : List Word → Command → Type 0) (given : OptionValues)
+by_fill : (P : List Word → Command → Type 0) (given : OptionValues)
     → ((path start count value : Word) (p : Path) (s c v : ℕ) (through : Bool) → number_of count ≡ Some c
     → P (path ∷ start ∷ count ∷ value ∷ []) (Fill p s c v through))
     → (arguments : List Word) (command : Command) → fill_words given arguments ≡ Some command → P arguments command
@@ -105,7 +109,7 @@ by_fill P given holds (path ∷ start ∷ count ∷ value ∷ []) command is =
         (holds path start count value p.0 s.0 c.0 v.0 through c.1)
         (rw (p.1, s.1, c.1, v.1) at is)
 
-pub by_write : (P : List Word → Command → Type 0) (given : OptionValues)
+by_write : (P : List Word → Command → Type 0) (given : OptionValues)
     → ((path start hex : Word) (p : Path) (s : ℕ) (through : Bool) → P (path ∷ start ∷ hex ∷ []) (Write p s hex through))
     → (arguments : List Word) (command : Command) → write_words given arguments ≡ Some command → P arguments command
 by_write P given holds [] command is = absurd (none-some command is)
@@ -123,29 +127,39 @@ by_write P given holds (path ∷ start ∷ hex ∷ []) command is = go (seen (pa
         as_is (P (path ∷ start ∷ hex ∷ [])) (Write p.0 s.0 hex through) command (holds path start hex p.0 s.0 through)
         (rw (p.1, s.1) at is)
 
-pub by_alone : (P : Command → Type 0) (c : Command) (arguments : List Word) (command : Command) → P c → alone c arguments ≡ Some command
+by_alone : (P : Command → Type 0) (c : Command) (arguments : List Word) (command : Command) → P c → alone c arguments ≡ Some command
     → P command
 by_alone P c [] command holds is = as_is P c command holds is
 by_alone P c (argument ∷ arguments) command holds is = absurd (none-some command is)
 
--- ---- the words of a command that runs
+-- ---- the words of a command that runs, none of which has a fault
 
 words_run : (called : CommandName) (given : OptionValues) (arguments : List Word) (command : Command)
-    → command_by_name called given arguments ≡ Some command → runs_named called ≡ true → Runs command
-words_run name.Read given arguments command is runs =
-    by_read (λ words. Runs) (λ path start count p s c is. record { beside = refl; undrawn = refl }) arguments command is
-words_run name.Fill given arguments command is runs =
-    by_fill (λ words. Runs) given (λ path start count value p s c v through is. record { beside = refl; undrawn = refl })
-    arguments command is
-words_run name.Write given arguments command is runs =
-    by_write (λ words. Runs) given (λ path start hex p s through. record { beside = refl; undrawn = refl }) arguments command is
-words_run name.Flush given arguments command is runs =
-    mapped Runs Flush (one_path arguments) command (λ path. record { beside = refl; undrawn = refl }) is
-words_run name.List given arguments command is runs =
-    by_alone Runs Listing arguments command (record { beside = refl; undrawn = refl }) is
-words_run name.Wait given arguments command is runs =
-    by_alone Runs Wait arguments command (record { beside = refl; undrawn = refl }) is
-words_run called given arguments command is runs = absurd (false≢true runs)
+    → command_by_name called given arguments ≡ Some command → runs_named called ≡ true → AreFine (argument_fault called) arguments
+    → Runs command
+words_run name.Read given arguments command is runs fine =
+    by_read (λ words c. AreFine (argument_fault name.Read) words → Runs c)
+    (λ path start count p s c is fine. record { beside = refl; undrawn = refl; sectors = count_has count c is fine.1.1.0 })
+    arguments command is fine
+words_run name.Fill given arguments command is runs fine =
+    by_fill (λ words c. AreFine (argument_fault name.Fill) words → Runs c) given
+    (λ path start count value p s c v through is fine.
+    record { beside = refl; undrawn = refl; sectors = count_has count c is fine.1.1.0 })
+    arguments command is fine
+words_run name.Write given arguments command is runs fine =
+    by_write (λ words c. AreFine (argument_fault name.Write) words → Runs c) given
+    (λ path start hex p s through fine. record {
+      beside = refl;
+      undrawn = refl;
+      sectors = digits_has (length hex) (unless BadHex (list_all is_hex_digit hex)) fine.1.1.0;
+    }) arguments command is fine
+words_run name.Flush given arguments command is runs fine =
+    mapped Runs Flush (one_path arguments) command (λ path. record { beside = refl; undrawn = refl; sectors = refl }) is
+words_run name.List given arguments command is runs fine =
+    by_alone Runs Listing arguments command (record { beside = refl; undrawn = refl; sectors = refl }) is
+words_run name.Wait given arguments command is runs fine =
+    by_alone Runs Wait arguments command (record { beside = refl; undrawn = refl; sectors = refl }) is
+words_run called given arguments command is runs fine = absurd (false≢true runs)
 
 -- ---- a line
 
@@ -167,7 +181,7 @@ complete true meaning command is = is
 complete false meaning command is = absurd (none-some command is)
 
 -- words that mean a command have no fault, and it is made of them
-pub made_of : (called : CommandName) (end : ℕ) (words : List (Word × ℕ)) (command : Command)
+made_of : (called : CommandName) (end : ℕ) (words : List (Word × ℕ)) (command : Command)
     → at_place end (meaning_of called words) ≡ Ok command
     → ((read called words).fault ≡ None)
     × (command_by_name called (value_in (read called words).split.given) (read called words).split.arguments ≡ Some command)
@@ -181,7 +195,9 @@ meaning_runs : (called : CommandName) (end : ℕ) (words : List (Word × ℕ)) (
     → at_place end (meaning_of called words) ≡ Ok command → Runs command
 meaning_runs called end words command runs is =
     let split = (read called words).split in
-    words_run called (value_in split.given) split.arguments command (made_of called end words command is).1 runs
+    let made = made_of called end words command is in
+    words_run called (value_in split.given) split.arguments command made.1 runs
+    (words_fine called words nothing_read (λ none. tt) made.0)
 
 -- the test of a name that doesn't run, by what is asked of it
 runs_then : (scripts runs : Bool) (called : CommandName) (place end : ℕ) (words : List (Word × ℕ)) (command : Command)
@@ -225,7 +241,7 @@ unlimited sectors (Some (Ok other)) command is =
     not_past (nat_lt most_sectors (sectors + sectors_of other)) (Some (Ok other)) command is
 
 -- a line that isn't past the limits means what its words do
-pub in_limits : (number sectors : ℕ) (line : List ℕ) (command : Command) → limited sectors (line_meant number line) ≡ Some (Ok command)
+in_limits : (number sectors : ℕ) (line : List ℕ) (command : Command) → limited sectors (line_meant number line) ≡ Some (Ok command)
     → meaning_of_line line ≡ Some (Ok command)
 in_limits number sectors line command is =
     not_past (nat_lt most_lines number) (meaning_of_line line) command (unlimited sectors (line_meant number line) command is)
@@ -256,7 +272,7 @@ one_more P number command (Err refusal) commands holds is = absurd (err_ok refus
 one_more P number command (Ok more) commands holds is = subst P (ok_same ((number, command) ∷ more) commands is) (holds more refl)
 
 -- what holds of the commands of all lines, as it does of those that follow a line, with its own
-pub next_line : (P : List (ℕ × Command) → Type 0) (number sectors : ℕ) (meant : Option Meant) (after : ℕ → Commands)
+next_line : (P : List (ℕ × Command) → Type 0) (number sectors : ℕ) (meant : Option Meant) (after : ℕ → Commands)
     (commands : List (ℕ × Command))
     → ((command : Command) (more : List (ℕ × Command)) → meant ≡ Some (Ok command) → P more → P ((number, command) ∷ more))
     → ((sectors : ℕ) (more : List (ℕ × Command)) → after sectors ≡ Ok more → P more)

@@ -8,32 +8,37 @@ use Rattle.data_lines.specs.DataLines.{runs_beside}
 use Rattle.lvm_script.specs.declared.line.Line.{Line}
 use Rattle.lvm_script.specs.Lines.{TakesId}
 use Rattle.lvm_script.specs.Script.{AreLines, commands_from, lines_in}
+use Rattle.world_history.specs.Told.{IsSessionLine}
 use Rattle.session_run.specs.SessionScript.{first_unrun}
 use Rattle.session_run.proofs.RunCommands.{AllRun, commands_run}
+use Rattle.session_run.proofs.SomeSectors.{first_sector, has_sectors}
 
 -- a command that draws no id leaves the source of numbers
 undrawn : (drawn : Bool) (before after : ℕ → List ℕ) → drawn ≡ false → TakesId drawn before after → after ≡ before
 undrawn true before after is takes = absurd (false≢true (sym is))
 undrawn false before after is takes = takes
 
--- a world runs all the lines, and none draws an id
+-- all the lines are a session's, and none draws an id
 pub lines_run : (before : ℕ → List ℕ) (commands : List (ℕ × Command)) (lines : List Line) (after : ℕ → List ℕ)
     → AreLines before commands lines after → AllRun commands
-    → All (λ (line : Line). runs_beside line.command ≡ true) lines × (after ≡ before)
-lines_run before [] [] after are run = (All-nil (λ (line : Line). runs_beside line.command ≡ true), are)
+    → All IsSessionLine lines × (after ≡ before)
+lines_run before [] [] after are run = (All-nil IsSessionLine, are)
 lines_run before [] (line ∷ lines) after are run = elim are [ ]
 lines_run before (command ∷ commands) [] after are run = elim are [ ]
 lines_run before ((number, command) ∷ commands) (line ∷ lines) after are run =
     let rest = lines_run are.1.0 commands lines after are.1.2 run.1 in
-    let here : runs_beside line.command ≡ true = ap (λ (l : Line). runs_beside l.command) are.0 ∙ run.0.beside in (
-      All-cons (λ (line : Line). runs_beside line.command ≡ true) line lines here rest.0,
+    let here : IsSessionLine line = record {
+      beside = ap (λ (l : Line). runs_beside l.command) are.0 ∙ run.0.beside;
+      some = first_sector line.command (ap (λ (l : Line). has_sectors l.command) are.0 ∙ run.0.sectors);
+    } in (
+      All-cons IsSessionLine line lines here rest.0,
       rest.1 ∙ undrawn (draws command) before are.1.0 run.0.undrawn are.1.1,
     )
 
 -- the same of the lines of a text of which none begins with a name that doesn't run
 pub text_runs : (text : List ℕ) (before : ℕ → List ℕ) (commands : List (ℕ × Command)) (lines : List Line) (after : ℕ → List ℕ)
     → first_unrun 1 (lines_in text) ≡ None → commands_from (lines_in text) 1 0 ≡ Ok commands → AreLines before commands lines after
-    → All (λ (line : Line). runs_beside line.command ≡ true) lines × (after ≡ before)
+    → All IsSessionLine lines × (after ≡ before)
 text_runs text before commands lines after none is are =
     lines_run before commands lines after are (commands_run (lines_in text) 1 1 0 commands none is)
 
