@@ -1,5 +1,5 @@
 -- Events that go on by further acts: what they reach is orderly and plain as before.
-use Rattle.std.proofs.Common.{◌≡◌, ℕ, true, List, [], length, Option, None, is_some, sym, ap, subst, ◌∙◌}
+use Rattle.std.proofs.Common.{◌≡◌, ℕ, true, List, [], length, Option, None, Some, is_some, sym, ap, subst, ◌∙◌}
 use Rattle.sector_base.specs.declared.places.Piece.{Piece}
 use Rattle.command_table.specs.declared.command.Command.{Command}
 use Rattle.command_table.specs.declared.command.Command.TheVariants as command
@@ -11,14 +11,14 @@ use Rattle.flush_plan.specs.Plans.{flight_of}
 use Rattle.flush_waits.specs.Waits.{Waits, disk_waits}
 use Rattle.world_acts.specs.declared.open_line.OpenLine.{OpenLine}
 use Rattle.world_acts.specs.declared.state.Core.{Core}
-use Rattle.world_acts.specs.Acts.{Begins, Reaches, World, after, carries_on, follows}
+use Rattle.world_acts.specs.Acts.{Begins, Reaches, SettlesAndGoes, World, after, carries_on, follows, goes_on}
 use Rattle.world_acts.specs.OpenLines.{Opens, is_whole, open_at}
 use Rattle.world_acts.specs.Orderly.{AreReleased, IsOrderly}
 use Rattle.world_acts.proofs.Orderly.{orderly_after, orderly_reaches}
-use Rattle.world_acts.proofs.Reaching.{prepared_carried, reaches_both, reaches_carried}
+use Rattle.world_acts.proofs.Reaching.{flush_goes, piece_goes, prepared_carried, reaches_both, reaches_carried, settled_further}
 use Rattle.line_plans.specs.declared.preparing.Plan.{Plan}
 use Rattle.io_core.specs.declared.beginning.Begun.{Begun}
-use Rattle.io_core.specs.Events.{BeginsIn, Follows, IsPreparedAndGoes, begun_as, ending}
+use Rattle.io_core.specs.Events.{BeginsIn, Follows, IsPreparedAndGoes, begun_as, ending, settling_of}
 use Rattle.line_plans.specs.Plans.{MayBeBegun, opened_for}
 use Rattle.io_core.specs.Rest.{IsCalm, IsPlain, IsSettled, NoneReady, no_one}
 use Rattle.io_core.proofs.Plain.{plain_after, plain_reaches}
@@ -65,17 +65,29 @@ wait_whole w line plan may is =
 
 -- ---- an operation has completed
 
+-- what it came to, and what follows, goes on
+pub follows_going : (w v : World) (done : Done) (now : State) (is : Follows w done now v)
+    → Reaches goes_on (after w (ending is.piece done now)) v
+follows_going w v done now is = by is.piece is.ends
+  where
+    by : (piece : Option ℕ) → SettlesAndGoes (settling_of piece done) (after w (ending piece done now)) v
+        → Reaches goes_on (after w (ending piece done now)) v
+    by None ends = flush_goes done.op done.well (after w (ending None done now)) v ends
+    by (Some number) ends = piece_goes number done.op done.well (after w (ending (Some number) done now)) v ends
+
 pub follows_orderly : (w v : World) (done : Done) (now : State) → IsOrderly w → Follows w done now v → IsOrderly v
-follows_orderly w v done now o is = orderly_reaches is.goes (orderly_after w (ending is.piece done now) o is.allowed)
+follows_orderly w v done now o is =
+    orderly_reaches (follows_going w v done now is) (orderly_after w (ending is.piece done now) o is.allowed)
 
 pub follows_plain : (w v : World) (done : Done) (now : State) → IsPlain w.core → Follows w done now v → IsPlain v.core
-follows_plain w v done now plain is = plain_reaches is.goes (plain_after w (ending is.piece done now) is.allowed plain)
+follows_plain w v done now plain is =
+    plain_reaches (follows_going w v done now is) (plain_after w (ending is.piece done now) is.allowed plain)
 
 pub follows_on : (w v u : World) (done : Done) (now : State) → Follows w done now v → Reaches follows v u → Follows w done now u
 follows_on w v u done now is goes = record {
   piece = is.piece;
   allowed = is.allowed;
-  goes = reaches_both follows (after w (ending is.piece done now)) v u is.goes goes;
+  ends = settled_further (after w (ending is.piece done now)) v u is.ends goes;
 }
 
 -- ---- what is settled, once what may start has started

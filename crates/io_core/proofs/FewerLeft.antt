@@ -1,4 +1,4 @@
--- What follows once an operation has completed leaves no more of any line.
+-- What goes on once an operation has completed leaves no more of any line.
 use Rattle.std.proofs.Common.{◌≡◌, ◌≤◌, ℕ, zero, suc, ◌-◌, true, List, [], ◌∷◌, get_or, set, Option, None, Some, is_some}
 use Rattle.std.proofs.Common.{unwrap_or, refl, sym, arith, true≢false}
 use Rattle.std.specs.Option.{option_map_or}
@@ -13,7 +13,7 @@ use Rattle.world_acts.specs.declared.state.Core.{Core}
 use Rattle.world_acts.specs.declared.open_line.OpenLine.{OpenLine}
 use Rattle.world_acts.specs.Acts.{Act, Answers, Asks, AsksFlush, Awaits, Begins, Ends, EndsFlush, Enters, Fails, Grows, Holds}
 use Rattle.world_acts.specs.Acts.{LineFails, Marks, Passes, Reaches, Readies, Reads, Releases, Starts, Wakes, World, Writes}
-use Rattle.world_acts.specs.Acts.{after, core_released, follows, released_at}
+use Rattle.world_acts.specs.Acts.{after, core_released, goes_on, released_at}
 use Rattle.world_acts.specs.OpenLines.{Opens, after_closed, after_failure, after_filled, after_finished, is_pv_failed, left_of, no_open}
 use Rattle.world_acts.specs.OpenLines.{open_at, open_of, with_open}
 use Rattle.world_acts.specs.Steps.{after_leaves, after_released, after_stays, after_written}
@@ -70,7 +70,7 @@ released_fewer c pv (Some it) = of it.waiter
     of (waiter.Line line) = finished_fewer c.opens line
     of (waiter.Piece number) = finished_fewer c.opens (live_of c.pieces number).line
 
-fewer_act : (w : World) (a : Act) → follows a ≡ true → FewerLeft w.core.opens (after w a).core.opens
+fewer_act : (w : World) (a : Act) → goes_on a ≡ true → FewerLeft w.core.opens (after w a).core.opens
 fewer_act w (Begins line opened) is = absurd (true≢false (sym is))
 fewer_act w (Enters line piece sectors ticket entry) is = absurd (true≢false (sym is))
 fewer_act w (Awaits line pv) is = absurd (true≢false (sym is))
@@ -104,8 +104,8 @@ fewer_act w (Releases pv) is = released_fewer w.core pv (released_at w.core pv)
 fewer_act w (Readies now) is = absurd (true≢false (sym is))
 fewer_act w (Grows v) is = absurd (true≢false (sym is))
 
-pub left_falls : (w v : World) → Reaches follows w v → FewerLeft w.core.opens v.core.opens
+pub left_falls : (w v : World) → Reaches goes_on w v → FewerLeft w.core.opens v.core.opens
 left_falls w v goes =
-    reaches_keep follows (λ (x : World). FewerLeft w.core.opens x.core.opens)
+    reaches_keep goes_on (λ (x : World). FewerLeft w.core.opens x.core.opens)
     (λ x a is allowed fewer. fewer_both w.core.opens x.core.opens (after x a).core.opens fewer (fewer_act x a is)) w v goes
     (λ q. omega arith)

@@ -9,13 +9,13 @@ use Rattle.line_table.specs.Steps.{is_open}
 use Rattle.disk_model.specs.State.{State}
 use Rattle.disk_model.specs.declared.ops.Done.{Done}
 use Rattle.world_acts.specs.declared.state.Core.{Core}
-use Rattle.world_acts.specs.Acts.{Act, Allowed, Begins, IsGrown, Reaches, World, after, carries_on, follows, left_in}
+use Rattle.world_acts.specs.Acts.{Act, Allowed, Begins, IsGrown, Reaches, World, after, carries_on, follows, goes_on, left_in}
 use Rattle.world_acts.specs.Orderly.{IsOrderly}
 use Rattle.world_acts.proofs.Lasting.{begun_reaches, journal_reaches}
 use Rattle.world_acts.proofs.Left.{left_ended, left_flushed, left_reaches}
 use Rattle.world_acts.proofs.Orderly.{orderly_after}
-use Rattle.world_acts.proofs.Reaching.{reaches_act, reaches_both, reaches_carried, reaches_none}
-use Rattle.io_core.proofs.Continued.{carried_reaches}
+use Rattle.world_acts.proofs.Reaching.{going_carried, reaches_act, reaches_both, reaches_none}
+use Rattle.io_core.proofs.Continued.{carried_reaches, follows_going}
 use Rattle.io_core.specs.declared.beginning.Begun.{Begun}
 use Rattle.io_core.specs.Events.{Follows, IsBegunAs, IsCompleted, IsIdle, ending}
 
@@ -61,18 +61,19 @@ ended_left w (Some piece) done now may = left_ended w done now may
 follows_begun : (w v : World) (done : Done) (now : State) → Follows w done now v → v.core.lines.begun ≡ w.core.lines.begun
 follows_begun w v done now is =
     let mid : World = after w (ending is.piece done now) in
-    begun_reaches mid v (reaches_carried mid v is.goes) ∙ ended_begun w is.piece done now
+    begun_reaches mid v (going_carried mid v (follows_going w v done now is)) ∙ ended_begun w is.piece done now
 
 follows_longer : (w v : World) (done : Done) (now : State) → Follows w done now v → IsPrefix w.core.lines.journal v.core.lines.journal
 follows_longer w v done now is =
     let mid : World = after w (ending is.piece done now) in
     subst (λ (es : List JournalEntry). IsPrefix es v.core.lines.journal) (ended_journal w is.piece done now)
-    (journal_reaches follows mid v is.goes)
+    (journal_reaches goes_on mid v (follows_going w v done now is))
 
 pub follows_left : (w v : World) (done : Done) (now : State) → IsOrderly w → Follows w done now v → left_in v < left_in w
 follows_left w v done now o is =
     let mid : World = after w (ending is.piece done now) in
-    let rest : left_in v ≤ left_in mid = left_reaches mid v (orderly_after w (ending is.piece done now) o is.allowed) is.goes in
+    let rest : left_in v ≤ left_in mid = left_reaches mid v (orderly_after w (ending is.piece done now) o is.allowed)
+    (follows_going w v done now is) in
     omega (arith, rest, ended_left w is.piece done now is.allowed)
 
 -- ---- an operation completes, or none does

@@ -32,7 +32,7 @@ use Rattle.piece_table.specs.Pieces.{Pieces, flying_at, flying_in, flying_of, is
 use Rattle.piece_table.specs.Steps as pieces
 use Rattle.piece_table.specs.Steps.{live_of, no_live, with_flying}
 use Rattle.world_acts.specs.declared.state.Core.{Core}
-use Rattle.world_acts.specs.Acts.{Reaches, World, follows, piece_at, world}
+use Rattle.world_acts.specs.Acts.{Act, SettlesAndGoes, World, flushed_acts, flushing, piece_at, settling, world}
 use Rattle.world_acts.specs.Orderly.{IsOrderly}
 use Rattle.world_acts.specs.Owners.{flush_at, in_flight_at, owned_work, piece_work}
 use Rattle.world_acts.specs.Steps.{after_ends, after_flushed}
@@ -171,16 +171,17 @@ pub follows_piece : (before now : State) (c : Core) (done : Done) (owner : Owner
     → IsLawful now
     → owner_at c.pieces.owners done.tag ≡ Some owner
     → p ≡ pieces.after_lands c.pieces done.tag owner.piece
-    → Reaches follows (world now (record c { pieces = p })) v
+    → SettlesAndGoes (settling owner.piece done.op done.well) (world now (record c { pieces = p })) v
     → Follows (world before c) done now v
-follows_piece before now c done owner p v completes lawful owns is goes =
+follows_piece before now c done owner p v completes lawful owns is ends =
     let number_is : piece_at c done.tag ≡ owner.piece = ap (λ (x : Option Owner). option_map_or (λ (y : Owner). y.piece) x 0) owns in
+    let acts : List Act = settling owner.piece done.op done.well in
     record {
       piece = Some owner.piece;
       allowed = (completes, lawful, ap is_some owns);
-      goes =
-          subst (λ (n : ℕ). Reaches follows (world now (after_ends c done.tag n)) v) (sym number_is)
-          (subst (λ (x : Pieces). Reaches follows (world now (record c { pieces = x })) v) is goes);
+      ends =
+          subst (λ (n : ℕ). SettlesAndGoes acts (world now (after_ends c done.tag n)) v) (sym number_is)
+          (subst (λ (x : Pieces). SettlesAndGoes acts (world now (record c { pieces = x })) v) is ends);
     }
 
 -- ---- a flush
@@ -337,17 +338,20 @@ ends_flush before now c done pv p ws kept completes lawful none op same is ended
     (flushed_from before now c done pv kept completes lawful none op
     (subst (λ (x : Waits). flight_of x.plan (plan.flush_of c.waits.plan done.tag).pv ≡ None) is ended)))
 
-pub follows_flush : (before now : State) (c : Core) (done : Done) (p : Pieces) (ws : Waits) (v : World) → Completes before done now
+pub follows_flush : (before now : State) (c : Core) (done : Done) (pv : ℕ) (p : Pieces) (ws : Waits) (v : World)
+    → Completes before done now
     → IsLawful now
     → owner_at c.pieces.owners done.tag ≡ None
     → p ≡ c.pieces
     → ws ≡ waits.after_ended c.waits done.tag done.well
-    → Reaches follows (world now (record c { pieces = p; waits = ws })) v
+    → done.op ≡ FlushOp pv
+    → SettlesAndGoes (flushed_acts pv done.well) (world now (record c { pieces = p; waits = ws })) v
     → Follows (world before c) done now v
-follows_flush before now c done p ws v completes lawful none same is goes = record {
+follows_flush before now c done pv p ws v completes lawful none same is op ends = record {
   piece = None;
   allowed = (completes, lawful, none);
-  goes =
-      subst (λ (x : Waits). Reaches follows (world now (record c { waits = x })) v) is
-      (subst (λ (x : Pieces). Reaches follows (world now (record c { pieces = x; waits = ws })) v) same goes);
+  ends =
+      subst (λ (x : Op). SettlesAndGoes (flushing x done.well) (world now (after_flushed c done.tag done.well)) v) (sym op)
+      (subst (λ (x : Waits). SettlesAndGoes (flushed_acts pv done.well) (world now (record c { waits = x })) v) is
+      (subst (λ (x : Pieces). SettlesAndGoes (flushed_acts pv done.well) (world now (record c { pieces = x; waits = ws })) v) same ends));
 }

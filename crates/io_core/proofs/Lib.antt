@@ -23,7 +23,7 @@ mod Plain
 mod Resting
 mod Happened
 pub mod MoreSpare
-mod Continued
+pub mod Continued
 mod Landing
 mod Opening
 mod Seen

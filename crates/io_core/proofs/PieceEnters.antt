@@ -36,7 +36,7 @@ use Rattle.world_acts.proofs.Lasting.{begun_reaches, sizes_reach, spare_reaches,
 use Rattle.world_acts.proofs.LinesKept.{line_added, open_is}
 use Rattle.world_acts.proofs.Orderly.{orderly_after, orderly_reaches}
 use Rattle.world_acts.proofs.Reaching.{deferral, prepared_carried, prepares_both, prepares_enter, prepares_none, prepares_starts}
-use Rattle.world_acts.proofs.Reaching.{starts_follow}
+use Rattle.world_acts.proofs.Reaching.{starts_go}
 use Rattle.world_acts.proofs.Tables.{Changes, appended, none_counted, own_at, some_of}
 use Rattle.line_plans.specs.declared.preparing.NewPiece.{NewPiece}
 use Rattle.line_plans.specs.Plans.{MayBeOf, pieces_room}
@@ -313,12 +313,12 @@ module _ (w : World) (line : ℕ) (new : NewPiece) (m : MayEnterPiece w line new
       let u : World = act Started in
       let next : ℕ = c.pieces.next in
       let mine : live_of u.core.pieces next ≡ own = ap (λ (o : Option LivePiece). unwrap_or o no_live) (own_at (came Started numbered)) in
-      let spare : v.core.pieces.claims.spare ≡ u.core.pieces.claims.spare = spare_reaches u v (starts_follow u v s.reaches) in
+      let spare : v.core.pieces.claims.spare ≡ u.core.pieces.claims.spare = spare_reaches u v (starts_go u v s.reaches) in
       record {
         prepares =
             prepares_both line (new.piece ∷ []) [] (new.piece ∷ []) None None w u v refl (enter_prepares Started is)
             (prepares_starts line u v s.reaches);
-        room = λ r b. borne_reaches u v r (entered_orderly Started is) (starts_follow u v s.reaches) (enter_room Started r b);
+        room = λ r b. borne_reaches u v r (entered_orderly Started is) (starts_go u v s.reaches) (enter_room Started r b);
         spare = let some = m.spare in omega (arith, some, spare);
         calm =
             λ k. s.calm (just line)
@@ -341,7 +341,7 @@ module _ (w : World) (line : ℕ) (new : NewPiece) (m : MayEnterPiece w line new
         opens = same_both c.opens u.core.opens v.core.opens (same_added c.opens line found.0 found.1) s.opens;
         barrier = s.barrier;
         waits = s.waits;
-        left = let fewer = left_falls u v (starts_follow u v s.reaches) line in omega (arith, fewer, enter_left Started);
+        left = let fewer = left_falls u v (starts_go u v s.reaches) line in omega (arith, fewer, enter_left Started);
       }
 
   -- the same, of the core and the number that have come back

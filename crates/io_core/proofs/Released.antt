@@ -1,6 +1,7 @@
 -- What a disk's last flush served is released, one by one.
 use Rattle.std.proofs.Common.{◌≡◌, ◌≢◌, ◌≤◌, ◌<◌, ℕ, ◌+◌, Bool, true, false, cond, nat_eq, List, [], ◌∷◌, length, get_or, set, drop}
-use Rattle.std.proofs.Common.{◌-◌, Option, None, Some, count_by, inr, is_some, unwrap_or, option_map, slice_get, refl, sym, ap, subst, ◌∙◌, arith}
+use Rattle.std.proofs.Common.{◌-◌, Option, None, Some, count_by, inr, is_some, unwrap_or, option_map, slice_get, refl, sym, ap, subst, ◌∙◌}
+use Rattle.std.proofs.Common.{arith}
 use Rattle.std.specs.Option.{option_map_or}
 use Rattle.std.proofs.lemmas.Bool.{cond_both, eq-eqb, eqb-false, eqb-true}
 use Rattle.std.proofs.lemmas.List.{get_or-set_other, get_or-set_same, length-drop, length-set, set-get_or, set-set}
@@ -20,15 +21,17 @@ use Rattle.piece_table.specs.Pieces.{live_at}
 use Rattle.piece_table.specs.Steps.{live_of}
 use Rattle.world_acts.specs.declared.state.Core.{Core}
 use Rattle.world_acts.specs.declared.open_line.OpenLine.{OpenLine}
-use Rattle.world_acts.specs.Acts.{LineFails, Marks, Reaches, Releases, World, after, core_released, follows, line_of_waiter, line_released}
-use Rattle.world_acts.specs.Acts.{released_at, world}
+use Rattle.world_acts.specs.Acts.{LineFails, Marks, Reaches, Releases, Runs, World, after, core_released, follows, line_of_waiter}
+use Rattle.world_acts.specs.Acts.{line_released}
+use Rattle.world_acts.specs.Acts.{flushed_acts, released_at, world}
 use Rattle.world_acts.specs.Counts.{is_line, is_piece, waiting}
 use Rattle.world_acts.specs.OpenLines.{Opens, after_failure, after_finished, is_pv_failed, left_of, no_open, open_at, open_of, with_open}
 use Rattle.world_acts.specs.Orderly.{AreReleased, IsOrderly, IsTidy}
 use Rattle.world_acts.specs.Steps.{after_line_fails, after_marks, after_released}
 use Rattle.world_acts.proofs.LinesKept.{hit, line_failed}
 use Rattle.world_acts.proofs.PiecesKept.{PieceAt, awaiting_taken}
-use Rattle.world_acts.proofs.Reaching.{reaches_act, reaches_both, reaches_none}
+use Rattle.world_acts.proofs.Orderly.{orderly_after}
+use Rattle.world_acts.proofs.Reaching.{reaches_act, reaches_both}
 use Rattle.world_acts.proofs.Tables.{some_of}
 use Rattle.world_acts.proofs.WaitsKept.{count_first, waiting_on}
 use Rattle.io_core.specs.Rest.{AreReleasedBut, IsCalm, just, no_one}
@@ -273,11 +276,16 @@ warned w pv line c well o within ended served is r =
     })
 
 -- what the disk's failure leaves
-pub marked_reaches : (w : World) (pv : ℕ) (well : Bool) → pv < length w.shelf.sizes
-    → Reaches follows w (world w.shelf (cond well w.core (after_marks w.core pv)))
-marked_reaches w pv well disk =
-    cond_both well w.core (after_marks w.core pv) (λ (x : Core). Reaches follows w (world w.shelf x)) (λ t. reaches_none follows w)
-    (λ t. reaches_act follows w (Marks pv) refl disk)
+pub marked_runs : (w : World) (pv : ℕ) (well : Bool) → pv < length w.shelf.sizes
+    → Runs w (flushed_acts pv well) (world w.shelf (cond well w.core (after_marks w.core pv)))
+marked_runs w pv true disk = refl
+marked_runs w pv false disk = (disk, refl)
+
+-- and it is orderly
+pub marked_orderly : (w : World) (pv : ℕ) (well : Bool) → pv < length w.shelf.sizes → IsOrderly w
+    → IsOrderly (world w.shelf (cond well w.core (after_marks w.core pv)))
+marked_orderly w pv true disk o = o
+marked_orderly w pv false disk o = orderly_after w (Marks pv) o disk
 
 -- what waits on the disks, and what is calm, is the same
 pub record IsMarked (c d : Core) : Type 0 where

@@ -1,5 +1,6 @@
 -- A piece whose operation has ended took place, or fails.
-use Rattle.std.proofs.Common.{◌≡◌, ◌<◌, ℕ, Bool, true, false, cond, nat_eq, nat_le, List, [], length, Option, None, Some, is_some, refl}
+use Rattle.std.proofs.Common.{◌≡◌, ◌<◌, ℕ, Bool, true, false, cond, nat_eq, nat_le, List, [], ◌∷◌, length, Option, None, Some, is_some}
+use Rattle.std.proofs.Common.{refl}
 use Rattle.std.proofs.Common.{sym, ap, subst}
 use Rattle.std.proofs.Common.{◌∙◌, ◌||◌, arith}
 use Rattle.std.specs.Cmp.{nat_cmp_total, unsigned_tied}
@@ -26,12 +27,11 @@ use Rattle.piece_table.specs.Steps.{live_of}
 use Rattle.world_acts.specs.declared.state.Core.{Core}
 use Rattle.world_acts.specs.declared.open_line.OpenLine.{OpenLine}
 use Rattle.world_acts.specs.declared.volumes.Volumes.{Volumes}
-use Rattle.world_acts.specs.Acts.{Allowed, Fails, IsFailure, Marks, Reads, World, Writes, after, follows}
+use Rattle.world_acts.specs.Acts.{Act, Allowed, Fails, IsFailure, Marks, Reads, World, Writes, after}
 use Rattle.world_acts.specs.OpenLines.{after_failure, after_filled, after_finished, filled as filled_work, left_of, open_at, open_of}
 use Rattle.world_acts.specs.Orderly.{AreReleased, IsOfLine, IsOrderly}
 use Rattle.world_acts.specs.Steps.{after_leaves, after_stays, after_written}
 use Rattle.world_acts.proofs.LinesKept.{line_failed}
-use Rattle.world_acts.proofs.Reaching.{reaches_act, reaches_both}
 use Rattle.world_acts.specs.Owners.{line_of, piece_work, values_of}
 use Rattle.world_acts.specs.Volumes.{IsPlaced, span_of}
 use Rattle.world_acts.proofs.Starting.{work_count}
@@ -65,12 +65,13 @@ started_there w number o started =
     of_line_at w number o (is_there (λ (l : LivePiece). is_started_stage l.stage) w.core.pieces.lives number started)
 
 -- with the disk marked before
-pub settles_marked : (w : World) (pv number : ℕ) (v : World) → pv < length w.shelf.sizes → Settles (after w (Marks pv)) number v
-    → Settles w number v
-settles_marked w pv number v disk s =
+pub settles_marked : (w : World) (pv number : ℕ) (acts : List Act) (v : World) → pv < length w.shelf.sizes
+    → Settles (after w (Marks pv)) number acts v
+    → Settles w number (Marks pv ∷ acts) v
+settles_marked w pv number acts v disk s =
     let u : World = after w (Marks pv) in
     record {
-      reaches = reaches_both follows w u v (reaches_act follows w (Marks pv) refl disk) s.reaches;
+      runs = (disk, s.runs);
       calm = λ is. s.calm (same_calm w.core u.core (just number) no_one refl refl refl refl is);
       opened = s.opened;
       barrier = s.barrier;
@@ -86,14 +87,14 @@ insert_has failed pv =
 pub settles_failed : (w : World) (number : ℕ) (why : Answer) → IsOrderly w → is_started w.core.pieces number ≡ true
     → flying_at w.core.pieces number ≡ 0
     → IsFailure w.core (live_of w.core.pieces number).piece why
-    → Settles w number (after w (Fails number why))
+    → Settles w number (Fails number why ∷ []) (after w (Fails number why))
 settles_failed w number why o started landed fails =
     let x : LivePiece = live_of w.core.pieces number in
     let p : OfLine w number = started_there w number o started in
     let failed =
     (line_failed w.core.opens p.live.line p.of_line.opened why p.of_line.is_open).lines p.live.line p.of_line.opened p.of_line.is_open in
     record {
-      reaches = reaches_act follows w (Fails number why) refl (started, landed, fails);
+      runs = ((started, landed, fails), refl);
       calm =
           λ is. fails_calm w.core number w.shelf.steps why p.live (just x.line) o.tidy.pieces.single p.at (eq-eqb x.line x.line refl)
           (calm_weaker (just number) (just number) no_one (just x.line) w.core (λ q not. not) (λ q not. refl) is);
@@ -106,7 +107,7 @@ settles_failed w number why o started landed fails =
     }
 
 pub settles_read : (w : World) (number : ℕ) (sectors : List (List ℕ)) → IsOrderly w → Allowed w (Reads number sectors)
-    → Settles w number (after w (Reads number sectors))
+    → Settles w number (Reads number sectors ∷ []) (after w (Reads number sectors))
 settles_read w number sectors o allowed =
     let x : LivePiece = live_of w.core.pieces number in
     let p : OfLine w number = started_there w number o allowed.0 in
@@ -115,7 +116,7 @@ settles_read w number sectors o allowed =
       work = filled_work (open_of w.core.opens p.live.line).work p.live.piece.first sectors;
     } in
     record {
-      reaches = reaches_act follows w (Reads number sectors) refl allowed;
+      runs = (allowed, refl);
       calm =
           λ is. reads_calm w.core number w.shelf.steps sectors p.live (just x.line) o.tidy.pieces.single p.at (eq-eqb x.line x.line refl)
           (calm_weaker (just number) (just number) no_one (just x.line) w.core (λ q not. not) (λ q not. refl) is);
@@ -166,7 +167,7 @@ wait_released old it pv within are q none =
     ] refl
 
 pub settles_wrote : (w : World) (number pv : ℕ) → IsOrderly w → Allowed w (Writes number pv)
-    → Settles w number (after w (Writes number pv))
+    → Settles w number (Writes number pv ∷ []) (after w (Writes number pv))
 settles_wrote w number pv o allowed =
     let c : Core = w.core in
     let x : LivePiece = live_of c.pieces number in
@@ -175,7 +176,7 @@ settles_wrote w number pv o allowed =
     let place : ℕ = (marks_of written.waits.plan pv).written in
     let within : pv < length c.waits.disks = let disk = allowed.2 in omega (arith, disk, o.backed.places.many) in
     record {
-      reaches = reaches_act follows w (Writes number pv) refl allowed;
+      runs = (allowed, refl);
       calm =
           λ is. wrote_calm c number pv w.shelf.steps p.live (just x.line) o.tidy.pieces.single p.at (eq-eqb x.line x.line refl)
           (calm_weaker (just number) (just number) no_one (just x.line) c (λ q not. not) (λ q not. refl) is);

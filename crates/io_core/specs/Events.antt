@@ -13,7 +13,9 @@ use Rattle.io_session.specs.Events.{RefusesLine, Tends}
 use Rattle.world_acts.specs.declared.open_line.OpenLine.{OpenLine}
 use Rattle.world_acts.specs.OpenLines.{open_at}
 use Rattle.line_plans.specs.Plans.{opened_for, pieces_for}
-use Rattle.world_acts.specs.Acts.{Act, Allowed, Begins, Ends, EndsFlush, Holds, IsGrown, MayBegin, Prepares, Reaches, World, after, follows}
+use Rattle.world_acts.specs.Acts.{Act, Allowed, Begins, Ends, EndsFlush, Holds, IsGrown, MayBegin, Prepares, Reaches, SettlesAndGoes, World}
+use Rattle.world_acts.specs.Acts.{after}
+use Rattle.world_acts.specs.Acts.{flushing, follows, settling}
 use Rattle.io_core.specs.Rest.{IsAtRest}
 use Rattle.io_core.specs.declared.beginning.Begun.{Begun}
 use Rattle.io_core.specs.declared.beginning.Begun.TheVariants.{Answered, Deferred, Started}
@@ -66,11 +68,16 @@ abbrev pub ending : Option ℕ → Done → State → Act
 ending (Some piece) done now = Ends done now
 ending None done now = EndsFlush done now
 
--- an operation has completed, a piece's or a flush, and what follows is done
+-- what it comes to
+abbrev pub settling_of : Option ℕ → Done → List Act
+settling_of (Some number) done = settling number done.op done.well
+settling_of None done = flushing done.op done.well
+
+-- an operation has completed, a piece's or a flush: what it came to is settled, and nothing else is, and what follows is done
 pub record Follows (w : World) (done : Done) (now : State) (v : World) : Type 0 where
   pub piece : Option ℕ
   pub allowed : Allowed w (ending piece done now)
-  pub goes : Reaches follows (after w (ending piece done now)) v
+  pub ends : SettlesAndGoes (settling_of piece done) (after w (ending piece done now)) v
 
 -- an operation completes, and what follows is done, until nothing is left to do
 pub record IsCompleted (w v : World) : Type 0 where

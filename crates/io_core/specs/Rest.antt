@@ -17,7 +17,7 @@ use Rattle.vg_found.specs.declared.found.Found.{Found}
 use Rattle.world_acts.specs.declared.open_line.OpenLine.{OpenLine}
 use Rattle.world_acts.specs.declared.open_line.Work.{Work}
 use Rattle.world_acts.specs.declared.state.Core.{Core}
-use Rattle.world_acts.specs.Acts.{Reaches, World, follows}
+use Rattle.world_acts.specs.Acts.{Act, Runs, World}
 use Rattle.world_acts.specs.Counts.{awaited_of, is_taken}
 use Rattle.world_acts.specs.OpenLines.{Opens, left_of, open_at}
 use Rattle.world_acts.specs.Orderly.{AreReleased, IsOrderly}
@@ -56,9 +56,9 @@ pub record IsCalm (pieces lines : ℕ → Bool) (c : Core) : Type 0 where
   pub quiet : IsQuiet pieces lines c
   pub others : (line : ℕ) → c.barrier ≡ Some line → 1 < length (filter is_open c.lines.answers)
 
--- the piece of which an operation has ended took place, or failed: its line, still open, may have nothing left now
-pub record Settles (w : World) (number : ℕ) (v : World) : Type 0 where
-  pub reaches : Reaches follows w v
+-- by these acts the piece of which an operation has ended took place, or failed: its line, still open, may have nothing left now
+pub record Settles (w : World) (number : ℕ) (acts : List Act) (v : World) : Type 0 where
+  pub runs : Runs w acts v
   pub calm : IsCalm (just number) no_one w.core → IsCalm no_one (just (live_of w.core.pieces number).line) v.core
   pub opened : is_some (open_at v.core.opens (live_of w.core.pieces number).line) ≡ true
   pub barrier : v.core.barrier ≡ w.core.barrier

@@ -5,7 +5,7 @@ ghost use Rattle.disk_model.specs.Operations.{Lies, work_of};
 ghost use Rattle.flush_plan.specs.Plans.{flight_of};
 ghost use Rattle.piece_table.specs.Pieces.{flying_at, is_among, is_started};
 ghost use Rattle.piece_table.specs.Steps.{live_of};
-ghost use Rattle.world_acts.specs.Acts.{Reaches, core_released, follows, line_released, released_at, world};
+ghost use Rattle.world_acts.specs.Acts.{SettlesAndGoes, core_released, flushed_acts, line_released, read_acts, released_at, settling, world, written_acts};
 ghost use Rattle.world_acts.specs.OpenLines.{left_of, open_at};
 ghost use Rattle.world_acts.specs.Orderly.{AreReleased, IsOrderly, IsTidy};
 ghost use Rattle.world_acts.specs.Owners.{piece_work};
@@ -30,7 +30,7 @@ pub(crate) fn end_piece<S: Shelf>(shelf: &S, core: &mut Core, number: u64, op: O
     requires work { work_of op ≡ piece_work core.old (live_of core.old.pieces number) }
     requires lies { Lies (S.state shelf.now).sizes op }
     requires calm { IsCalm (just number) no_one core.old }
-    ensures reaches { Reaches follows (world (S.state shelf.now) core.old) (world (S.state shelf.now) core.new) }
+    ensures ends { SettlesAndGoes (settling number op well) (world (S.state shelf.now) core.old) (world (S.state shelf.now) core.new) }
     ensures calm { IsCalm no_one no_one core.new }
     ensures released { AreReleased core.old → AreReleased core.new }
 {
@@ -46,7 +46,7 @@ fn settle<S: Shelf>(shelf: &S, core: &mut Core, number: u64, op: Op, well: bool)
     requires landed { flying_at core.old.pieces number ≡ 0 }
     requires work { work_of op ≡ piece_work core.old (live_of core.old.pieces number) }
     requires lies { Lies (S.state shelf.now).sizes op }
-    ensures { Settles (world (S.state shelf.now) core.old) number (world (S.state shelf.now) core.new) }
+    ensures { Settles (world (S.state shelf.now) core.old) number (settling number op well) (world (S.state shelf.now) core.new) }
 {
     match op {
         Op::Write(span, _) => settle_write(shelf, core, number, span.pv, well),
@@ -63,7 +63,7 @@ fn settle_write<S: Shelf>(shelf: &S, core: &mut Core, number: u64, pv: u32, well
     requires write { (live_of core.old.pieces number).piece.write ≡ true }
     requires disk { pv < length core.old.waits.disks }
     requires place { (span_of core.old.volumes (live_of core.old.pieces number).piece).pv ≡ pv }
-    ensures { Settles (world (S.state shelf.now) core.old) number (world (S.state shelf.now) core.new) }
+    ensures { Settles (world (S.state shelf.now) core.old) number (written_acts number pv well) (world (S.state shelf.now) core.new) }
 {
     if well {
         wrote(shelf, core, number, pv);
@@ -88,7 +88,7 @@ fn settle_read<S: Shelf>(
     requires read { (live_of core.old.pieces number).piece.write ≡ false }
     requires many { length sectors.now ≡ (live_of core.old.pieces number).piece.count }
     requires place { (span_of core.old.volumes (live_of core.old.pieces number).piece).pv ≡ pv }
-    ensures { Settles (world (S.state shelf.now) core.old) number (world (S.state shelf.now) core.new) }
+    ensures { Settles (world (S.state shelf.now) core.old) number (read_acts number pv sectors.now well) (world (S.state shelf.now) core.new) }
 {
     if well {
         read(shelf, core, number, sectors);
@@ -160,7 +160,7 @@ pub(crate) fn release_all<S: Shelf>(shelf: &S, core: &mut Core, pv: u32, well: b
     requires disk { pv < length core.old.waits.disks }
     requires ended { flight_of core.old.waits.plan pv ≡ None }
     requires calm { IsCalm no_one no_one core.old }
-    ensures reaches { Reaches follows (world (S.state shelf.now) core.old) (world (S.state shelf.now) core.new) }
+    ensures ends { SettlesAndGoes (flushed_acts pv well) (world (S.state shelf.now) core.old) (world (S.state shelf.now) core.new) }
     ensures calm { IsCalm no_one no_one core.new }
     ensures released { AreReleasedBut pv core.old → AreReleased core.new }
 {

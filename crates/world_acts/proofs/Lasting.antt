@@ -19,7 +19,7 @@ use Rattle.world_acts.specs.declared.state.Core.{Core}
 use Rattle.world_acts.specs.declared.open_line.OpenLine.{OpenLine}
 use Rattle.world_acts.specs.Acts.{Act, Allowed, Answers, Asks, AsksFlush, Awaits, Begins, Ends, EndsFlush, Enters, Fails, Grows, Holds}
 use Rattle.world_acts.specs.Acts.{LineFails, Marks, Passes, Reaches, Readies, Reads, Releases, Starts, Wakes, World, Writes}
-use Rattle.world_acts.specs.Acts.{after, carries_on, core_released, follows, released_at}
+use Rattle.world_acts.specs.Acts.{after, carries_on, core_released, goes_on, released_at}
 use Rattle.world_acts.specs.OpenLines.{is_whole, open_of}
 use Rattle.world_acts.specs.Steps.{after_answers, after_leaves, after_released, after_stays, after_written, taken_whole}
 use Rattle.world_acts.proofs.Reaching.{reaches_keep}
@@ -40,7 +40,7 @@ pub record Lasts (a : Act) (w v : World) : Type 0 where
   pub sizes : v.shelf.sizes ≡ w.shelf.sizes
   pub journal : IsPrefix w.core.lines.journal v.core.lines.journal
   pub begun : carries_on a ≡ true → v.core.lines.begun ≡ w.core.lines.begun
-  pub spare : follows a ≡ true → v.core.pieces.claims.spare ≡ w.core.pieces.claims.spare
+  pub spare : goes_on a ≡ true → v.core.pieces.claims.spare ≡ w.core.pieces.claims.spare
 
 spare_left : (table : Claims) (number : ℕ) → (claims.after_leave table number).spare ≡ table.spare
 spare_left table number =
@@ -120,7 +120,7 @@ release_lasts a w pv (Some it) = of it.waiter
 quiet : (a : Act) (w v : World) → v.core.volumes ≡ w.core.volumes → v.shelf.sizes ≡ w.shelf.sizes
     → v.core.lines.journal ≡ w.core.lines.journal
     → v.core.lines.begun ≡ w.core.lines.begun
-    → (follows a ≡ true → v.core.pieces.claims.spare ≡ w.core.pieces.claims.spare)
+    → (goes_on a ≡ true → v.core.pieces.claims.spare ≡ w.core.pieces.claims.spare)
     → Lasts a w v
 quiet a w v volumes sizes journal begun spare = record {
   volumes = volumes;
@@ -202,7 +202,7 @@ begun_reaches w v goes =
     reaches_keep carries_on (λ (x : World). x.core.lines.begun ≡ w.core.lines.begun)
     (λ x a is allowed e. (lasts_act x a allowed).begun is ∙ e) w v goes refl
 
-pub spare_reaches : (w v : World) → Reaches follows w v → v.core.pieces.claims.spare ≡ w.core.pieces.claims.spare
+pub spare_reaches : (w v : World) → Reaches goes_on w v → v.core.pieces.claims.spare ≡ w.core.pieces.claims.spare
 spare_reaches w v goes =
-    reaches_keep follows (λ (x : World). x.core.pieces.claims.spare ≡ w.core.pieces.claims.spare)
+    reaches_keep goes_on (λ (x : World). x.core.pieces.claims.spare ≡ w.core.pieces.claims.spare)
     (λ x a is allowed e. (lasts_act x a allowed).spare is ∙ e) w v goes refl

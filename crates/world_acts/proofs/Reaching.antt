@@ -1,14 +1,20 @@
 -- Acts that follow one another: none, one, those of two lists, and what each of them keeps.
-use Rattle.std.proofs.Common.{◌≡◌, ℕ, Bool, true, not, All, List, [], ◌∷◌, ◌++◌, Option, None, Some, refl, sym, ap, subst, ◌∙◌, true≢false}
+use Rattle.std.proofs.Common.{◌≡◌, ℕ, Bool, true, false, not, All, List, [], ◌∷◌, ◌++◌, Option, None, Some, refl, sym, ap, subst, ◌∙◌}
+use Rattle.std.proofs.Common.{true≢false}
 use Rattle.std.specs.Option.{option_or}
 use Rattle.std.proofs.lemmas.Bool.{and_parts, eq-eqb}
 use Rattle.std.proofs.lemmas.List.Elements.{All-append, All-cons, All-head, All-nil, All-tail, All-weaker}
 use Rattle.sector_base.specs.declared.places.Piece.{Piece}
+use Rattle.line_answers.specs.declared.answer.Answer.TheVariants.{PvFailed, ReadFailed}
+use Rattle.disk_model.specs.declared.ops.Op.{Op}
+use Rattle.disk_model.specs.declared.ops.Op.TheVariants.{Flush as FlushOp, Read as ReadOp, Write as WriteOp}
 use Rattle.claim_table.specs.declared.claim.By.{By}
 use Rattle.claim_table.specs.declared.claim.Entry.{Entry}
 use Rattle.claim_table.specs.declared.claim.Entry.TheVariants.{Deferred, Started}
 use Rattle.world_acts.specs.Acts.{Act, Allowed, Answers, Asks, AsksFlush, Awaits, Begins, Ends, EndsFlush, Enters, Fails, Grows, Holds}
-use Rattle.world_acts.specs.Acts.{LineFails, Marks, Passes, Prepares, Reaches, Readies, Reads, Releases, Runs, Starts, Wakes, World, Writes}
+use Rattle.world_acts.specs.Acts.{LineFails, Marks, Passes, Prepares, Reaches, Readies, Reads, Releases, Runs, SettlesAndGoes, Starts}
+use Rattle.world_acts.specs.Acts.{Wakes}
+use Rattle.world_acts.specs.Acts.{World, Writes, flushing, goes_on, settles, settling}
 use Rattle.world_acts.specs.Acts.{after, carries_on, first_deferral, follows, opens_event, owes_more, pieces_entered, prepares, starts}
 
 pub reaches_none : (may : Act → Bool) (w : World) → Reaches may w w
@@ -41,10 +47,51 @@ reaches_weaker may most w v passes goes = record {
   run = goes.run;
 }
 
--- what follows once an operation has completed may also carry a line on
+-- what follows goes on with what was, and that may also carry a line on
+pub follows_go : (w v : World) → Reaches follows w v → Reaches goes_on w v
+follows_go w v goes = reaches_weaker follows goes_on w v (λ a is. (and_parts (goes_on a) (not (settles a)) is).0) goes
+
+pub going_carried : (w v : World) → Reaches goes_on w v → Reaches carries_on w v
+going_carried w v goes =
+    reaches_weaker goes_on carries_on w v (λ a is. (and_parts (not (opens_event a)) (not (owes_more a)) is).0) goes
+
 pub reaches_carried : (w v : World) → Reaches follows w v → Reaches carries_on w v
-reaches_carried w v goes =
-    reaches_weaker follows carries_on w v (λ a is. (and_parts (not (opens_event a)) (not (owes_more a)) is).0) goes
+reaches_carried w v goes = going_carried w v (follows_go w v goes)
+
+-- ---- what an operation came to
+
+-- these acts go on, and those behind them
+settled_on : (acts : List Act) (w v : World) → All (λ (a : Act). goes_on a ≡ true) acts → SettlesAndGoes acts w v → Reaches goes_on w v
+settled_on acts w v all s =
+    reaches_both goes_on w s.mid v (record { acts = acts; all = all; run = s.settles }) (follows_go s.mid v s.goes)
+
+one_goes : (a : Act) → goes_on a ≡ true → All (λ (b : Act). goes_on b ≡ true) (a ∷ [])
+one_goes a is = All-cons (λ (b : Act). goes_on b ≡ true) a [] is (All-nil (λ (b : Act). goes_on b ≡ true))
+
+settling_goes : (number : ℕ) (op : Op) (well : Bool) → All (λ (a : Act). goes_on a ≡ true) (settling number op well)
+settling_goes number (WriteOp span sectors) true = one_goes (Writes number span.pv) refl
+settling_goes number (WriteOp span sectors) false =
+    All-cons (λ (b : Act). goes_on b ≡ true) (Marks span.pv) (Fails number (PvFailed span.pv) ∷ []) refl
+    (one_goes (Fails number (PvFailed span.pv)) refl)
+settling_goes number (ReadOp span sectors) true = one_goes (Reads number sectors) refl
+settling_goes number (ReadOp span sectors) false = one_goes (Fails number (ReadFailed span.pv)) refl
+settling_goes number (FlushOp pv) well = All-nil (λ (b : Act). goes_on b ≡ true)
+
+pub piece_goes : (number : ℕ) (op : Op) (well : Bool) (w v : World) → SettlesAndGoes (settling number op well) w v → Reaches goes_on w v
+piece_goes number op well w v s = settled_on (settling number op well) w v (settling_goes number op well) s
+
+flushing_goes : (op : Op) (well : Bool) → All (λ (a : Act). goes_on a ≡ true) (flushing op well)
+flushing_goes (FlushOp pv) true = All-nil (λ (b : Act). goes_on b ≡ true)
+flushing_goes (FlushOp pv) false = one_goes (Marks pv) refl
+flushing_goes (WriteOp span sectors) well = All-nil (λ (b : Act). goes_on b ≡ true)
+flushing_goes (ReadOp span sectors) well = All-nil (λ (b : Act). goes_on b ≡ true)
+
+pub flush_goes : (op : Op) (well : Bool) (w v : World) → SettlesAndGoes (flushing op well) w v → Reaches goes_on w v
+flush_goes op well w v s = settled_on (flushing op well) w v (flushing_goes op well) s
+
+-- and more may follow
+pub settled_further : {acts : List Act} (w v u : World) → SettlesAndGoes acts w v → Reaches follows v u → SettlesAndGoes acts w u
+settled_further w v u s more = record { mid = s.mid; settles = s.settles; goes = reaches_both follows s.mid v u s.goes more }
 
 -- the start of a piece follows, and is of its line
 start_follows : (a : Act) → starts a ≡ true → follows a ≡ true
@@ -75,6 +122,9 @@ none_enters (a ∷ acts) all =
 
 pub starts_follow : (w v : World) → Reaches starts w v → Reaches follows w v
 starts_follow w v goes = reaches_weaker starts follows w v start_follows goes
+
+pub starts_go : (w v : World) → Reaches starts w v → Reaches goes_on w v
+starts_go w v goes = follows_go w v (starts_follow w v goes)
 
 -- ---- a line is prepared
 

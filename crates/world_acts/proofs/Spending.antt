@@ -1,4 +1,4 @@
--- What follows once an operation has completed uses up what is owed, and no more of what is spare.
+-- What goes on once an operation has completed uses up what is owed, and no more of what is spare.
 use Rattle.std.proofs.Common.{◌≡◌, ◌≤◌, ◌<◌, ℕ, ◌+◌, ◌-◌, true, false, cond, nat_eq, ◌&&◌, List, length, Option, None, Some}
 use Rattle.std.proofs.Common.{IfSome, is_none, is_some, sum_by, unwrap_or, refl, sym, ap, subst, ◌∙◌, arith, true≢false}
 use Rattle.std.proofs.lemmas.Bool.{and_parts}
@@ -25,7 +25,7 @@ use Rattle.world_acts.specs.declared.state.Core.{Core}
 use Rattle.world_acts.specs.declared.open_line.OpenLine.{OpenLine}
 use Rattle.world_acts.specs.declared.room.Room.{Room}
 use Rattle.world_acts.specs.Acts.{Act, Allowed, Answers, Asks, AsksFlush, Fails, Holds, LineFails, Marks, Passes, Reads, Releases, Starts}
-use Rattle.world_acts.specs.Acts.{Wakes, World, Writes, after, core_released, follows, released_at}
+use Rattle.world_acts.specs.Acts.{Wakes, World, Writes, after, core_released, goes_on, released_at}
 use Rattle.world_acts.specs.Counts.{entries_of, line_entries, ops_of, room_of, sectors_of, waits_of, writes_of}
 use Rattle.world_acts.specs.OpenLines.{IsBarrier, is_whole, open_at, open_of}
 use Rattle.world_acts.specs.Orderly.{IsOrderly}
@@ -339,7 +339,7 @@ release_spends w pv (Some it) = of it.waiter
 
 -- ---- each act
 
-pub spends_act : (w : World) (a : Act) → follows a ≡ true → IsOrderly w → Allowed w a → Spends w (after w a)
+pub spends_act : (w : World) (a : Act) → goes_on a ≡ true → IsOrderly w → Allowed w a → Spends w (after w a)
 spends_act w (LineFails line why) is o allowed = spends_nothing w (after w (LineFails line why)).core refl refl refl refl refl
 spends_act w (Answers line) is o allowed = answer_spends w w.core.barrier line o allowed.0
 spends_act w (Holds line) is o allowed = spends_nothing w (after w (Holds line)).core refl refl refl refl refl

@@ -14,7 +14,7 @@ use Rattle.disk_model.specs.Operations.{work_of}
 use Rattle.disk_model.specs.State.{IsLawful, State}
 use Rattle.disk_model.specs.declared.ops.Done.{Done}
 use Rattle.disk_model.specs.declared.ops.Op.{Op}
-use Rattle.disk_model.specs.declared.ops.Op.TheVariants.{Flush}
+use Rattle.disk_model.specs.declared.ops.Op.TheVariants.{Flush, Read as ReadOp, Write as WriteOp}
 use Rattle.line_table.specs.Steps.{is_open}
 use Rattle.claim_table.specs.Claims.{IsEntry, ready_at}
 use Rattle.claim_table.specs.declared.claim.By.{By}
@@ -248,6 +248,30 @@ abbrev pub Runs : World → List Act → World → Type 0
 Runs w [] v = v ≡ w
 Runs w (a ∷ acts) v = Allowed w a × Runs (after w a) acts v
 
+-- what the end of a write on this disk, or of a read into these sectors, comes to: the piece takes place, or fails
+abbrev pub written_acts : ℕ → ℕ → Bool → List Act
+written_acts number pv true = Writes number pv ∷ []
+written_acts number pv false = Marks pv ∷ Fails number (PvFailed pv) ∷ []
+
+abbrev pub read_acts : ℕ → ℕ → List (List ℕ) → Bool → List Act
+read_acts number pv sectors true = Reads number sectors ∷ []
+read_acts number pv sectors false = Fails number (ReadFailed pv) ∷ []
+
+-- and that of a flush: the disk has failed, where the flush did
+abbrev pub flushed_acts : ℕ → Bool → List Act
+flushed_acts pv true = []
+flushed_acts pv false = Marks pv ∷ []
+
+-- what the end of an operation comes to, where that is the piece's, or a flush
+abbrev pub settling : ℕ → Op → Bool → List Act
+settling number (WriteOp span sectors) well = written_acts number span.pv well
+settling number (ReadOp span sectors) well = read_acts number span.pv sectors well
+settling number (Flush pv) well = []
+
+abbrev pub flushing : Op → Bool → List Act
+flushing (Flush pv) well = flushed_acts pv well
+flushing op well = []
+
 -- one act
 pub record Does (a : Act) (w v : World) : Type 0 where
   pub allowed : Allowed w a
@@ -275,12 +299,29 @@ owes_more (Enters line piece sectors ticket entry) = true
 owes_more (Awaits line pv) = true
 owes_more _ = false
 
--- whether it carries a line on that was begun, and whether it follows once an operation has completed
+-- whether it settles what the operation that has completed came to: its piece has written, or read, or its disk has failed
+abbrev pub settles : Act → Bool
+settles (Writes number pv) = true
+settles (Reads number sectors) = true
+settles (Marks pv) = true
+settles _ = false
+
+-- whether it carries a line on that was begun; whether it goes on with what was, once an operation has completed; and whether it
+-- follows once that is settled
 abbrev pub carries_on : Act → Bool
 carries_on a = not (opens_event a)
 
+abbrev pub goes_on : Act → Bool
+goes_on a = not (opens_event a) && not (owes_more a)
+
 abbrev pub follows : Act → Bool
-follows a = not (opens_event a) && not (owes_more a)
+follows a = goes_on a && not (settles a)
+
+-- these acts lead to a world, and what follows leads on
+pub record SettlesAndGoes (acts : List Act) (w v : World) : Type 0 where
+  pub mid : World
+  pub settles : Runs w acts mid
+  pub goes : Reaches follows mid v
 
 -- whether it starts a piece, or lets it fail as it starts
 abbrev pub starts : Act → Bool

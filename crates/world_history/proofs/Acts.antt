@@ -8,7 +8,7 @@ use Rattle.data_lines.specs.DataLines.{in_range}
 use Rattle.claim_table.specs.declared.claim.By.{By}
 use Rattle.volume_history.specs.Chronicles.{ChronicleEntry}
 use Rattle.world_acts.specs.Acts.{Act, Allowed, Answers, Asks, AsksFlush, Awaits, Enters, Fails, Holds, LineFails}
-use Rattle.world_acts.specs.Acts.{Marks, Passes, Prepares, Reaches, Reads, Releases, Runs, Starts, Wakes, World, Writes, after, follows}
+use Rattle.world_acts.specs.Acts.{Marks, Passes, Prepares, Reaches, Reads, Releases, Runs, Starts, Wakes, World, Writes, after, goes_on}
 use Rattle.world_acts.specs.Acts.{pieces_entered, prepares}
 use Rattle.world_acts.specs.Orderly.{IsOrderly}
 use Rattle.world_acts.proofs.LinesKept.{hit}
@@ -38,32 +38,32 @@ same_coming {start} {coming} {coming'} {w} same t =
     quiet_told t coming' w refl refl refl (omega arith)
     (λ n o at. line_still o (λ x. let s = same n x in omega (arith, s)) (omega arith) (t.lines n o at)) t.through t.waits
 
--- ---- what follows
+-- ---- what goes on
 
 module _ (start : ℕ) (w : World) (o : IsOrderly w) (es : List ChronicleEntry) (t : IsTold start none_coming w es) where
-  told_follows : (a : Act) → follows a ≡ true → Allowed w a → IsTold start none_coming (after w a) (entries_of w a ++ es)
-  told_follows (LineFails line why) is may = line_fail_told t o line why may
-  told_follows (Answers line) is may = answer_told t o (λ q x. refl) line may
-  told_follows (Holds line) is may = hold_told t line may
-  told_follows (Passes line) is may = pass_told t o (λ q x. refl) line may
-  told_follows Wakes is may = wake_told t
-  told_follows (Starts number) is may = start_told t o number may
-  told_follows (Asks number op tag now) is may = ask_told t o number op tag now may
-  told_follows (Marks pv) is may = mark_told t pv
-  told_follows (Fails number why) is may = fail_told t o number why may
-  told_follows (Writes number pv) is may = write_told t o number pv may
-  told_follows (Reads number sectors) is may = read_told t o number sectors may
-  told_follows (AsksFlush pv tag now) is may = ask_flush_told t pv tag now may
-  told_follows (Releases pv) is may = release_told t o pv may
-  told_follows a is may = absurd (true≢false (sym is))
+  told_goes_on : (a : Act) → goes_on a ≡ true → Allowed w a → IsTold start none_coming (after w a) (entries_of w a ++ es)
+  told_goes_on (LineFails line why) is may = line_fail_told t o line why may
+  told_goes_on (Answers line) is may = answer_told t o (λ q x. refl) line may
+  told_goes_on (Holds line) is may = hold_told t line may
+  told_goes_on (Passes line) is may = pass_told t o (λ q x. refl) line may
+  told_goes_on Wakes is may = wake_told t
+  told_goes_on (Starts number) is may = start_told t o number may
+  told_goes_on (Asks number op tag now) is may = ask_told t o number op tag now may
+  told_goes_on (Marks pv) is may = mark_told t pv
+  told_goes_on (Fails number why) is may = fail_told t o number why may
+  told_goes_on (Writes number pv) is may = write_told t o number pv may
+  told_goes_on (Reads number sectors) is may = read_told t o number sectors may
+  told_goes_on (AsksFlush pv tag now) is may = ask_flush_told t pv tag now may
+  told_goes_on (Releases pv) is may = release_told t o pv may
+  told_goes_on a is may = absurd (true≢false (sym is))
 
-pub follows_told : {start : ℕ} {w v : World} → Reaches follows w v → HasToldEntries start w → HasToldEntries start v
-follows_told {start} {w} {v} goes h =
-    reaches_keep follows (HasToldEntries start)
+pub goes_told : {start : ℕ} {w v : World} → Reaches goes_on w v → HasToldEntries start w → HasToldEntries start v
+goes_told {start} {w} {v} goes h =
+    reaches_keep goes_on (HasToldEntries start)
     (λ u a is may k. record {
       orderly = orderly_after u a k.orderly may;
       entries = entries_of u a ++ k.entries;
-      told = told_follows start u k.orderly k.entries k.told a is may;
+      told = told_goes_on start u k.orderly k.entries k.told a is may;
     }) w v goes h
 
 -- ---- a line is prepared

@@ -21,14 +21,16 @@ use Rattle.world_acts.specs.Acts.{Allowed, Begins, Ends, EndsFlush, Grows, Holds
 use Rattle.world_acts.specs.OpenLines.{IsBarrier, is_whole, left_of, open_at}
 use Rattle.world_acts.specs.Orderly.{IsOrderly}
 use Rattle.world_acts.proofs.Orderly.{orderly_after}
+use Rattle.world_acts.proofs.Reaching.{follows_go}
 use Rattle.line_plans.specs.Plans.{opened_for, pieces_for}
 use Rattle.io_core.specs.declared.beginning.Begun.{Begun}
 use Rattle.io_core.specs.Events.{BeginsIn, IsBegunAs, IsCompleted, IsIdle, Makes, ending}
 use Rattle.io_core.specs.Rest.{IsAtRest, IsUnfinished}
+use Rattle.io_core.proofs.Continued.{follows_going}
 use Rattle.io_core.proofs.MoreSpare.{rest_grown}
 use Rattle.world_history.specs.Entries.{entries_of}
 use Rattle.world_history.specs.Told.{IsSessionLine}
-use Rattle.world_history.proofs.Acts.{HasToldEntries, follows_told, prepares_told, same_coming}
+use Rattle.world_history.proofs.Acts.{HasToldEntries, goes_told, prepares_told, same_coming}
 use Rattle.world_history.proofs.Covering.{coming_of}
 use Rattle.world_history.proofs.LineBegun.{begin_told, places}
 use Rattle.world_history.proofs.Passed.{some_open}
@@ -81,7 +83,7 @@ module _ (start : ℕ) (law : PiecesCoverRequest) (u : World) (line : Line) (how
   -- another is open, or none
   begun_alone : ((q : ℕ) (y : OpenLine) → is_wait line.command ≡ true → open_at c.opens q ≡ Some y → ⊥) → HasToldEntries start v
   begun_alone alone =
-      follows_told b.carried.goes
+      goes_told (follows_go b.carried.mid v b.carried.goes)
       (prepares_told start n b.carried.prepares mid_orderly (entries_of u (Begins line b.opened) ++ h.entries)
       (begin_told h.told h.orderly busy law line session b.opened b.is c.barrier (λ wait. inr (λ q y at. alone q y wait at))))
 
@@ -93,7 +95,7 @@ module _ (start : ℕ) (law : PiecesCoverRequest) (u : World) (line : Line) (how
         whole = ap (λ (x : OpenLine). is_whole x.work) b.is ∙ wait_whole c.volumes line.command wait;
         alone = b.may.none;
       } in
-      follows_told (b.holds wait others)
+      goes_told (follows_go (after mid (Holds n)) v (b.holds wait others))
       (record {
         orderly = orderly_after mid (Holds n) mid_orderly (b.free, barrier);
         entries = entries_of u (Begins line b.opened) ++ h.entries;
@@ -158,8 +160,10 @@ ended_told {start} {w} (Some piece) done now may h = record {
 }
 
 completed_going : {start : ℕ} {w v : World} → IsCompleted w v → IsGoing start w → IsGoing start v
-completed_going is g = record {
-  has = follows_told is.completes.goes (ended_told is.completes.piece is.done is.now is.completes.allowed g.has);
+completed_going {start} {w} {v} is g = record {
+  has =
+      goes_told (follows_going w v is.done is.now is.completes)
+      (ended_told is.completes.piece is.done is.now is.completes.allowed g.has);
   rest = is.rest;
 }
 

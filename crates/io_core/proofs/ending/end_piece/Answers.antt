@@ -5,14 +5,18 @@ use Rattle.piece_table.specs.declared.live.LivePiece.{LivePiece}
 use Rattle.world_acts.specs.Acts.{follows, world}
 use Rattle.world_acts.specs.OpenLines.{open_at}
 use Rattle.world_acts.proofs.Orderly.{orderly_reaches}
-use Rattle.world_acts.proofs.Reaching.{reaches_both}
+use Rattle.world_acts.proofs.Reaching.{piece_goes, reaches_none}
 use Rattle.io_core.specs.Rest.{IsCalm, just, no_one}
 use Rattle.io_core.proofs.LiveLines.{live_other}
 use Rattle.io_core.proofs.PieceAsks.{live_is}
 use Rattle.io_core.proofs.ending.end_piece.Goals as goal
 
 pub close_line-requires-clause-orderly : goal.close_line-requires-clause-orderly
-close_line-requires-clause-orderly g c = orderly_reaches c.settle.ensures.reaches c.requires.orderly
+close_line-requires-clause-orderly g c =
+    let s = g.S.Shelf.state c.args.shelf.now in
+    orderly_reaches (piece_goes c.args.number c.args.op c.args.well (world s c.args.core.now) (world s c.settle.new.core)
+    (record { mid = world s c.settle.new.core; settles = c.settle.ensures.runs; goes = reaches_none follows (world s c.settle.new.core) }))
+    c.requires.orderly
 
 pub close_line-requires-clause-opened : goal.close_line-requires-clause-opened
 close_line-requires-clause-opened g c =
@@ -33,9 +37,7 @@ returns g c =
     subst (λ (x : LivePiece). IsCalm no_one (just x.line) c.settle.new.core)
     (live_is c.args.core.now.pieces c.args.number l c.get.ensures) (c.settle.ensures.calm c.requires.calm) in
     record {
-      reaches =
-          reaches_both follows (world s c.args.core.now) (world s c.settle.new.core) (world s c.close_line.new.core)
-          c.settle.ensures.reaches c.close_line.ensures.reaches;
+      ends = record { mid = world s c.settle.new.core; settles = c.settle.ensures.runs; goes = c.close_line.ensures.reaches };
       calm = c.close_line.ensures.calm calm;
       released =
           λ are. subst (λ (x : Waits). (pv : ℕ) → flight_of x.plan pv ≡ None → (disk_waits x pv).served ≡ [])

@@ -1,13 +1,14 @@
-use Rattle.std.proofs.Common.{◌≡◌, ◌≤◌, ◌<◌, ℕ, None, [], false, nat_eq, length, sym, subst, ◌∙◌, arith}
+use Rattle.std.proofs.Common.{◌≡◌, ◌≤◌, ◌<◌, ℕ, List, None, [], false, nat_eq, length, sym, subst, ◌∙◌, arith}
 use Rattle.flush_plan.specs.Plans.{flight_of}
 use Rattle.flush_waits.specs.Waits.{Waits, disk_waits}
 use Rattle.world_acts.specs.declared.state.Core.{Core}
-use Rattle.world_acts.specs.Acts.{Reaches, World, follows, world}
-use Rattle.world_acts.specs.Orderly.{AreReleased}
+use Rattle.world_acts.specs.Acts.{Act, SettlesAndGoes, World, flushed_acts, follows, world}
+use Rattle.world_acts.specs.Orderly.{AreReleased, IsOrderly}
 use Rattle.world_acts.proofs.Orderly.{orderly_reaches}
-use Rattle.world_acts.proofs.Reaching.{reaches_both}
+use Rattle.world_acts.proofs.Reaching.{reaches_both, reaches_none, settled_further}
 use Rattle.io_core.specs.Rest.{IsCalm, no_one}
-use Rattle.io_core.proofs.Released.{IsMarked, ReleasesOne, WaitsLess, all_released, is_marked, marked_reaches, released_none, releases_one}
+use Rattle.io_core.proofs.Released.{IsMarked, ReleasesOne, WaitsLess, all_released, is_marked, marked_orderly, marked_runs, released_none}
+use Rattle.io_core.proofs.Released.{releases_one}
 use Rattle.io_core.proofs.Released.{served_none, served_some, stays_but, waits_less, warned}
 use Rattle.io_core.proofs.ending.release_all.Goals as goal
 
@@ -26,13 +27,16 @@ loop-line-init g c =
     let m : IsMarked core c.note.new.core =
     subst (λ (x : Core). IsMarked core x) (sym c.note.ensures) (is_marked core pv c.args.well) in
     let many : length core.waits.disks ≡ length s.sizes = c.requires.orderly.backed.places.many in
-    let goes : Reaches follows (world s core) (world s c.note.new.core) =
-    subst (λ (x : Core). Reaches follows (world s core) (world s x)) (sym c.note.ensures)
-    (marked_reaches (world s core) pv c.args.well (omega (arith, c.requires.disk, many))) in
+    let disk : pv < length s.sizes = omega (arith, c.requires.disk, many) in
+    let acts : List Act = flushed_acts pv c.args.well in
     record {
-      orderly = orderly_reaches goes c.requires.orderly;
+      orderly =
+          subst (λ (x : Core). IsOrderly (world s x)) (sym c.note.ensures)
+          (marked_orderly (world s core) pv c.args.well disk c.requires.orderly);
       calm = m.calm c.requires.calm;
-      reaches = goes;
+      ends =
+          subst (λ (x : Core). SettlesAndGoes acts (world s core) (world s x)) (sym c.note.ensures)
+          (record { mid = _; settles = marked_runs (world s core) pv c.args.well disk; goes = reaches_none follows _ });
       ended = subst (λ (x : Waits). flight_of x.plan pv ≡ None) (sym m.waits) c.requires.ended;
       disk = subst (λ (x : Waits). pv < length x.disks) (sym m.waits) c.requires.disk;
       released =
@@ -111,8 +115,8 @@ loop-line-preserved g c =
     record {
       orderly = orderly_reaches c.close_line.ensures.reaches (orderly_reaches q.reaches kept.orderly);
       calm = c.close_line.ensures.calm q.calm;
-      reaches =
-          reaches_both follows first w z kept.reaches
+      ends =
+          settled_further first w z kept.ends
           (reaches_both follows w (world w.shelf c.warn.new.core) z q.reaches c.close_line.ensures.reaches);
       ended = less.ended;
       disk = less.disk;
@@ -143,7 +147,7 @@ returns g c =
     let kept = c.loop-line.invariant in
     let same : c.release.new.core ≡ core = c.in_default.ensures.after ∙ released_none core c.args.pv c.in_default.ensures.line in
     record {
-      reaches = subst (λ (x : Core). Reaches follows (world s c.args.core.now) (world s x)) (sym same) kept.reaches;
+      ends = subst (λ (x : Core). SettlesAndGoes (flushed_acts c.args.pv c.args.well) (world s c.args.core.now) (world s x)) (sym same) kept.ends;
       calm = subst (λ (x : Core). IsCalm no_one no_one x) (sym same) kept.calm;
       released =
           λ are. subst (λ (x : Core). AreReleased x) (sym same)

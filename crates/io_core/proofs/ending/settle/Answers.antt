@@ -1,7 +1,8 @@
-use Rattle.std.proofs.Common.{◌≡◌, length, subst, arith}
+use Rattle.std.proofs.Common.{◌≡◌, length, sym, subst, arith}
 use Rattle.disk_model.specs.declared.ops.Op.{Op}
 use Rattle.piece_table.specs.Steps.{live_of}
-use Rattle.world_acts.specs.Acts.{World, world}
+use Rattle.world_acts.specs.Acts.{World, settling, world}
+use Rattle.io_core.specs.Rest.{Settles}
 use Rattle.io_core.proofs.Settled.{OpIs, settled_op}
 use Rattle.io_core.proofs.ending.settle.Goals as goal
 
@@ -49,3 +50,15 @@ settle_read-requires-clause-place g c =
     let w : World = world (g.S.Shelf.state c.args.shelf.now) c.args.core.now in
     let is = settled_op w c.args.number c.args.op c.requires.orderly c.requires.started c.requires.work c.requires.lies in
     (subst (λ (x : Op). OpIs w.shelf.sizes w.core.volumes (live_of w.core.pieces c.args.number) x) c.in-Read.is is).2
+
+pub returns-in-Write : goal.returns-in-Write
+returns-in-Write g c =
+    let w : World = world (g.S.Shelf.state c.args.shelf.now) c.args.core.now in
+    subst (λ (x : Op). Settles w c.args.number (settling c.args.number x c.args.well) (world w.shelf c.settle_write.new.core))
+    (sym c.in-Write.is) c.settle_write.ensures
+
+pub returns-in-Read : goal.returns-in-Read
+returns-in-Read g c =
+    let w : World = world (g.S.Shelf.state c.args.shelf.now) c.args.core.now in
+    subst (λ (x : Op). Settles w c.args.number (settling c.args.number x c.args.well) (world w.shelf c.settle_read.new.core))
+    (sym c.in-Read.is) c.settle_read.ensures

@@ -1,7 +1,7 @@
-use Rattle.std.proofs.Common.{◌≡◌, ◌≤◌, ◌<◌, length, sym, ap, subst, ◌∙◌, arith}
+use Rattle.std.proofs.Common.{◌≡◌, ◌≤◌, ◌<◌, Bool, List, [], ◌∷◌, false, true, length, sym, ap, subst, ◌∙◌, arith}
 use Rattle.line_answers.specs.declared.answer.Answer.TheVariants.{PvFailed}
 use Rattle.world_acts.specs.declared.state.Core.{Core}
-use Rattle.world_acts.specs.Acts.{Marks, World, after, world}
+use Rattle.world_acts.specs.Acts.{Act, Fails, Marks, World, after, world, written_acts}
 use Rattle.world_acts.specs.Orderly.{IsOrderly}
 use Rattle.world_acts.specs.Steps.{after_fails, after_marks}
 use Rattle.world_acts.proofs.ShortActs.{after_mark}
@@ -15,8 +15,11 @@ returns-then-well g c =
     let many : length c.args.core.now.waits.disks ≡ length (g.S.Shelf.state c.args.shelf.now).sizes =
     c.requires.orderly.backed.places.many in
     let disk : c.args.pv < length (g.S.Shelf.state c.args.shelf.now).sizes = omega (arith, c.requires.disk, many) in
-    subst (λ (x : Core). Settles w c.args.number (world (g.S.Shelf.state c.args.shelf.now) x)) (sym c.wrote.ensures)
-    (settles_wrote w c.args.number c.args.pv c.requires.orderly (c.requires.started, c.requires.landed, disk, c.requires.write))
+    let acts : Bool → List Act = written_acts c.args.number c.args.pv in
+    subst (λ (b : Bool). Settles w c.args.number (acts b) (world (g.S.Shelf.state c.args.shelf.now) c.wrote.new.core))
+    (sym c.if-well.true)
+    (subst (λ (x : Core). Settles w c.args.number (acts true) (world (g.S.Shelf.state c.args.shelf.now) x)) (sym c.wrote.ensures)
+    (settles_wrote w c.args.number c.args.pv c.requires.orderly (c.requires.started, c.requires.landed, disk, c.requires.write)))
 
 pub insert-requires : goal.insert-requires
 insert-requires g c =
@@ -45,10 +48,13 @@ returns g c =
     ≡ after_fails (after_marks c.args.core.now c.args.pv) c.args.number (PvFailed c.args.pv) (g.S.Shelf.state c.args.shelf.now).steps =
     c.fail.ensures
     ∙ ap (λ (x : Core). after_fails x c.args.number (PvFailed c.args.pv) (g.S.Shelf.state c.args.shelf.now).steps) is in
-    subst (λ (x : Core). Settles w c.args.number (world (g.S.Shelf.state c.args.shelf.now) x)) (sym made)
-    (settles_marked w c.args.pv c.args.number
+    let acts : Bool → List Act = written_acts c.args.number c.args.pv in
+    subst (λ (b : Bool). Settles w c.args.number (acts b) (world (g.S.Shelf.state c.args.shelf.now) c.fail.new.core))
+    (sym c.if-well.false)
+    (subst (λ (x : Core). Settles w c.args.number (acts false) (world (g.S.Shelf.state c.args.shelf.now) x)) (sym made)
+    (settles_marked w c.args.pv c.args.number (Fails c.args.number (PvFailed c.args.pv) ∷ [])
     (world (g.S.Shelf.state c.args.shelf.now)
     (after_fails (after_marks c.args.core.now c.args.pv) c.args.number (PvFailed c.args.pv) (g.S.Shelf.state c.args.shelf.now).steps))
     disk
     (settles_failed u c.args.number (PvFailed c.args.pv) (after_mark w c.args.pv c.requires.orderly) c.requires.started
-    c.requires.landed (c.requires.place, insert_has w.core.failed c.args.pv)))
+    c.requires.landed (c.requires.place, insert_has w.core.failed c.args.pv))))

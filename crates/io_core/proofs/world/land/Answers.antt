@@ -37,13 +37,13 @@ pub returns-in-Some-clause-follows : goal.returns-in-Some-clause-follows
 returns-in-Some-clause-follows g c =
     λ before kept completes. follows_piece before (g.S.Shelf.state c.args.shelf.now) c.args.core.now c.args.done c.in-Some.owner
     c.lands.new.self _ completes (g.met.S.Shelf.lawful c.args.shelf.now) (sym c.in-Some.ensures.owner) c.in-Some.ensures.after
-    c.end_piece.ensures.reaches
+    c.end_piece.ensures.ends
 
 pub returns-in-Flush-clause-follows : goal.returns-in-Flush-clause-follows
 returns-in-Flush-clause-follows g c =
-    λ before kept completes. follows_flush before (g.S.Shelf.state c.args.shelf.now) c.args.core.now c.args.done c.lands.new.self
-    c.ended.new.self _ completes (g.met.S.Shelf.lawful c.args.shelf.now) (sym c.in-None.ensures.owner) c.in-None.ensures.after
-    c.ended.ensures.after c.release_all.ensures.reaches
+    λ before kept completes. follows_flush before (g.S.Shelf.state c.args.shelf.now) c.args.core.now c.args.done c.in-Flush.pv
+    c.lands.new.self c.ended.new.self _ completes (g.met.S.Shelf.lawful c.args.shelf.now) (sym c.in-None.ensures.owner)
+    c.in-None.ensures.after c.ended.ensures.after c.in-Flush.is c.release_all.ensures.ends
 
 pub returns-in-Flush-clause-released : goal.returns-in-Flush-clause-released
 returns-in-Flush-clause-released g c =
