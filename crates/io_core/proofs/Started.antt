@@ -2,7 +2,6 @@
 use Rattle.std.proofs.Common.{◌≡◌, ◌≤◌, ◌<◌, ◌⊎◌, ℕ, Bool, true, false, List, Option, None, Some, inl, inr, is_some, refl, sym, ap}
 use Rattle.std.proofs.Common.{◌∙◌}
 use Rattle.std.proofs.Common.{arith, subst}
-use Rattle.std.specs.List.{list_any}
 use Rattle.std.specs.Option.{option_map_or}
 use Rattle.line_answers.specs.declared.answer.Answer.{Answer}
 use Rattle.sector_base.specs.declared.places.At.{At}
@@ -11,10 +10,10 @@ use Rattle.disk_model.specs.declared.ops.Op.{Op}
 use Rattle.disk_model.specs.Calls.{Submits}
 use Rattle.disk_model.specs.Operations.{work_of}
 use Rattle.disk_model.specs.State.{IsLawful, State}
-use Rattle.claim_table.specs.Steps.{after_leave, has_number}
+use Rattle.claim_table.specs.Steps.{after_leave}
 use Rattle.piece_table.specs.declared.live.LivePiece.{LivePiece}
 use Rattle.piece_table.specs.declared.live.Stage.TheVariants.{Started}
-use Rattle.piece_table.specs.Pieces.{AreClaimed, Pieces, flying_at, flying_of, is_started, is_started_stage, is_waiting, is_waiting_stage}
+use Rattle.piece_table.specs.Pieces.{AreClaimed, Pieces, flying_at, flying_of, is_started, is_started_stage, is_waiting_stage}
 use Rattle.piece_table.specs.Pieces.{live_at, may_start, owner_at}
 use Rattle.piece_table.specs.Steps.{after_flies, live_of, with_stage}
 use Rattle.world_acts.specs.declared.state.Core.{Core}
@@ -63,9 +62,9 @@ pub record StartedAt (w : World) (number : ℕ) : Type 0 where
   pub orderly : IsOrderly (after w (Starts number))
 
 pub started_piece : (w : World) (number : ℕ) (l : LivePiece) → IsOrderly w → live_at w.core.pieces.lives number ≡ Some l
-    → is_waiting w.core.pieces number ≡ true
+    → may_start w.core.pieces number ≡ true
     → StartedAt w number
-started_piece w number l o at waits =
+started_piece w number l o at may =
     let mid : LivePiece = record (live_of w.core.pieces number) { stage = Started 0 None } in
     let u : World = after w (Starts number) in
     let first : Changes number (Some l) (Some mid) w.core.pieces.lives u.core.pieces.lives =
@@ -77,19 +76,19 @@ started_piece w number l o at waits =
       piece = refl;
       started = ap (λ (x : Option LivePiece). option_map_or (λ (y : LivePiece). is_started_stage y.stage) x false) (own_at first);
       landed = ap (λ (x : Option LivePiece). option_map_or (λ (y : LivePiece). flying_of y.stage) x 0) (own_at first);
-      orderly = after_start w number o waits;
+      orderly = after_start w number o may;
     }
 
 pub starts_failed : (w : World) (number : ℕ) (why : Answer) (l : LivePiece) → IsOrderly w → live_at w.core.pieces.lives number ≡ Some l
-    → is_waiting w.core.pieces number ≡ true
-    → list_any (has_number number) w.core.pieces.claims.deferred ≡ false
+    → may_start w.core.pieces number ≡ true
     → AreClaimed (after w (Starts number)).core.pieces.claims (after w (Starts number)).core.pieces.lives
     → IsFailure w.core l.piece why
     → StartsIn w number (after (after w (Starts number)) (Fails number why))
-starts_failed w number why l o at waits free claimed fails =
+starts_failed w number why l o at may claimed fails =
+    let m : MayStartNow w.core.pieces number = may_start_now w.core.pieces number may in
     let u : World = after w (Starts number) in
     let v : World = after u (Fails number why) in
-    let s : StartedAt w number = started_piece w number l o at waits in
+    let s : StartedAt w number = started_piece w number l o at may in
     let x : LivePiece = live_of u.core.pieces number in
     let same : x ≡ s.live = live_is u.core.pieces number s.live s.at in
     let line : x.line ≡ (live_of w.core.pieces number).line = ap (λ (y : LivePiece). y.line) same ∙ s.line in
@@ -102,7 +101,7 @@ starts_failed w number why l o at waits free claimed fails =
     let p = (line_failed w.core.opens x.line f.opened why here).lines x.line f.opened here in
     record {
       reaches =
-          reaches_both starts w u v (reaches_act starts w (Starts number) refl waits)
+          reaches_both starts w u v (reaches_act starts w (Starts number) refl may)
           (reaches_act starts u (Fails number why) refl
           (s.started, s.landed, subst (λ (p : Piece). IsFailure u.core p why) (sym piece) fails));
       calm =
@@ -112,7 +111,7 @@ starts_failed w number why l o at waits free claimed fails =
           same_both w.core.opens mid v.core.opens (same_failed w.core.opens x.line f.opened why here)
           (same_finished mid x.line p.0 p.1);
       barrier = refl;
-      deferred = deferred_stays u.core.pieces.claims u.core.pieces.lives number claimed (ap is_some s.at) free;
+      deferred = deferred_stays u.core.pieces.claims u.core.pieces.lives number claimed (ap is_some s.at) m.free;
       claims = inr refl;
       waits = refl;
     }
@@ -168,12 +167,14 @@ pub record MayFly (p : Pieces) (number tag : ℕ) : Type 0 where
   pub fresh : owner_at p.owners tag ≡ None
 
 pub may_fly : (w : World) (number tag : ℕ) (l : LivePiece) → IsOrderly w → live_at w.core.pieces.lives number ≡ Some l
-    → is_waiting w.core.pieces number ≡ true
+    → may_start w.core.pieces number ≡ true
     → w.shelf.next_tag ≤ tag
     → MayFly (with_stage w.core.pieces number (Started 0 None)) number tag
-may_fly w number tag l o at waits fresh =
-    let s : StartedAt w number = started_piece w number l o at waits in
-    let its = found (λ (y : LivePiece). is_waiting_stage y.stage) (live_at w.core.pieces.lives number) l at waits in
+may_fly w number tag l o at may fresh =
+    let s : StartedAt w number = started_piece w number l o at may in
+    let its =
+    found (λ (y : LivePiece). is_waiting_stage y.stage) (live_at w.core.pieces.lives number) l at
+    (may_start_now w.core.pieces number may).waits in
     let covered = start_covered w.core.owed l its (has_room w number l o at) in
     let free =
     unknown w.shelf w.core tag o.backed.known o.tidy.owners (fresh_unknown w.shelf tag o.backed.lawful fresh) in
@@ -197,11 +198,10 @@ pub fails_so : (s : State) (c d : Core) (number : ℕ) (l : LivePiece) (why : An
     → d ≡ after_fails (record c { pieces = p; owed = r }) number why s.steps
     → StartsIn (world s c) number (world s d)
 fails_so s c d number l why p r room o at may pieces used owes claimed fails after =
-    let m : MayStartNow c.pieces number = may_start_now c.pieces number may in
     let is : record c { pieces = p; owed = r } ≡ after_starts c number = started_core c number l p r room at pieces used owes in
     subst (λ (x : Core). StartsIn (world s c) number (world s x))
     (sym (after ∙ ap (λ (x : Core). after_fails x number why s.steps) is))
-    (starts_failed (world s c) number why l o at m.waits m.free (subst (λ (x : Pieces). AreClaimed x.claims x.lives) pieces claimed) fails)
+    (starts_failed (world s c) number why l o at may (subst (λ (x : Pieces). AreClaimed x.claims x.lives) pieces claimed) fails)
 
 pub asks_so : (s now : State) (c : Core) (number tag : ℕ) (l : LivePiece) (at : At) (sectors : List (List ℕ)) (op : Op) (p q : Pieces)
     (r room : Room)
@@ -218,8 +218,7 @@ pub asks_so : (s now : State) (c : Core) (number tag : ℕ) (l : LivePiece) (at 
     → r ≡ fewer c.owed room
     → StartsIn (world s c) number (world now (record c { pieces = q; owed = r }))
 asks_so s now c number tag l at sectors op p q r room o here may m its submits lawful pieces flies used owes =
-    let n : MayStartNow c.pieces number = may_start_now c.pieces number may in
     let works : work_of op ≡ piece_work c (live_of c.pieces number) =
     ap work_of its ∙ m.work ∙ ap (piece_work c) (sym (live_is c.pieces number l here)) in
     subst (λ (x : Core). StartsIn (world s c) number (world now x)) (sym (asked_core c number tag l p q r room here pieces flies used owes))
-    (starts_asked (world s c) number op tag now l o here (submits, lawful, n.waits, works))
+    (starts_asked (world s c) number op tag now l o here (submits, lawful, may, works))

@@ -1,11 +1,13 @@
 -- Pieces under way: what the stage of one tells, and what a change of one keeps of all.
-use Rattle.std.proofs.Common.{◌≡◌, ◌<◌, ℕ, ◌+◌, Bool, true, false, cond, nat_eq, List, length, IfSome, Option, None, Some}
+use Rattle.std.proofs.Common.{◌≡◌, ◌<◌, ℕ, ◌+◌, Bool, true, false, not, cond, nat_eq, List, length, IfSome, Option, None, Some}
 use Rattle.std.proofs.Common.{option_map, refl, sym, ap, ◌∙◌, arith, true≢false}
+use Rattle.std.specs.List.{list_any}
 use Rattle.std.specs.Option.{option_map_or}
-use Rattle.std.proofs.lemmas.Bool.{eqb-false, ne_eqb}
+use Rattle.std.proofs.lemmas.Bool.{and_parts, eqb-false, ne_eqb}
 use Rattle.sector_base.specs.declared.places.Piece.{Piece}
 use Rattle.lvm_script.specs.declared.line.Line.{Line}
 use Rattle.disk_model.specs.Steps.{Work as DiskWork}
+use Rattle.claim_table.specs.Steps.{has_number}
 use Rattle.flush_plan.specs.declared.records.Flush.{Flush}
 use Rattle.flush_waits.specs.declared.ticket.Waiting.{Waiting as Waits}
 use Rattle.flush_waits.specs.Waits.{DiskWaits}
@@ -13,7 +15,8 @@ use Rattle.piece_table.specs.declared.live.LivePiece.{LivePiece}
 use Rattle.piece_table.specs.declared.live.Owner.{Owner}
 use Rattle.piece_table.specs.declared.live.Stage.{Stage}
 use Rattle.piece_table.specs.declared.live.Stage.TheVariants.{Started, Taken, Waiting}
-use Rattle.piece_table.specs.Pieces.{flying_in, flying_of, is_started_stage, is_waiting_stage, live_at, no_pieces, owner_at}
+use Rattle.piece_table.specs.Pieces.{Pieces, flying_in, flying_of, is_started_stage, is_waiting, is_waiting_stage, live_at, may_start}
+use Rattle.piece_table.specs.Pieces.{no_pieces, owner_at}
 use Rattle.piece_table.specs.Steps.{with_live}
 use Rattle.world_acts.specs.declared.volumes.Volumes.{Volumes}
 use Rattle.world_acts.specs.Counts.{awaited_at, awaited_of, is_line, is_piece, is_unsubmitted, pieces_of, waiting}
@@ -31,6 +34,10 @@ pub record PieceAt (lives : List (ℕ × LivePiece)) (number : ℕ) (stage : Sta
   pub piece : Piece
   pub ticket : Option (Unit {0})
   pub at : live_at lives number ≡ Some (record { line = line; piece = piece; stage = stage; ticket = ticket })
+
+-- of a piece that may start nothing was submitted
+pub start_waits : (pieces : Pieces) (number : ℕ) → may_start pieces number ≡ true → is_waiting pieces number ≡ true
+start_waits pieces number may = (and_parts (is_waiting pieces number) (not (list_any (has_number number) pieces.claims.deferred)) may).0
 
 module _ (lives : List (ℕ × LivePiece)) (number : ℕ) where
   piece_at : (l : LivePiece) (stage : Stage) → live_at lives number ≡ Some l → l.stage ≡ stage → PieceAt lives number stage

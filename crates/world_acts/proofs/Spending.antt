@@ -35,7 +35,7 @@ use Rattle.world_acts.specs.Volumes.{IsPlaced}
 use Rattle.world_acts.proofs.Answered.{some_entries, whole_entries}
 use Rattle.world_acts.proofs.Flushing.{wanted_within}
 use Rattle.world_acts.proofs.LinesKept.{open_is, open_within}
-use Rattle.world_acts.proofs.PiecesKept.{started_at, waiting_at}
+use Rattle.world_acts.proofs.PiecesKept.{start_waits, started_at, waiting_at}
 use Rattle.world_acts.proofs.RoomsKept.{AddsUp, Uses, no_room}
 use Rattle.world_acts.proofs.Starting.{work_count}
 use Rattle.world_acts.proofs.Tables.{at_number, removed, some_of}
@@ -145,14 +145,14 @@ start_owed w number o waits =
 start_spends : (w : World) (number : ℕ) → IsOrderly w → Allowed w (Starts number) → Spends w (after w (Starts number))
 start_spends w number o allowed =
     let room : Room = start_room (live_of w.core.pieces number).piece in
-    core_spends w (after_starts w.core number) room (adds_fewer w.core.owed room (start_owed w number o allowed))
+    core_spends w (after_starts w.core number) room (adds_fewer w.core.owed room (start_owed w number o (start_waits w.core.pieces number allowed)))
     (record { writes = omega arith; waits = omega arith; entries = omega arith; owners = omega arith })
 
 ask_spends : (w : World) (number : ℕ) (op : Op) (tag : ℕ) (now : State) → IsOrderly w → Allowed w (Asks number op tag now)
     → Spends w (after w (Asks number op tag now))
 ask_spends w number op tag now o allowed =
     let c : Core = w.core in
-    let p = waiting_at c.pieces.lives number allowed.2 in
+    let p = waiting_at c.pieces.lives number (start_waits c.pieces number allowed.2) in
     let l : LivePiece = record { line = p.1.line; piece = p.1.piece; stage = Unsubmitted p.0; ticket = p.1.ticket } in
     let is : live_of c.pieces number ≡ l = ap (λ (x : Option LivePiece). unwrap_or x no_live) p.1.at in
     let placed : IsPlaced c.volumes w.shelf.sizes p.1.piece =
@@ -166,7 +166,7 @@ ask_spends w number op tag now o allowed =
     let room : Room = start_room (live_of c.pieces number).piece in
     record {
       gone = room;
-      owed = adds_fewer c.owed room (start_owed w number o allowed.2);
+      owed = adds_fewer c.owed room (start_owed w number o (start_waits c.pieces number allowed.2));
       in_flight = omega (arith, long);
       ops = omega (arith, allowed.0.spare_ops);
       sectors = omega (arith, allowed.0.spare_sectors, count);

@@ -25,7 +25,7 @@ use Rattle.world_acts.specs.Rooms.{fewer, one, start_room}
 use Rattle.world_acts.specs.Volumes.{IsPlaced, place_of, span_at, span_of}
 use Rattle.world_acts.proofs.Known.{fresh_unknown, known_last, known_more, unknown}
 use Rattle.world_acts.proofs.LinesKept.{lines_same}
-use Rattle.world_acts.proofs.PiecesKept.{piece_replaced, with_piece}
+use Rattle.world_acts.proofs.PiecesKept.{piece_replaced, start_waits, with_piece}
 use Rattle.world_acts.proofs.PiecesKept.{awaits_none, counts_changed, owners_changed, piece_kept, pieces_changed, places_changed, staged}
 use Rattle.world_acts.proofs.PiecesKept.{waiting_at, work_kept}
 use Rattle.world_acts.proofs.RoomsKept.{AddsUp, spare_fewer}
@@ -117,7 +117,7 @@ starts_from w number line piece sectors ticket o at =
 
 pub after_start : (w : World) (number : ℕ) → IsOrderly w → Allowed w (Starts number) → IsOrderly (after w (Starts number))
 after_start w number o allowed =
-    let p = waiting_at w.core.pieces.lives number allowed in
+    let p = waiting_at w.core.pieces.lives number (start_waits w.core.pieces number allowed) in
     let l : LivePiece = record { line = p.1.line; piece = p.1.piece; stage = Waiting p.0; ticket = p.1.ticket } in
     let is : live_of w.core.pieces number ≡ l = ap (λ (x : Option LivePiece). unwrap_or x no_live) p.1.at in
     subst (λ (x : LivePiece). IsOrderly (record w {
@@ -272,7 +272,7 @@ pub after_ask : (w : World) (number : ℕ) (op : Op) (tag : ℕ) (now : State) �
     → IsOrderly (after w (Asks number op tag now))
 after_ask w number op tag now o allowed =
     let c : Core = w.core in
-    let p = waiting_at c.pieces.lives number allowed.2 in
+    let p = waiting_at c.pieces.lives number (start_waits c.pieces number allowed.2) in
     let old : LivePiece = record { line = p.1.line; piece = p.1.piece; stage = Waiting p.0; ticket = p.1.ticket } in
     let mid : LivePiece = record { line = p.1.line; piece = p.1.piece; stage = Started 0 None; ticket = p.1.ticket } in
     let is : live_of c.pieces number ≡ old = ap (λ (x : Option LivePiece). unwrap_or x no_live) p.1.at in

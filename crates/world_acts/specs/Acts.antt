@@ -26,7 +26,7 @@ use Rattle.flush_waits.specs.declared.ticket.Waiter.TheVariants as waiter
 use Rattle.flush_waits.specs.declared.ticket.Waiting.{Waiting}
 use Rattle.flush_waits.specs.Waits.{dirty_at, disk_waits, is_wanted}
 use Rattle.piece_table.specs.declared.live.Owner.{Owner}
-use Rattle.piece_table.specs.Pieces.{claim_of, flying_at, is_started, is_waiting, owner_at}
+use Rattle.piece_table.specs.Pieces.{claim_of, flying_at, is_started, may_start, owner_at}
 use Rattle.piece_table.specs.Steps.{live_of}
 use Rattle.world_acts.specs.declared.state.Core.{Core}
 use Rattle.world_acts.specs.declared.open_line.OpenLine.{OpenLine}
@@ -221,9 +221,9 @@ Allowed w (Answers line) = IsTrue (is_some (open_at w.core.opens line)) × (left
 Allowed w (Holds line) = (w.core.barrier ≡ None) × IsBarrier w.core.opens line
 Allowed w (Passes line) = (w.core.barrier ≡ Some line) × (length (filter is_open w.core.lines.answers) ≤ 1)
 Allowed w Wakes = ready_at w.core.pieces.claims < length w.core.pieces.claims.deferred
-Allowed w (Starts number) = IsTrue (is_waiting w.core.pieces number)
+Allowed w (Starts number) = IsTrue (may_start w.core.pieces number)
 Allowed w (Asks number op tag now) =
-    Submits w.shelf op tag now × IsLawful now × IsTrue (is_waiting w.core.pieces number) ×
+    Submits w.shelf op tag now × IsLawful now × IsTrue (may_start w.core.pieces number) ×
     (work_of op ≡ piece_work w.core (live_of w.core.pieces number))
 Allowed w (Ends done now) = Completes w.shelf done now × IsLawful now × IsTrue (is_some (owner_at w.core.pieces.owners done.tag))
 Allowed w (Marks pv) = pv < length w.shelf.sizes

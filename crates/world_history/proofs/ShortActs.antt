@@ -20,7 +20,7 @@ use Rattle.world_acts.specs.OpenLines.{open_at}
 use Rattle.world_acts.specs.Orderly.{IsOrderly}
 use Rattle.world_acts.proofs.Flushing.{wanted_within}
 use Rattle.world_acts.proofs.Known.{owner_flies}
-use Rattle.world_acts.proofs.PiecesKept.{flying_started, waiting_at}
+use Rattle.world_acts.proofs.PiecesKept.{flying_started, start_waits, waiting_at}
 use Rattle.world_acts.proofs.Tables.{own_at, some_of}
 use Rattle.world_acts.proofs.WaitsKept.{one_disk}
 use Rattle.world_history.specs.Told.{IsOfThrough, IsTold, LineTold}
@@ -86,14 +86,14 @@ module _ {start : ℕ} {coming : ℕ → ℕ → ℕ} {w : World} {es : List Chr
   module _ (o : IsOrderly w) where
     pub start_told : (number : ℕ) → Allowed w (Starts number) → IsTold start coming (after w (Starts number)) es
     start_told number allowed =
-        let p = waiting_at w.core.pieces.lives number allowed in
+        let p = waiting_at w.core.pieces.lives number (start_waits w.core.pieces number allowed) in
         staged_told w.shelf _ (omega arith) refl refl refl (λ q. omega arith)
         (stage_changes w.core.lines.begun w.core.pieces number _ (Started 0 None) o.tidy.pieces.single p.1.at refl refl).come
 
     pub ask_told : (number : ℕ) (op : Op) (tag : ℕ) (now : State) → Allowed w (Asks number op tag now)
         → IsTold start coming (after w (Asks number op tag now)) es
     ask_told number op tag now allowed =
-        let p = waiting_at w.core.pieces.lives number allowed.2 in
+        let p = waiting_at w.core.pieces.lives number (start_waits w.core.pieces number allowed.2) in
         let more = allowed.0.steps in
         let first = stage_changes w.core.lines.begun w.core.pieces number _ (Started 0 None) o.tidy.pieces.single p.1.at refl refl in
         staged_told now _ (omega (arith, more)) refl refl refl (λ q. omega arith)

@@ -37,22 +37,19 @@ fail-requires-clause-orderly g c =
     subst (λ (x : Core). IsOrderly (world (g.S.Shelf.state c.args.shelf.now) x))
     (sym (started_core c.args.core.now c.args.number c.get.result.now c.start-sectors.new.self c.shrink.new.self c.of_start.result
     c.get.ensures c.start-sectors.ensures.after c.of_start.ensures c.shrink.ensures))
-    (started_piece w c.args.number c.get.result.now c.requires.orderly c.get.ensures
-    (may_start_now c.args.core.now.pieces c.args.number c.requires.waiting).waits).orderly
+    (started_piece w c.args.number c.get.result.now c.requires.orderly c.get.ensures c.requires.waiting).orderly
 
 pub fail-requires-clause-started : goal.fail-requires-clause-started
 fail-requires-clause-started g c =
     let w : World = world (g.S.Shelf.state c.args.shelf.now) c.args.core.now in
     subst (λ (x : Pieces). is_started x c.args.number ≡ true) (sym c.start-sectors.ensures.after)
-    (started_piece w c.args.number c.get.result.now c.requires.orderly c.get.ensures
-    (may_start_now c.args.core.now.pieces c.args.number c.requires.waiting).waits).started
+    (started_piece w c.args.number c.get.result.now c.requires.orderly c.get.ensures c.requires.waiting).started
 
 pub fail-requires-clause-landed : goal.fail-requires-clause-landed
 fail-requires-clause-landed g c =
     let w : World = world (g.S.Shelf.state c.args.shelf.now) c.args.core.now in
     subst (λ (x : Pieces). flying_at x c.args.number ≡ 0) (sym c.start-sectors.ensures.after)
-    (started_piece w c.args.number c.get.result.now c.requires.orderly c.get.ensures
-    (may_start_now c.args.core.now.pieces c.args.number c.requires.waiting).waits).landed
+    (started_piece w c.args.number c.get.result.now c.requires.orderly c.get.ensures c.requires.waiting).landed
 
 its_disk : (g : Over) (c : goal.After-drop-sectors-inside g)
     → IsFailure c.args.core.now c.get.result.now.piece (PvFailed c.primary-at.result.pv)
@@ -119,29 +116,29 @@ pub flies-requires-clause-spare : goal.flies-requires-clause-spare
 flies-requires-clause-spare g c =
     let w : World = world (g.S.Shelf.state c.args.shelf.now) c.args.core.now in
     subst (λ (x : Pieces). 0 < x.spare_ops) (sym c.start-sectors.ensures.after)
-    (may_fly w c.args.number c.submit-tag.result c.get.result.now c.requires.orderly c.get.ensures
-    (may_start_now c.args.core.now.pieces c.args.number c.requires.waiting).waits c.submit-tag.ensures.fresh).spare
+    (may_fly w c.args.number c.submit-tag.result c.get.result.now c.requires.orderly c.get.ensures c.requires.waiting
+    c.submit-tag.ensures.fresh).spare
 
 pub flies-requires-clause-started : goal.flies-requires-clause-started
 flies-requires-clause-started g c =
     let w : World = world (g.S.Shelf.state c.args.shelf.now) c.args.core.now in
     subst (λ (x : Pieces). is_started x c.args.number ≡ true) (sym c.start-sectors.ensures.after)
-    (may_fly w c.args.number c.submit-tag.result c.get.result.now c.requires.orderly c.get.ensures
-    (may_start_now c.args.core.now.pieces c.args.number c.requires.waiting).waits c.submit-tag.ensures.fresh).started
+    (may_fly w c.args.number c.submit-tag.result c.get.result.now c.requires.orderly c.get.ensures c.requires.waiting
+    c.submit-tag.ensures.fresh).started
 
 pub flies-requires-clause-few : goal.flies-requires-clause-few
 flies-requires-clause-few g c =
     let w : World = world (g.S.Shelf.state c.args.shelf.now) c.args.core.now in
     subst (λ (x : Pieces). flying_at x c.args.number < 8) (sym c.start-sectors.ensures.after)
-    (may_fly w c.args.number c.submit-tag.result c.get.result.now c.requires.orderly c.get.ensures
-    (may_start_now c.args.core.now.pieces c.args.number c.requires.waiting).waits c.submit-tag.ensures.fresh).few
+    (may_fly w c.args.number c.submit-tag.result c.get.result.now c.requires.orderly c.get.ensures c.requires.waiting
+    c.submit-tag.ensures.fresh).few
 
 pub flies-requires-clause-fresh : goal.flies-requires-clause-fresh
 flies-requires-clause-fresh g c =
     let w : World = world (g.S.Shelf.state c.args.shelf.now) c.args.core.now in
     subst (λ (x : Pieces). owner_at x.owners c.submit-tag.result ≡ None) (sym c.start-sectors.ensures.after)
-    (may_fly w c.args.number c.submit-tag.result c.get.result.now c.requires.orderly c.get.ensures
-    (may_start_now c.args.core.now.pieces c.args.number c.requires.waiting).waits c.submit-tag.ensures.fresh).fresh
+    (may_fly w c.args.number c.submit-tag.result c.get.result.now c.requires.orderly c.get.ensures c.requires.waiting
+    c.submit-tag.ensures.fresh).fresh
 
 pub returns-clause-reaches : goal.returns-clause-reaches
 returns-clause-reaches g c =
