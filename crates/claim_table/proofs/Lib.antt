@@ -9,6 +9,6 @@ mod Passing
 mod TableKept
 mod FreePieces
 mod Watched
-mod Apart
+pub mod Apart
 mod Reached
 pub mod Rows

@@ -21,7 +21,7 @@ pub mod CommitCommands
 mod RestoredCommit
 mod Quiet
 pub mod Placed
-mod NewPlaces
+pub mod NewPlaces
 mod NewVolume
 pub mod Lines
 pub mod NoWrites

@@ -109,7 +109,7 @@ claimed_same claims lives after n l now change is same old =
     same_some (Some x) None e = cc
 
 -- a deferred piece that starts
-claimed_ready : (old : Claims) (lives : List (ℕ × LivePiece)) → ready_at old < length old.deferred → AreClaimed old lives
+pub claimed_ready : (old : Claims) (lives : List (ℕ × LivePiece)) → ready_at old < length old.deferred → AreClaimed old lives
     → AreClaimed (claims.after_ready old) lives
 claimed_ready old lives lt are =
     let c : Claim = get_or old.deferred (ready_at old) claims.no_claim in

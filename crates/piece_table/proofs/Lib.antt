@@ -1,7 +1,7 @@
 mod Entries
 mod Counts
-mod Claimed
+pub mod Claimed
 mod Flying
-mod Waiting
+pub mod Waiting
 mod Kept
 mod Rows

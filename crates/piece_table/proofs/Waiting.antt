@@ -36,7 +36,7 @@ waits_flying (stage.Taken awaited) f = refl
 waits_flying (stage.Waiting sectors) f = refl
 
 -- what was submitted isn't deferred
-not_deferred : (xs : List Claim) (lives : List (ℕ × LivePiece)) (n : ℕ) → waits (live_at lives n) ≡ false → AreWaiting xs lives
+pub not_deferred : (xs : List Claim) (lives : List (ℕ × LivePiece)) (n : ℕ) → waits (live_at lives n) ≡ false → AreWaiting xs lives
     → list_any (claims.has_number n) xs ≡ false
 not_deferred xs lives n none all =
     elim (list_any (claims.has_number n) xs) as (λ b. list_any (claims.has_number n) xs ≡ b → b ≡ false) [
