@@ -15,6 +15,7 @@ mod Stays
 mod Images
 mod Finding
 mod Origins
+pub mod RepairedStart
 mod LineKinds
 mod NewZeroes
 mod Lines

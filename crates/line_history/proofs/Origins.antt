@@ -12,6 +12,7 @@ use Rattle.image_scans.specs.Versions.{FindsVersion, Version}
 use Rattle.volume_history.proofs.EarlierMoments.{now_before}
 use Rattle.volume_history.proofs.Phases.{finds_with}
 use Rattle.volume_history.specs.Chronicles.{Origin, left_out, now_at, origin_at}
+use Rattle.volume_history.specs.Legal.{FindsNow}
 use Rattle.volume_history.specs.Placed.{volumes_of}
 use Rattle.volume_history.specs.Quiet.{AllUntouched}
 use Rattle.volume_history.specs.Single.{AllFind, IsStill}
@@ -48,7 +49,7 @@ module _ (handed at_start ended : Record) (first later : List Step) (is_start : 
       ∙ one_image (now_after handed.opened handed.steps) base
       (now_base handed base (record_before handed at_start first is_start record_start) base_is)
 
-  starts_later : length handed.steps ≤ length at_start.steps
+  pub starts_later : length handed.steps ≤ length at_start.steps
   starts_later = steps_more handed at_start first is_start
 
   ends_later : length at_start.steps ≤ length ended.steps
@@ -60,6 +61,13 @@ module _ (handed at_start ended : Record) (first later : List Step) (is_start : 
       subst (λ (i : Image). FindsVersion sizes i none_out version)
       (sym (now_before origin (length at_start.steps) (length at_start.steps) (omega arith) ends_later ∙ now_start)) finds
 
+  -- and that in a history without entries
+  pub found_now : FindsVersion sizes start_base none_out version
+      → FindsNow (origin_at (length at_start.steps) origin) [] (length at_start.steps) version
+  found_now finds =
+      finds_with sizes (now_at (origin_at (length at_start.steps) origin) (length at_start.steps)) none_out
+      (left_out (origin_at (length at_start.steps) origin) [] (length at_start.steps)) version (λ pv. refl) (found_start finds)
+
   -- until the start every image shows the version in force, and no place of its volumes is touched at any moment
   pub still : ((m : ℕ) → length handed.steps ≤ m → m ≤ length at_start.steps → AllFind sizes none_out version (at_moment m ended))
       → ((m : ℕ) → length handed.steps ≤ m → m ≤ length ended.steps → AllUntouched base (volumes_of version) (at_moment m ended))
@@ -70,7 +78,5 @@ module _ (handed at_start ended : Record) (first later : List Step) (is_start : 
     before = before;
     untouched =
         λ m ge le. subst (λ (i : Image). AllUntouched i (volumes_of version) (at_moment m ended)) (sym now_first) (untouched m ge le);
-    found =
-        finds_with sizes (now_at (origin_at (length at_start.steps) origin) (length at_start.steps)) none_out
-        (left_out (origin_at (length at_start.steps) origin) [] (length at_start.steps)) version (λ pv. refl) (found_start finds);
+    found = found_now finds;
   }

@@ -9,6 +9,7 @@ pub mod Cuts
 pub mod Parts
 pub mod Reshaping
 pub mod Changing
+pub mod Starting
 pub mod Quiet
 pub mod Runs
 pub mod Single
