@@ -86,6 +86,7 @@ follows_plain w v done now plain is =
 pub follows_on : (w v u : World) (done : Done) (now : State) → Follows w done now v → Reaches follows v u → Follows w done now u
 follows_on w v u done now is goes = record {
   piece = is.piece;
+  whose = is.whose;
   allowed = is.allowed;
   ends = settled_further (after w (ending is.piece done now)) v u is.ends goes;
 }

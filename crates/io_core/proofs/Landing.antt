@@ -178,6 +178,7 @@ follows_piece before now c done owner p v completes lawful owns is ends =
     let acts : List Act = settling owner.piece done.op done.well in
     record {
       piece = Some owner.piece;
+      whose = sym (ap (option_map (λ (x : Owner). x.piece)) owns);
       allowed = (completes, lawful, ap is_some owns);
       ends =
           subst (λ (n : ℕ). SettlesAndGoes acts (world now (after_ends c done.tag n)) v) (sym number_is)
@@ -349,6 +350,7 @@ pub follows_flush : (before now : State) (c : Core) (done : Done) (pv : ℕ) (p 
     → Follows (world before c) done now v
 follows_flush before now c done pv p ws v completes lawful none same is op ends = record {
   piece = None;
+  whose = sym (ap (option_map (λ (x : Owner). x.piece)) none);
   allowed = (completes, lawful, none);
   ends =
       subst (λ (x : Op). SettlesAndGoes (flushing x done.well) (world now (after_flushed c done.tag done.well)) v) (sym op)

@@ -1,5 +1,5 @@
 -- The events of a world.
-use Rattle.std.specs.Prelude.{◌≡◌, ◌<◌, ℕ, Bool, if◌then◌else◌, is_some, List, filter, length, Option, None, Some}
+use Rattle.std.specs.Prelude.{◌≡◌, ◌<◌, ℕ, Bool, if◌then◌else◌, is_some, List, filter, length, Option, None, Some, option_map}
 use Rattle.sector_base.specs.declared.places.Piece.{Piece}
 use Rattle.command_table.specs.declared.command.Command.TheVariants.{Wait}
 use Rattle.lvm_script.specs.declared.line.Line.{Line}
@@ -10,6 +10,8 @@ use Rattle.line_table.specs.Steps.{is_open}
 use Rattle.claim_table.specs.declared.claim.By.{By}
 use Rattle.io_session.specs.Events.{Event, Begins as BeginsLine, Completes as CompletesOne, Halts, Idles as IdlesAt, RefusesCommit}
 use Rattle.io_session.specs.Events.{RefusesLine, Tends}
+use Rattle.piece_table.specs.declared.live.Owner.{Owner}
+use Rattle.piece_table.specs.Pieces.{owner_at}
 use Rattle.world_acts.specs.declared.open_line.OpenLine.{OpenLine}
 use Rattle.world_acts.specs.OpenLines.{open_at}
 use Rattle.line_plans.specs.Plans.{opened_for, pieces_for}
@@ -76,6 +78,7 @@ settling_of None done = flushing done.op done.well
 -- an operation has completed, a piece's or a flush: what it came to is settled, and nothing else is, and what follows is done
 pub record Follows (w : World) (done : Done) (now : State) (v : World) : Type 0 where
   pub piece : Option ℕ
+  pub whose : piece ≡ option_map (λ (owner : Owner). owner.piece) (owner_at w.core.pieces.owners done.tag)
   pub allowed : Allowed w (ending piece done now)
   pub ends : SettlesAndGoes (settling_of piece done) (after w (ending piece done now)) v
 

@@ -20,7 +20,7 @@ module _ (first : ℕ) (values buffer : List (List ℕ)) (fits : first + length 
   both_len : length (take first buffer ++ values) ≡ first + length values
   both_len = omega (arith, length-append (take first buffer) values, front_len)
 
-  all_len : length (put_at first values buffer) ≡ length buffer
+  pub all_len : length (put_at first values buffer) ≡ length buffer
   all_len =
       omega (
         arith,
@@ -30,17 +30,17 @@ module _ (first : ℕ) (values buffer : List (List ℕ)) (fits : first + length 
         fits,
       )
 
-  before_put : (k : ℕ) → k < first → get_or buffer k [] ≡ get_or (put_at first values buffer) k []
+  pub before_put : (k : ℕ) → k < first → get_or buffer k [] ≡ get_or (put_at first values buffer) k []
   before_put k lt =
       sym (get_or_append_left (take first buffer ++ values) (drop (first + length values) buffer) [] k (omega (arith, both_len, lt))
       ∙ get_or_append_left (take first buffer) values [] k (omega (arith, front_len, lt)) ∙ get_or-take first buffer k [] lt)
 
-  in_put : (k : ℕ) → first ≤ k → k < first + length values → get_or values (k - first) [] ≡ get_or (put_at first values buffer) k []
+  pub in_put : (k : ℕ) → first ≤ k → k < first + length values → get_or values (k - first) [] ≡ get_or (put_at first values buffer) k []
   in_put k le lt =
       sym (get_or_append_left (take first buffer ++ values) (drop (first + length values) buffer) [] k (omega (arith, both_len, lt))
       ∙ get_or-append_right (take first buffer) values first k [] front_len le)
 
-  behind_put : (k : ℕ) → first + length values ≤ k → get_or buffer k [] ≡ get_or (put_at first values buffer) k []
+  pub behind_put : (k : ℕ) → first + length values ≤ k → get_or buffer k [] ≡ get_or (put_at first values buffer) k []
   behind_put k le =
       let n : ℕ = first + length values in
       let there : n + (k - n) ≡ k = omega (arith, le) in

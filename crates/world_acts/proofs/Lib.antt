@@ -27,4 +27,4 @@ pub mod Left
 pub mod Opened
 pub mod RowSearch
 pub mod VisibleRows
-mod Filled
+pub mod Filled

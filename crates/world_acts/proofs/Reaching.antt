@@ -68,7 +68,7 @@ settled_on acts w v all s =
 one_goes : (a : Act) → goes_on a ≡ true → All (λ (b : Act). goes_on b ≡ true) (a ∷ [])
 one_goes a is = All-cons (λ (b : Act). goes_on b ≡ true) a [] is (All-nil (λ (b : Act). goes_on b ≡ true))
 
-settling_goes : (number : ℕ) (op : Op) (well : Bool) → All (λ (a : Act). goes_on a ≡ true) (settling number op well)
+pub settling_goes : (number : ℕ) (op : Op) (well : Bool) → All (λ (a : Act). goes_on a ≡ true) (settling number op well)
 settling_goes number (WriteOp span sectors) true = one_goes (Writes number span.pv) refl
 settling_goes number (WriteOp span sectors) false =
     All-cons (λ (b : Act). goes_on b ≡ true) (Marks span.pv) (Fails number (PvFailed span.pv) ∷ []) refl
@@ -80,7 +80,7 @@ settling_goes number (FlushOp pv) well = All-nil (λ (b : Act). goes_on b ≡ tr
 pub piece_goes : (number : ℕ) (op : Op) (well : Bool) (w v : World) → SettlesAndGoes (settling number op well) w v → Reaches goes_on w v
 piece_goes number op well w v s = settled_on (settling number op well) w v (settling_goes number op well) s
 
-flushing_goes : (op : Op) (well : Bool) → All (λ (a : Act). goes_on a ≡ true) (flushing op well)
+pub flushing_goes : (op : Op) (well : Bool) → All (λ (a : Act). goes_on a ≡ true) (flushing op well)
 flushing_goes (FlushOp pv) true = All-nil (λ (b : Act). goes_on b ≡ true)
 flushing_goes (FlushOp pv) false = one_goes (Marks pv) refl
 flushing_goes (WriteOp span sectors) well = All-nil (λ (b : Act). goes_on b ≡ true)
