@@ -1,18 +1,19 @@
 pub mod EntryLists
-mod OneLine
+pub mod OneLine
 mod OpenTold
 mod PieceSettles
 mod Quiet
 mod Stages
-mod ShortActs
-mod PieceActs
-mod LineActs
-mod LineAnswered
-mod LineClosed
+pub mod ShortActs
+pub mod PieceActs
+pub mod LineActs
+pub mod LineAnswered
+pub mod LineClosed
 mod Passed
 mod Covering
-mod LineBegun
-mod Acts
-mod Lines
-mod Events
+pub mod LineBegun
+pub mod Acts
+pub mod Lines
+pub mod Events
 pub mod Runs
+pub mod Contents

@@ -1,8 +1,7 @@
 -- A piece of a line enters, a line waits for a flush or fails, what a flush served waits no more, and a line waits for all others.
 use Rattle.std.proofs.Common.{◌≡◌, ◌≤◌, ◌<◌, ◌⊎◌, All, ℕ, ◌+◌, ◌-◌, Bool, true, false, cond, ◌&&◌, ◌||◌, ◌==◌, IfSome, List, [], ◌∷◌}
 use Rattle.std.proofs.Common.{◌++◌, Option, None, Some, inl, inr, get_or, is_some, length, option_map, set, slice_get, unwrap_or, refl, sym}
-use Rattle.std.proofs.Common.{ap}
-use Rattle.std.proofs.Common.{subst, ◌∙◌, arith, true≢false}
+use Rattle.std.proofs.Common.{ap, subst, ◌∙◌, arith, true≢false}
 use Rattle.std.specs.Option.{option_map_or}
 use Rattle.std.proofs.lemmas.Bool.{eq-eqb}
 use Rattle.std.proofs.lemmas.List.Elements.{All-append, All-cons, All-nil}
@@ -32,8 +31,7 @@ use Rattle.world_acts.specs.declared.open_line.Work.{Work}
 use Rattle.world_acts.specs.declared.open_line.Work.TheVariants.{Read, Whole, Write}
 use Rattle.world_acts.specs.declared.state.Core.{Core}
 use Rattle.world_acts.specs.Acts.{Allowed, Awaits, Enters, Holds, IsPartOf, LineFails, MayLineFail, Releases, TellsDisk, World, after}
-use Rattle.world_acts.specs.Acts.{core_released, line_of_waiter}
-use Rattle.world_acts.specs.Acts.{released_at, world}
+use Rattle.world_acts.specs.Acts.{core_released, line_of_waiter, released_at, world}
 use Rattle.world_acts.specs.Counts.{is_line, is_piece, waiting}
 use Rattle.world_acts.specs.OpenLines.{after_finished, is_pv_failed, is_whole, open_at}
 use Rattle.world_acts.specs.Orderly.{IsLive, IsOrderly}
@@ -43,8 +41,7 @@ use Rattle.world_acts.proofs.PiecesKept.{PieceAt, awaiting_taken}
 use Rattle.world_acts.proofs.Releasing.{FirstGone, first_gone, open_by_left}
 use Rattle.world_acts.proofs.Tables.{all_changed, at_number, removed, some_of}
 use Rattle.world_acts.proofs.WaitsKept.{count_push, one_disk, waiting_on}
-use Rattle.world_history.specs.Told.{IsLoss, IsOfThrough, IsOnly, IsStill, IsTold, IsWorkOf, LineTold}
-use Rattle.world_history.specs.Told.{is_to_come, to_come}
+use Rattle.world_history.specs.Told.{IsLoss, IsOfThrough, IsOnly, IsStill, IsTold, IsWorkOf, LineTold, is_to_come, to_come}
 use Rattle.world_history.proofs.EntryLists.{begun_at}
 use Rattle.world_history.proofs.OneLine.{LineIs, Standing, elsewhere, here, is_added, is_failed, is_finished, standing}
 use Rattle.world_history.proofs.PieceActs.{disk_lost, worse_loss, worse_some}
@@ -210,14 +207,14 @@ module _ {start : ℕ} {coming : ℕ → ℕ → ℕ} {w : World} {es : List Chr
       )
 
   -- a line that waits is none that never does
-  waiting_line : (pv line : ℕ) (it : Waiting) → IsServed pv it → it.waiter ≡ waiter.Line line → 0 < waiting (is_line line) c.waits.disks
+  pub waiting_line : (pv line : ℕ) (it : Waiting) → IsServed pv it → it.waiter ≡ waiter.Line line → 0 < waiting (is_line line) c.waits.disks
   waiting_line pv line it served who =
       let s = served.gone.counted (is_line line) in
       let one : hit (is_line line it) ≡ 1 =
       ap (λ (x : Waiter). hit (is_line line (record it { waiter = x }))) who ∙ ap hit (eq-eqb line line refl) in
       omega (arith, s, one)
 
-  taken_piece : (o : IsOrderly w) (pv number : ℕ) (it : Waiting) → IsServed pv it → it.waiter ≡ waiter.Piece number
+  pub taken_piece : (o : IsOrderly w) (pv number : ℕ) (it : Waiting) → IsServed pv it → it.waiter ≡ waiter.Piece number
       → (awaited : ℕ) × PieceAt c.pieces.lives number (Taken awaited)
   taken_piece o pv number it served who =
       let s = served.gone.counted (is_piece number) in

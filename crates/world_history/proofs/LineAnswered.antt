@@ -1,7 +1,6 @@
 -- A line is answered: that is in order, and a line that takes place as a whole does so just before.
 use Rattle.std.proofs.Common.{◌≡◌, ℕ, Bool, true, false, not, ◌&&◌, ◌||◌, List}
-use Rattle.std.proofs.Common.{Option, None, Some, inl, inr, is_none, is_some, unwrap_or, refl}
-use Rattle.std.proofs.Common.{sym, ap, subst, ◌∙◌, true≢false}
+use Rattle.std.proofs.Common.{Option, None, Some, inl, inr, is_none, is_some, unwrap_or, refl, sym, ap, subst, ◌∙◌, true≢false}
 use Rattle.std.specs.Prelude.{if◌then◌else◌}
 use Rattle.std.proofs.lemmas.Option.{same_Some}
 use Rattle.command_table.specs.declared.command.Command.{Command}
@@ -11,11 +10,9 @@ use Rattle.line_answers.specs.declared.answer.Answer.TheVariants as answer
 use Rattle.lvm_script.specs.declared.line.Line.{Line}
 use Rattle.list_laws.proofs.Bools.{and_both}
 use Rattle.data_lines.specs.DataLines.{covers_sector, is_data, is_flush, is_read, is_through, range_of, volume_named, writes}
-use Rattle.volume_history.specs.Chronicles.{ChronicleEntry, has_took}
-use Rattle.volume_history.specs.Chronicles.{pending, settled_at, took_at}
+use Rattle.volume_history.specs.Chronicles.{ChronicleEntry, has_took, pending, settled_at, took_at}
 use Rattle.volume_history.specs.Commands.{is_good, is_list, is_move, is_refused, is_wait, may_say}
-use Rattle.volume_history.specs.Legal.{each_sector, may_answer}
-use Rattle.volume_history.specs.Legal.{may_answer_command, may_answer_data, may_answer_flush, same, tells_taken}
+use Rattle.volume_history.specs.Legal.{each_sector, may_answer, may_answer_command, may_answer_data, may_answer_flush, same, tells_taken}
 use Rattle.world_acts.specs.declared.open_line.Work.{Work}
 use Rattle.world_acts.specs.declared.open_line.Work.TheVariants.{Read, Whole, Write}
 use Rattle.world_acts.specs.OpenLines.{is_whole, work_answer}

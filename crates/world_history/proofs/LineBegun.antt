@@ -1,8 +1,7 @@
 -- A line is begun: that is in order, and its sectors are to come.
 use Rattle.std.proofs.Common.{◌≡◌, ◌<◌, ◌⊎◌, All, ℕ, zero, suc, ◌+◌, Bool, true, false, cond, not, ◌&&◌, ◌||◌, ◌==◌, List, []}
 use Rattle.std.proofs.Common.{◌∷◌, ◌++◌, Option, None, Some, count_by, get_or, inl, inr, is_none, is_some, length, map, option_map}
-use Rattle.std.proofs.Common.{slice_get, unwrap_or, refl}
-use Rattle.std.proofs.Common.{sym, ap, subst, ◌∙◌, arith, true≢false}
+use Rattle.std.proofs.Common.{slice_get, unwrap_or, refl, sym, ap, subst, ◌∙◌, arith, true≢false}
 use Rattle.std.specs.Option.{option_and_then, option_map_or}
 use Rattle.std.specs.Str.{bytes_eq}
 use Rattle.std.proofs.lemmas.Bool.{eq-eqb, eqb-false, eqb-true}
@@ -58,6 +57,14 @@ use Rattle.world_history.proofs.LineActs.{line_begun}
 use Rattle.world_history.proofs.OpenTold.{told_open}
 use Rattle.world_history.proofs.Stages.{come_within}
 use Rattle.world_history.proofs.PieceSettles.{read_line, write_line}
+
+-- one line more is open, and the others are as they were
+pub other_open : (opened : OpenLine) (list : List (Option OpenLine)) (q : ℕ) → (length list ≡ q → ⊥)
+    → get_or (list ++ Some opened ∷ []) q None ≡ get_or list q None
+other_open opened [] zero apart = absurd (apart refl)
+other_open opened [] (suc q) apart = refl
+other_open opened (x ∷ list) zero apart = refl
+other_open opened (x ∷ list) (suc q) apart = other_open opened list q (λ e. apart (ap suc e))
 
 -- ---- how the line is judged
 
@@ -403,14 +410,7 @@ module _ {start : ℕ} {w : World} {es : List ChronicleEntry} (t : IsTold start 
         -- which line stands where
         old_open : (q : ℕ) (y : OpenLine) → (n == q) ≡ false → get_or (c.opens.list ++ Some opened ∷ []) q None ≡ Some y
             → open_at c.opens q ≡ Some y
-        old_open q y apart at = sym (other_at c.opens.list q (λ e. eqb-false n q apart (sym places ∙ e))) ∙ at
-          where
-            other_at : (list : List (Option OpenLine)) (q : ℕ) → (length list ≡ q → ⊥)
-                → get_or (list ++ Some opened ∷ []) q None ≡ get_or list q None
-            other_at [] zero apart = absurd (apart refl)
-            other_at [] (suc q) apart = refl
-            other_at (x ∷ list) zero apart = refl
-            other_at (x ∷ list) (suc q) apart = other_at list q (λ e. apart (ap suc e))
+        old_open q y apart at = sym (other_open opened c.opens.list q (λ e. eqb-false n q apart (sym places ∙ e))) ∙ at
 
         own_open : (q : ℕ) (y : OpenLine) → (n == q) ≡ true → get_or (c.opens.list ++ Some opened ∷ []) q None ≡ Some y → opened ≡ y
         own_open q y here at =

@@ -90,6 +90,32 @@ closed_core c table n moment x = record c {
   owed = fewer c.owed (line_room x);
 }
 
+-- a line of which nothing is left
+module _ {start : ℕ} {coming : ℕ → ℕ → ℕ} {w : World} {es : List ChronicleEntry} (t : IsTold start coming w es) (o : IsOrderly w)
+    (entered : (q x : ℕ) → coming q x ≡ 0) (n : ℕ) (x : OpenLine) (at : open_at w.core.opens n ≡ Some x) (nothing : x.left ≡ 0) where
+  abbrev its : LineTold (coming n) w.core.pieces.lives w.core.waits.disks es n x
+  its = t.lines n x at
+
+  -- nothing of it is to come
+  none_comes : (y : ℕ) → to_come n y w.core.pieces.lives ≡ 0
+  none_comes y =
+      let most = come_within n y w.core.pieces.lives in
+      let left : left_of w.core.opens n ≡ x.left = ap (λ (z : Option OpenLine). option_map_or (λ (q : OpenLine). q.left) z 0) at in
+      let counted = o.tidy.counts.left n in omega (arith, most, left, counted, nothing)
+
+  pub line_ending : IsEnding es n its.0.0 its.0.1 x.key x.work x.failure
+  line_ending = record {
+    keyed = its.2.keyed;
+    some = its.2.some;
+    settled =
+        λ part y covered. let once = its.2.once y in
+        let all : one (not (is_whole x.work) && covers_sector its.0.0.command y) ≡ 1 = rw (part, covered) refl in
+        one_true (settled_at es n x.key y) (omega (arith, once, all, none_comes y, entered n y));
+    took = its.2.took;
+    lost = its.2.lost;
+    none = its.2.none;
+  }
+
 module _ {start : ℕ} {coming : ℕ → ℕ → ℕ} {w : World} {es : List ChronicleEntry} (t : IsTold start coming w es) (o : IsOrderly w)
     (entered : (q x : ℕ) → coming q x ≡ 0) (n : ℕ) (x : OpenLine) (at : open_at w.core.opens n ≡ Some x) (nothing : x.left ≡ 0)
     (alone : (l : Line) → slice_get w.core.lines.begun n ≡ Some l → is_wait l.command ≡ true → IsOnly w n) where
@@ -102,25 +128,8 @@ module _ {start : ℕ} {coming : ℕ → ℕ → ℕ} {w : World} {es : List Chr
   abbrev moment : ℕ
   moment = w.shelf.steps
 
-  -- nothing of it is to come
-  none_comes : (y : ℕ) → to_come n y c.pieces.lives ≡ 0
-  none_comes y =
-      let most = come_within n y c.pieces.lives in
-      let left : left_of c.opens n ≡ x.left = ap (λ (z : Option OpenLine). option_map_or (λ (q : OpenLine). q.left) z 0) at in
-      let counted = o.tidy.counts.left n in omega (arith, most, left, counted, nothing)
-
   ending : IsEnding es n l.0.0 l.0.1 x.key x.work x.failure
-  ending = record {
-    keyed = l.2.keyed;
-    some = l.2.some;
-    settled =
-        λ part y covered. let once = l.2.once y in
-        let all : one (not (is_whole x.work) && covers_sector l.0.0.command y) ≡ 1 = rw (part, covered) refl in
-        one_true (settled_at es n x.key y) (omega (arith, once, all, none_comes y, entered n y));
-    took = l.2.took;
-    lost = l.2.lost;
-    none = l.2.none;
-  }
+  ending = line_ending t o entered n x at nothing
 
   -- what stands before the answer: the entries so far, or with one more of the line
   record IsBefore (before : List ChronicleEntry) (table : lines.Lines) : Type 0 where

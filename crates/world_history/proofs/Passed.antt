@@ -1,7 +1,6 @@
 -- The line that waits for all others is answered, once no other is open.
 use Rattle.std.proofs.Common.{◌≡◌, ◌≤◌, ◌⊎◌, ℕ, zero, suc, Bool, true, false, cond, List, [], ◌∷◌, ◌++◌, Option, None, Some, inl, inr}
-use Rattle.std.proofs.Common.{filter, get_or}
-use Rattle.std.proofs.Common.{IfSome, is_some, length, map, refl, sym, ap, subst, ◌∙◌, arith, true≢false}
+use Rattle.std.proofs.Common.{filter, get_or, IfSome, is_some, length, map, refl, sym, ap, subst, ◌∙◌, arith, true≢false}
 use Rattle.std.proofs.lemmas.Option.{same_Some}
 use Rattle.line_answers.specs.declared.answer.Answer.{Answer}
 use Rattle.line_table.specs.Steps.{is_open}

@@ -40,8 +40,7 @@ use Rattle.world_history.specs.Entries.{entries_of, fails, takes}
 use Rattle.world_history.specs.Told.{IsLoss, IsOfThrough, IsTold, IsWorkOf, is_to_come, to_come}
 use Rattle.world_history.proofs.OneLine.{is_failed, is_filled, is_finished, is_same, lines_both, worse}
 use Rattle.world_history.proofs.PieceSettles.{kind, lost_sector, lost_still, opened, opened_at, own_told, part_of, piece_told, tells_failed}
-use Rattle.world_history.proofs.PieceSettles.{tells_took}
-use Rattle.world_history.proofs.PieceSettles.{told, weighs, weighs_none}
+use Rattle.world_history.proofs.PieceSettles.{tells_took, told, weighs, weighs_none}
 
 -- ---- what a line answers then
 

@@ -1,5 +1,5 @@
 -- What a run comes to, from the opening of its world on, is one history in order.
-use Rattle.std.proofs.Common.{All, ℕ, suc, Bool, List, [], ◌∷◌, ◌++◌, Option, None, get_or, length, refl, sym, ap, subst, ◌∙◌, arith}
+use Rattle.std.proofs.Common.{◌≡◌, All, ℕ, suc, Bool, List, [], ◌∷◌, ◌++◌, Option, None, get_or, length, refl, sym, ap, subst, ◌∙◌, arith}
 use Rattle.std.proofs.lemmas.List.Elements.{All-nil}
 use Rattle.std.proofs.lemmas.Option.{none-some}
 use Rattle.lvm_script.specs.declared.line.Line.{Line}
@@ -17,15 +17,18 @@ use Rattle.io_core.specs.Rest.{IsKept}
 use Rattle.io_core.specs.Worlds.{IsOpenedOn, WorldOn}
 use Rattle.world_history.specs.Ordered.{IsOrderedHistory, lines_with}
 use Rattle.world_history.specs.Told.{IsOfThrough, IsSessionLine, IsTold, none_coming}
+use Rattle.volume_history.specs.Chronicles.{ChronicleEntry}
+use Rattle.world_history.proofs.Acts.{KeepsAlso}
 use Rattle.world_history.proofs.Events.{IsGoing, IsOfSession, event_going}
 use Rattle.world_history.proofs.Lines.{lines_told}
 
 -- where nothing was begun yet
-opened_told : (found : Found) (disks : ℕ) (w : World) → IsOpenedOn found disks w.core → IsTold w.shelf.steps none_coming w []
-opened_told found disks w is = record {
+pub opened_told : (found : Found) (disks : ℕ) (w : World) → IsOpenedOn found disks w.core → (start : ℕ) → w.shelf.steps ≡ start
+    → IsTold start none_coming w []
+opened_told found disks w is start from = record {
   journal = sym (ap (λ (l : Lines). l.journal) is.lines);
   ordered = tt;
-  moment = omega arith;
+  moment = omega (arith, from);
   committed = refl;
   count = sym (ap (λ (l : Lines). length l.begun) is.lines);
   begun = sym (ap (λ (l : Lines). l.begun) is.lines);
@@ -34,6 +37,20 @@ opened_told found disks w is = record {
   through =
       subst (λ (p : Pieces). All (IsOfThrough w.core.lines.begun) p.lives) (sym is.pieces) (All-nil (IsOfThrough w.core.lines.begun));
   waits = λ n o line at. absurd (none-some o (ap (λ (x : Opens). open_at x n) (sym is.opens) ∙ at));
+}
+
+-- nothing else is kept
+abbrev nothing : World → List ChronicleEntry → Type 0
+nothing w es = Unit {0}
+
+keeps_nothing : (start : ℕ) → KeepsAlso start nothing
+keeps_nothing start = record {
+  goes = λ a is o t may ordered also. tt;
+  readies_line = λ line a is o t may ordered also. tt;
+  begins = λ line opened barrier is o t ordered also. tt;
+  ends = λ piece done now whose o t may run ordered also. tt;
+  grows = λ o grows also. tt;
+  readies = λ now o may also. tt;
 }
 
 module _ {S : Type 0} (state : S → State) (law : PiecesCoverRequest) (start : WorldOn S) (script : List Line)
@@ -62,15 +79,16 @@ module _ {S : Type 0} (state : S → State) (law : PiecesCoverRequest) (start : 
   of_session wanted allows w RefusesCommit timely = tt
   of_session wanted allows w Halts timely = tt
 
-  trace_going : (moment : ℕ) (allows : WorldOn S → Line → Bool) (steps : List (TraceStep (WorldOn S) Line)) (w : WorldOn S)
+  pub trace_going : (moment : ℕ) {Also : World → List ChronicleEntry → Type 0} → KeepsAlso moment Also
+      → (allows : WorldOn S → Line → Bool) (steps : List (TraceStep (WorldOn S) Line)) (w : WorldOn S)
       → IsTrace makes start steps w
       → IsTimely (λ x. x.core.lines.begun) allows script steps
-      → IsGoing moment (seen start)
-      → IsGoing moment (seen w)
-  trace_going moment allows [] w trace timely g = subst (λ (x : WorldOn S). IsGoing moment (seen x)) (sym trace) g
-  trace_going moment allows (s ∷ steps) w trace timely g =
-      event_going law s.event (of_session (was_wanted steps) allows s.before s.event timely.0) trace.0
-      (trace_going moment allows steps s.before trace.1 timely.1 g)
+      → IsGoing moment Also (seen start)
+      → IsGoing moment Also (seen w)
+  trace_going moment {Also} keeps allows [] w trace timely g = subst (λ (x : WorldOn S). IsGoing moment Also (seen x)) (sym trace) g
+  trace_going moment keeps allows (s ∷ steps) w trace timely g =
+      event_going keeps law s.event (of_session (was_wanted steps) allows s.before s.event timely.0) trace.0
+      (trace_going moment keeps allows steps s.before trace.1 timely.1 g)
 
   -- all of it
   pub run_ordered : (found : Found) (disks : ℕ) (allows : WorldOn S → Line → Bool) (ended : WorldOn S) (wanted : Bool)
@@ -81,9 +99,14 @@ module _ {S : Type 0} (state : S → State) (law : PiecesCoverRequest) (start : 
       → IsOrderedHistory (state start.shelf).steps ended.core.lines.journal
       (lines_with 0 ended.core.lines.begun ended.core.lines.answers)
   run_ordered found disks allows ended wanted refused opened kept run =
-      let g = trace_going (state start.shelf).steps allows run.steps ended run.trace run.timely
+      let g = trace_going (state start.shelf).steps (keeps_nothing (state start.shelf).steps) allows run.steps ended run.trace run.timely
       (record {
-        has = record { orderly = kept.orderly; entries = []; told = opened_told found disks (seen start) opened };
+        has = record {
+          orderly = kept.orderly;
+          entries = [];
+          told = opened_told found disks (seen start) opened (state start.shelf).steps refl;
+          also = tt;
+        };
         rest = kept.rest;
       }) in
       let t = g.has.told in

@@ -1,5 +1,5 @@
 -- The entries of a history that the acts of a world add.
-use Rattle.std.specs.Prelude.{ℕ, ◌&&◌, is_none, if◌then◌else◌, List, [], ◌∷◌, length, Option, option_map}
+use Rattle.std.specs.Prelude.{ℕ, ◌&&◌, is_none, if◌then◌else◌, List, [], ◌∷◌, ◌++◌, length, Option, option_map}
 use Rattle.lvm_script.specs.declared.line.Line.{Line}
 use Rattle.piece_table.specs.declared.live.LivePiece.{LivePiece}
 use Rattle.piece_table.specs.Steps.{live_of}
@@ -9,7 +9,7 @@ use Rattle.line_plans.specs.Judging.{number_named}
 use Rattle.line_plans.specs.Plans.{key_of}
 use Rattle.world_acts.specs.declared.open_line.OpenLine.{OpenLine}
 use Rattle.world_acts.specs.declared.volumes.Volumes.{Volumes}
-use Rattle.world_acts.specs.Acts.{Act, Answers, Begins, Fails, Passes, Reads, World, Writes}
+use Rattle.world_acts.specs.Acts.{Act, Answers, Begins, Fails, Passes, Reads, World, Writes, after}
 use Rattle.world_acts.specs.OpenLines.{answer_of, is_whole, open_of}
 
 -- the key of the volume that a line names, where that is there
@@ -38,3 +38,8 @@ entries_of w (Fails number why) = fails w.shelf.steps (live_of w.core.pieces num
 entries_of w (Writes number pv) = takes w.shelf.steps (live_of w.core.pieces number)
 entries_of w (Reads number sectors) = takes w.shelf.steps (live_of w.core.pieces number)
 entries_of w _ = []
+
+-- what acts add that follow one another
+abbrev pub entries_by : World → List Act → List ChronicleEntry → List ChronicleEntry
+entries_by w [] es = es
+entries_by w (a ∷ acts) es = entries_by (after w a) acts (entries_of w a ++ es)

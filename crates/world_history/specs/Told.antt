@@ -1,7 +1,6 @@
 -- That the entries of a history say what a world has done so far, in their order, whatever the shelf tells.
 use Rattle.std.specs.Prelude.{◌≡◌, ◌≤◌, ◌⊎◌, All, ℕ, ◌+◌, Bool, true, false, not, ◌==◌, ◌&&◌, ◌||◌, IfSome, List, [], ◌∷◌, ◌++◌, count_by}
-use Rattle.std.specs.Prelude.{length}
-use Rattle.std.specs.Prelude.{Option, None, Some, is_some, option_map, slice_get, slice_index_or, unwrap_or}
+use Rattle.std.specs.Prelude.{length, Option, None, Some, is_some, option_map, slice_get, slice_index_or, unwrap_or}
 use Rattle.std.specs.Option.{option_map_or}
 use Rattle.command_table.specs.declared.command.Command.{Command}
 use Rattle.line_answers.specs.declared.answer.Answer.{Answer}

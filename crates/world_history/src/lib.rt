@@ -1,6 +1,13 @@
-//! The history of a world: that what its acts do is in the order of a legal history of plain volumes.
+//! The history of a world: that what its acts do is a legal history of plain volumes.
 //!
 //! There is no code here. `specs/Entries` says which entries each act adds, `specs/Told` that entries say what a world has done so far,
 //! of each open line which of its sectors have taken place or failed and which are to come, over any shelf; `specs/Ordered` what that
 //! makes of a run. Each act keeps it, file by file, and so do events.
+//!
+//! Where the shelf tells its record, the machine of that history has, between events, what a read of the disks gives
+//! (`specs/Contents`): so reads gave what it had, a write that failed has left of each sector what it held or what was to be written,
+//! and `specs/Legal` says of a run that its journal and its answers are those of one legal history. `proofs/Contents` has its proof.
+//! `histories_stay` is passed on to those that run a world: its law is what the proof goes on from, entry by entry.
 #![tactic(auto)]
+
+pub use volume_history::histories_stay;
