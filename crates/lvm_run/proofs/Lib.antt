@@ -19,6 +19,7 @@ mod Refusals
 mod Reporting
 mod ScannedEntries
 mod SessionCauses
+mod SessionHistory
 mod SessionWords
 mod SourcedLines
 mod Statuses

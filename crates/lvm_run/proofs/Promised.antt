@@ -69,6 +69,15 @@ told_of state law = record {
   steps = λ told is. told_at (λ (t : Record). state.steps ≡ length t.steps) state.told told law.steps is;
 }
 
+-- what reads give is what each sector can have, where that is one value
+pub scanned_base : (old : State) (found : Found) → IsTold old → HoldsNow old.told (λ image. IsScanOf image old.sizes found)
+    → (handed : Record) → old.told ≡ Some handed → (base : Image) → IsBase handed base
+    → IsScanOf base old.sizes found
+scanned_base old found told now handed there base base_is =
+    subst (λ (i : Image). IsScanOf i old.sizes found)
+    (same_image (now_after handed.opened handed.steps) base (now_base handed base (told.record_is handed there) base_is))
+    (subst (λ (o : Option Record). HoldsNow o (λ image. IsScanOf image old.sizes found)) there now)
+
 -- the moments of a journal as the shelf counts them
 pub counted : (handed : Record) (base : Image) (sizes : List ℕ) (names : List Word) (now : ℕ) (ended : Record) (all : List Said)
     (a b n m : ℕ) (t u : Option ℕ) → n ≡ a → u ≡ t → m ≡ b
@@ -209,10 +218,7 @@ module _ (lines : LinesHaveHistories) (cleared : ClearsHaveHistories) (ends : En
 
   module _ (handed : Record) (there : old.told ≡ Some handed) (base : Image) (base_is : IsBase handed base) where
     scan_base : IsScanOf base old.sizes found
-    scan_base =
-        subst (λ (i : Image). IsScanOf i old.sizes found)
-        (same_image (now_after handed.opened handed.steps) base (now_base handed base (old_told.record_is handed there) base_is))
-        (subst (λ (o : Option Record). HoldsNow o (λ image. IsScanOf image old.sizes found)) there opened.now)
+    scan_base = scanned_base old found old_told opened.now handed there base base_is
 
     others : StraysAreOthers found
     others = strays_apart base old.sizes found scan_base

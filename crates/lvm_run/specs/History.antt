@@ -18,16 +18,21 @@ use Rattle.lvm_words.specs.declared.asked.Task.TheVariants as task
 use Rattle.lvm_words.specs.declared.command_line.CommandLine.{CommandLine}
 use Rattle.disk_model.specs.Durability.{IsBase}
 use Rattle.disk_model.specs.State.{State}
-use Rattle.disk_model.specs.Steps.{Image, Record}
+use Rattle.disk_model.specs.Steps.{Image, Record, now_after}
 use Rattle.line_table.specs.declared.journal.EntryKind.{EntryKind}
 use Rattle.line_table.specs.declared.journal.EntryKind.TheVariants as kind
 use Rattle.line_table.specs.declared.journal.JournalEntry.{JournalEntry}
 use Rattle.lvm_report.specs.AnswerLines.{answers_text}
 use Rattle.image_scans.specs.Laws.{none_out}
 use Rattle.image_scans.specs.Versions.{FindsVersion, Version}
+use Rattle.volume_history.specs.Chronicles.{Chronicle}
 use Rattle.volume_history.specs.Commands.{commits}
+use Rattle.volume_history.specs.Legal.{IsLegalHistory}
+use Rattle.volume_history.specs.Placed.{volumes_of}
+use Rattle.volume_history.specs.Replay.{opening_volumes, plain_state}
+use Rattle.volume_history.specs.Runs.{IsOfRun, Run}
 use Rattle.line_history.specs.EachSet.{MembersAgree, SetsAgree}
-use Rattle.line_history.specs.Histories.{HasRunHistory, journal_of_line}
+use Rattle.line_history.specs.Histories.{HasRunHistory, journal_of_line, run_from}
 use Rattle.lvm_run.specs.Outcomes.{output_of}
 use Rattle.lvm_run.specs.Runs.{names_of}
 use Rattle.lvm_run.specs.declared.entered.Entered.{Entered}
@@ -97,6 +102,22 @@ KeepsPromise names now old journal lines new =
     → FindsVersion old.sizes base none_out version
     → (ended : Record) → new.told ≡ Some ended
     → HasRunHistory handed base old.sizes names now ended journal lines × NoneOlder journal lines old.sizes ended
+
+-- the journal and the lines of a run are those of one legal history of plain volumes, and at its end a read gives what these have
+pub record HasLegalRun (run : Run) (journal : List JournalEntry) (lines : List Said) : Type 0 where
+  pub chronicle : Chronicle
+  pub of_run : IsOfRun chronicle run journal lines
+  pub legal : IsLegalHistory chronicle
+  pub shown :
+      (plain_state chronicle.origin chronicle.entries).volumes
+      ≡ opening_volumes (now_after run.told.opened run.told.steps) 0 (volumes_of chronicle.origin.version)
+
+-- What is promised of a session's journal and answers: where the disks tell their record, and each of their sectors has one possible
+-- value when they are handed in, they are those of one legal history of plain volumes, at whatever time.
+abbrev pub KeepsLegalRun : List Word → State → List JournalEntry → List Said → State → Type 0
+KeepsLegalRun names old journal lines new =
+    (handed : Record) → old.told ≡ Some handed → (base : Image) → IsBase handed base → (clock : ℕ) → (ended : Record)
+    → new.told ≡ Some ended → HasLegalRun (run_from handed old.sizes names clock ended) journal lines
 
 -- each moment of the journal lies between these two, none before that of an earlier entry
 abbrev pub AreInTime : ℕ → List JournalEntry → ℕ → Type 0

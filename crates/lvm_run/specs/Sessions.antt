@@ -28,7 +28,7 @@ use Rattle.vg_repair.specs.Batches.{repair_batches}
 use Rattle.vg_repair.specs.Laws.{KeepsImages as RepairKeepsImages, StraysAreOthers}
 use Rattle.vg_repair.specs.Repairing.{HasBegun as HasRepairBegun, IsFault as IsRepairFault, IsRepaired, Repairs}
 use Rattle.vg_repair.specs.declared.fault.RepairFault.{RepairFault}
-use Rattle.session_run.specs.Running.{RunsLines}
+use Rattle.session_run.specs.Running.{RunsLines, said_in}
 use Rattle.session_run.specs.SessionScript.{session_commands}
 use Rattle.session_run.specs.Status.{status_of_lines}
 use Rattle.session_run.specs.declared.running.RanLines.{RanLines}
@@ -37,7 +37,7 @@ use Rattle.lvm_run.specs.declared.ending.Ending.TheVariants.{NoMemory, ScriptRef
 use Rattle.lvm_run.specs.declared.outcome.Outcome.{Outcome}
 use Rattle.lvm_run.specs.Changing.{ending_of}
 use Rattle.lvm_run.specs.Endings.{ending_text, status_of_ending}
-use Rattle.lvm_run.specs.History.{HasEntered}
+use Rattle.lvm_run.specs.History.{HasEntered, KeepsLegalRun}
 use Rattle.lvm_run.specs.Outcomes.{Ends}
 use Rattle.lvm_run.specs.Runs.{RunsWords, names_of}
 use Rattle.lvm_run.specs.Scan.{IsOpenCause, IsOpened, OpensDisks}
@@ -202,10 +202,10 @@ pub data IsEndedBefore (session : Session) (from to : SourceState) (ids ids_afte
     Unbegun : is_built_session session ≡ true → (lines : List Line) → ReadsLines from to ids lines ids_after → IsUnbegun old new ending
         → IsEndedBefore session from to ids ids_after old new ending
 
--- its lines were run, on what was found once that was repaired
-pub record RunsScript {S : Type 0} (session : Session) (state : S → State) (from to : SourceState) (ids ids_after : ℕ → List ℕ)
-    (old : State) (begun unbegun : List (ℕ × Option Answer)) (journal : List JournalEntry) (answers : List (ℕ × Option Answer)) (shelf : S)
-    : Type 0 where
+-- its lines were run, on what was found once that was repaired, and what they came to is one legal history
+pub record RunsScript {S : Type 0} (session : Session) (names : List Word) (state : S → State) (from to : SourceState)
+    (ids ids_after : ℕ → List ℕ) (old : State) (begun unbegun : List (ℕ × Option Answer)) (journal : List JournalEntry)
+    (answers : List (ℕ × Option Answer)) (shelf : S) : Type 0 where
   pub built : is_built_session session ≡ true
   pub lines : List Line
   pub reads : ReadsLines from to ids lines ids_after
@@ -214,6 +214,7 @@ pub record RunsScript {S : Type 0} (session : Session) (state : S → State) (fr
   pub opened : OpensAndRepairs old (Ok repaired) (state ready)
   pub ran : RanLines S
   pub runs : RunsLines state repaired ready lines ran
+  pub history : KeepsLegalRun names old ran.journal.items (said_in runs.run.world ran.answers.items) (state ran.shelf)
   pub begun_is : begun ≡ ran.answers.items
   pub unbegun_is : unbegun ≡ ran.unbegun.items
   pub journal_is : journal ≡ ran.journal.items
@@ -221,12 +222,12 @@ pub record RunsScript {S : Type 0} (session : Session) (state : S → State) (fr
   pub shelf_is : shelf ≡ ran.shelf
 
 -- the cause of each outcome; nothing is entered where it ended before its lines
-abbrev pub IsSessionCause : {S : Type 0} → Session → (S → State) → SourceState → SourceState → (ℕ → List ℕ) → (ℕ → List ℕ) → State
-    → SessionOutcome → List JournalEntry → List (ℕ × Option Answer) → S → Type 0
-IsSessionCause session state from to ids ids_after old (EndedBefore ending) journal answers shelf =
+abbrev pub IsSessionCause : {S : Type 0} → Session → List Word → (S → State) → SourceState → SourceState → (ℕ → List ℕ) → (ℕ → List ℕ)
+    → State → SessionOutcome → List JournalEntry → List (ℕ × Option Answer) → S → Type 0
+IsSessionCause session names state from to ids ids_after old (EndedBefore ending) journal answers shelf =
     IsEndedBefore session from to ids ids_after old (state shelf) ending × (journal ≡ []) × (answers ≡ [])
-IsSessionCause session state from to ids ids_after old (Ran begun unbegun) journal answers shelf =
-    RunsScript session state from to ids ids_after old begun unbegun journal answers shelf
+IsSessionCause session names state from to ids ids_after old (Ran begun unbegun) journal answers shelf =
+    RunsScript session names state from to ids ids_after old begun unbegun journal answers shelf
 
 -- ---- runs
 
@@ -236,7 +237,7 @@ pub record RunsSession {S : Type 0} (session : Session) (names : List Word) (sta
     (ids ids_after : ℕ → List ℕ) (old : State) (status : ℕ) (before : Option (List ℕ)) (faults_before : ℕ) (after : Option (List ℕ))
     (faults_after : ℕ) (journal : List JournalEntry) (answers : List (ℕ × Option Answer)) (shelf : S) : Type 0 where
   pub outcome : SessionOutcome
-  pub cause : IsSessionCause session state from to ids ids_after old outcome journal answers shelf
+  pub cause : IsSessionCause session names state from to ids ids_after old outcome journal answers shelf
   pub ends : SessionEnds names outcome status before faults_before after faults_after
 
 -- the same of words that ask for one

@@ -5,7 +5,7 @@ ghost use Rattle.change_batches.specs.Sound.{sizes_of};
 ghost use Rattle.volume_rules.specs.Rules.{IsAccepted};
 ghost use Rattle.vg_repair.specs.declared.fault.RepairFault.{RepairFault as FaultRecord};
 ghost use Rattle.io_core.specs.Rest.{LiesOn};
-ghost use Rattle.world_history.specs.Told.{IsSessionLine};
+ghost use Rattle.session_run.specs.SessionScript.{AreOfSession};
 ghost use Rattle.session_run.specs.Status.{status_of_lines};
 ghost use Rattle.lvm_run.specs.Changing.{ending_of};
 ghost use Rattle.lvm_run.specs.Disks.{AreDisks};
@@ -86,7 +86,7 @@ fn read_lines<R: Source, N: Words64>(
     ensures read { MatchResult result
         (λ lines. ReadsLines (source (R.left script.old) (R.fault_count script.old)) (source (R.left script.new) (R.fault_count script.new)) (N.upcoming ids.old) lines.items (N.upcoming ids.new))
         (λ ending. ReadsNoLines (source (R.left script.old) (R.fault_count script.old)) (source (R.left script.new) (R.fault_count script.new)) (N.upcoming ids.old) ending (N.upcoming ids.new)) }
-    ensures session { IfOk result (λ lines. All IsSessionLine lines.items) }
+    ensures session { IfOk result (λ lines. AreOfSession lines.items) }
 {
     let text = match read_all(alloc, script) {
         Ok(text) => text,

@@ -12,6 +12,7 @@ use Rattle.io_session.specs.declared.session.Run.{Run}
 use Rattle.world_acts.specs.Acts.{world}
 use Rattle.io_core.specs.Events.{Makes}
 use Rattle.io_core.specs.Worlds.{IsOpenedOn, WorldOn}
+use Rattle.world_history.specs.Legal.{KeepsLegal}
 use Rattle.world_history.specs.Ordered.{IsOrderedHistory, lines_with}
 use Rattle.session_run.specs.declared.running.RanLines.{RanLines}
 
@@ -35,8 +36,12 @@ IsRun state start script run =
     (λ w. not (list_any is_open w.core.lines.answers)) (λ w line. is_none w.core.barrier)
     (λ old event new. Makes (world (state old.shelf) old.core) event (world (state new.shelf) new.core)) start script run
 
+-- the lines that were begun in a world, each with its answer if it has one
+abbrev pub said_in : {S : Type 0} → WorldOn S → List (ℕ × Option Answer) → List (Line × Option Answer)
+said_in world answers = lines_with 0 world.core.lines.begun answers
+
 -- The lines were run on this shelf, in a world of what was found there, and that is what they came to: the journal and the answers are
--- those of one history in order.
+-- those of one history in order, and, where the shelf tells its record, of one legal history.
 pub record RunsLines {S : Type 0} (state : S → State) (found : Found) (shelf : S) (lines : List Line) (ran : RanLines S) : Type 0 where
   pub start : WorldOn S
   pub run : Run (WorldOn S) Line
@@ -47,5 +52,5 @@ pub record RunsLines {S : Type 0} (state : S → State) (found : Found) (shelf :
   pub journal : ran.journal.items ≡ run.world.core.lines.journal
   pub answers : ran.answers.items ≡ run.world.core.lines.answers
   pub unbegun : ran.unbegun.items ≡ unbegun_answers run.refused run.rest.items
-  pub history :
-      IsOrderedHistory (state shelf).steps ran.journal.items (lines_with 0 run.world.core.lines.begun ran.answers.items)
+  pub history : IsOrderedHistory (state shelf).steps ran.journal.items (said_in run.world ran.answers.items)
+  pub legal : KeepsLegal found (state shelf) (state ran.shelf) ran.journal.items (said_in run.world ran.answers.items)

@@ -1,5 +1,6 @@
 -- The script of a session: until commands run beside reads and writes, a line that asks for one is refused.
-use Rattle.std.specs.Prelude.{ℕ, ◌+◌, ◌-◌, Bool, true, false, not, ◌&&◌, if◌then◌else◌, List, [], ◌∷◌, take, Option, None, Some, option_map}
+use Rattle.std.specs.Prelude.{ℕ, All, ◌+◌, ◌-◌, Bool, true, false, not, ◌&&◌, if◌then◌else◌, List, [], ◌∷◌, take, Option, None, Some}
+use Rattle.std.specs.Prelude.{option_map}
 use Rattle.std.specs.Prelude.{Ok, Err, nat_lt}
 use Rattle.std.specs.Option.{option_map_or, option_or}
 use Rattle.command_table.specs.declared.line_fault.LineFault.{LineFault}
@@ -8,7 +9,13 @@ use Rattle.command_table.specs.declared.table.CommandName.{CommandName}
 use Rattle.command_table.specs.declared.table.CommandName.TheVariants as name
 use Rattle.command_table.specs.Options.{Word}
 use Rattle.command_table.specs.Table.{command_named, is_for_scripts}
+use Rattle.lvm_script.specs.declared.line.Line.{Line}
 use Rattle.lvm_script.specs.Script.{Commands, commands_from, is_comment, lines_in, most_lines, words_in}
+use Rattle.world_history.specs.Told.{IsSessionLine}
+
+-- the lines of one: each reads or writes a sector, or does something else that a world does
+abbrev pub AreOfSession : List Line → Type 0
+AreOfSession lines = All IsSessionLine lines
 
 -- whether lines of this name run in a session
 abbrev pub runs_named : CommandName → Bool

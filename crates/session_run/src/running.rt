@@ -1,8 +1,8 @@
 //! The lines of a session run.
 ghost use Rattle.std.specs.Prelude.{◌≡◌, ◌≤◌, ◌+◌, ◌++◌, All, MatchResult, [], length, map, vec_capacity, vec_len};
 ghost use Rattle.io_core.specs.Rest.{LiesOn};
-ghost use Rattle.world_history.specs.Told.{IsSessionLine};
 ghost use Rattle.session_run.specs.Running.{RunsLines, refused_answers, unanswered, unbegun_answers};
+ghost use Rattle.session_run.specs.SessionScript.{AreOfSession};
 
 use disk_model::Shelf;
 use io_core::{DataLine, Finished, World};
@@ -14,6 +14,7 @@ use std::alloc::Global;
 use std::collections::VecDeque;
 use table_lock::Gate;
 use vg_found::Whole;
+use world_history::histories_stay;
 
 /// What the lines of a session came to: the disks, what was done, the answers of the lines that were begun, and the others, the first
 /// with want of memory, where it was wanted for that line, and the rest without an answer.
@@ -41,7 +42,7 @@ pub fn run_lines<S: Shelf, G: Gate>(
     requires idle { (S.state shelf).in_flight ≡ [] }
     requires few { length (S.state shelf).sizes ≤ 64 }
     requires lies { LiesOn (S.state shelf).sizes whole }
-    requires session { All IsSessionLine lines.items }
+    requires session { AreOfSession lines.items }
     ensures { MatchResult result (RunsLines S.state whole shelf lines.items) (λ back. back ≡ shelf) }
 {
     let Ok(unbegun) = Vec::with_capacity(alloc, lines.len()) else {
@@ -50,6 +51,7 @@ pub fn run_lines<S: Shelf, G: Gate>(
     match World::open(alloc, whole, shelf) {
         Ok(world) => {
             pieces_cover_requests();
+            histories_stay();
             Ok(ran_of(run_alone(world, lines, gate), unbegun))
         }
         Err(refused) => Err(refused.shelf),

@@ -4,8 +4,7 @@ ghost use Rattle.std.specs.List.{after_first, before_first, position_or_len};
 ghost use Rattle.command_table.specs.declared.command.Command.{Command as CommandRecord};
 ghost use Rattle.data_lines.specs.DataLines.{runs_beside};
 ghost use Rattle.lvm_script.specs.Script.{AreLines, IsScriptRefusal, commands_from, lines_in, words_in};
-ghost use Rattle.world_history.specs.Told.{IsSessionLine};
-ghost use Rattle.session_run.specs.SessionScript.{first_unrun, is_unrun, runs_named, session_commands, unrun_fault, unrun_in, unrun_line};
+ghost use Rattle.session_run.specs.SessionScript.{AreOfSession, first_unrun, is_unrun, runs_named, session_commands, unrun_fault, unrun_in, unrun_line};
 
 use command_table::{CommandName, LineFault};
 use io_core::DataLine;
@@ -29,7 +28,7 @@ pub fn session_script<N: Words64>(
     ensures script { MatchResult result
         (λ lines. (commands : List (ℕ × CommandRecord)) × (session_commands text.now ≡ Ok commands) × AreLines (N.upcoming ids.old) commands lines.items (N.upcoming ids.new))
         (IsScriptRefusal (session_commands text.now)) }
-    ensures session { IfOk result (λ lines. All IsSessionLine lines.items) }
+    ensures session { IfOk result (λ lines. AreOfSession lines.items) }
     ensures undrawn { OnErr result (N.upcoming ids.new ≡ N.upcoming ids.old) }
 {
     match first_unrun(text.as_bytes()) {
@@ -60,7 +59,7 @@ fn lines_that_run<N: Words64>(
     ensures script { MatchResult result
         (λ lines. (commands : List (ℕ × CommandRecord)) × (session_commands text.now ≡ Ok commands) × AreLines (N.upcoming ids.old) commands lines.items (N.upcoming ids.new))
         (IsScriptRefusal (session_commands text.now)) }
-    ensures session { IfOk result (λ lines. All IsSessionLine lines.items) }
+    ensures session { IfOk result (λ lines. AreOfSession lines.items) }
     ensures undrawn { OnErr result (N.upcoming ids.new ≡ N.upcoming ids.old) }
 {
     let script = script_of(alloc, text, ids)?;

@@ -3,7 +3,9 @@ use Rattle.lvm_run.specs.Disks.{AreDisks}
 use Rattle.lvm_run.specs.Sessions.{NoLines, Ran, Unbegun, Unbuilt, Unready}
 use Rattle.lvm_run.specs.Sourced.{source}
 use Rattle.lvm_run.specs.declared.ending.Ending.TheVariants.{NoMemory, WordsRefused}
+use Rattle.lvm_run.proofs.Promised.{told_of}
 use Rattle.lvm_run.proofs.SessionCauses.{ended}
+use Rattle.lvm_run.proofs.SessionHistory.{session_history}
 use Rattle.lvm_run.proofs.session.run_session.Goals as goal
 
 pub returns-then-not-is_built_session : goal.returns-then-not-is_built_session
@@ -54,6 +56,7 @@ pub returns-in-Ok-run_lines : goal.returns-in-Ok-run_lines
 returns-in-Ok-run_lines g c =
     let e = c.end_lines.ensures in
     let ran = c.in-Ok-run_lines.ran in
+    let state = g.S.Shelf.state in
     record {
       outcome = Ran ran.answers.items ran.unbegun.items;
       cause = record {
@@ -65,6 +68,11 @@ returns-in-Ok-run_lines g c =
         opened = c.in-Ok-open_whole.ensures.ready;
         ran = ran;
         runs = c.in-Ok-run_lines.ensures;
+        history =
+            session_history c.args.names.now state (state c.args.shelf)
+            (told_of (state c.args.shelf) (g.met.S.Shelf.lawful c.args.shelf)) c.in-Ok-open_whole.whole c.open_whole.new.shelf
+            (told_of (state c.open_whole.new.shelf) (g.met.S.Shelf.lawful c.open_whole.new.shelf)) c.in-Ok-open_whole.ensures.ready
+            c.in-Ok.lines.items ran c.in-Ok-run_lines.ensures;
         begun_is = refl;
         unbegun_is = refl;
         journal_is = e.journal;
