@@ -33,7 +33,7 @@ use Rattle.change_batches.specs.Laws.{HoldsAfter}
 use Rattle.change_batches.proofs.ClearedAreas.{state_scanned}
 use Rattle.vg_change.specs.LineBatches.{batches_of, clears_of}
 use Rattle.image_scans.specs.Laws.{CanCarryOut, ClearsScan, none_out, version_of}
-use Rattle.image_scans.specs.Versions.{FindsVersion}
+use Rattle.vg_scan.specs.Versions.{FindsVersion}
 use Rattle.image_scans.proofs.ClearedAgain.{any_bare, any_pv, disk_bare, disk_cleared, others_same}
 use Rattle.image_scans.proofs.ClearedApart.{ClearsOthers, clears_others}
 use Rattle.image_scans.proofs.CommitLine.{all_written, can, copy, disk_reads, ends, fits, front, is_state, lies, settled, shown, where_held}

@@ -38,7 +38,7 @@ use Rattle.change_batches.proofs.DiskSets.{of_set}
 use Rattle.vg_change.specs.LineBatches.{batches_of}
 use Rattle.vg_change.proofs.Sound.{can_make, lies_on}
 use Rattle.image_scans.specs.Laws.{CanCarryOut, none_out, version_of}
-use Rattle.image_scans.specs.Versions.{FindsVersion, version_in}
+use Rattle.vg_scan.specs.Versions.{FindsVersion, version_in}
 use Rattle.image_scans.proofs.Again.{again_give, as_before}
 use Rattle.image_scans.proofs.AreaAgain.{NotRefused}
 use Rattle.image_scans.proofs.BaseEntries.{entries_shown}

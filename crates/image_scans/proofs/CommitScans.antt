@@ -23,7 +23,7 @@ use Rattle.vg_scan.specs.Readings.{AreDiskReadings}
 use Rattle.vg_scan.specs.Scans.{IsFoundBy}
 use Rattle.vg_scan.specs.Texts.{IsCopyOf}
 use Rattle.image_scans.specs.Laws.{none_out}
-use Rattle.image_scans.specs.Versions.{FindsVersion, Version, version_in}
+use Rattle.vg_scan.specs.Versions.{FindsVersion, Version, version_in}
 use Rattle.image_scans.proofs.Again.{Finds, again_give, again_headers, finds_newest, held_or_same, none_missing, same_ids}
 use Rattle.image_scans.proofs.Decided.{IsFoundWith, found_parts}
 use Rattle.image_scans.proofs.DiskAgain.{AllAgain}

@@ -18,7 +18,7 @@ use Rattle.group_ops.specs.Planning.{change_of}
 use Rattle.change_batches.specs.Batches.{areas_of, batch_if, commit_batches, label_put, new_area_puts}
 use Rattle.vg_change.specs.LineBatches.{batches_of}
 use Rattle.image_scans.specs.Laws.{CanCarryOut, FindsAtEnd, FindsOnTheWay, is_labelled, none_out}
-use Rattle.image_scans.specs.Versions.{FindsVersion, version_in}
+use Rattle.vg_scan.specs.Versions.{FindsVersion, version_in}
 use Rattle.image_scans.proofs.CommitLine.{all_written, at_the_end, before_publishing, on_the_way}
 use Rattle.image_scans.proofs.CommitScans.{none_unread}
 use Rattle.image_scans.proofs.Lines.{LineMakes, line_makes, makes_nothing, makes_pv, makes_version}

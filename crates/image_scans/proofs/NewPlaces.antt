@@ -34,8 +34,10 @@ use Rattle.list_laws.proofs.Inserted.{first_pairs, later_pairs, slice_get-pushed
 use Rattle.group_edits.specs.NewVolume.{MayHave, new_lv, with_volume}
 use Rattle.image_scans.proofs.Again.{all_there}
 use Rattle.image_scans.proofs.Makes.{HasDisk, disk_found}
-use Rattle.image_scans.specs.Laws.{IsFree, IsInExtents, in_spans}
-use Rattle.image_scans.proofs.Placed.{IsPlaceOn, each_at, index_map, place_beside, present, primary_in_extents}
+use Rattle.volume_view.specs.InExtents.{IsInExtents}
+use Rattle.image_scans.specs.Laws.{IsFree, in_spans}
+use Rattle.volume_view.proofs.InExtents.{primary_in_extents}
+use Rattle.image_scans.proofs.Placed.{IsPlaceOn, each_at, index_map, place_beside, present}
 
 -- ---- different physical volumes are on different disks
 

@@ -40,7 +40,7 @@ use Rattle.change_batches.proofs.LabelPuts.{all_if, labels_keep_other}
 use Rattle.vg_change.specs.LineBatches.{batches_of}
 use Rattle.vg_change.proofs.LineLabels.{new_labels_are, new_near}
 use Rattle.image_scans.specs.Laws.{CanCarryOut, is_labelled}
-use Rattle.image_scans.specs.Versions.{FindsVersion, version_in}
+use Rattle.vg_scan.specs.Versions.{FindsVersion, version_in}
 use Rattle.image_scans.proofs.CommitLine.{headers, is_state, settled}
 use Rattle.image_scans.proofs.AreaReadings.{IsNone, IsSettled, pv_weaker}
 use Rattle.image_scans.proofs.Lines.{MakesPv}

@@ -50,7 +50,7 @@ use Rattle.change_batches.proofs.LabelPuts.{all_if, label_where}
 use Rattle.vg_change.specs.LineBatches.{batches_of}
 use Rattle.vg_change.proofs.LineLabels.{new_labels_are, new_near}
 use Rattle.image_scans.specs.Laws.{CanCarryOut, none_out}
-use Rattle.image_scans.specs.Versions.{FindsVersion, version_in}
+use Rattle.vg_scan.specs.Versions.{FindsVersion, version_in}
 use Rattle.image_scans.proofs.Again.{same_ids}
 use Rattle.image_scans.proofs.CommitLine.{all_written, can, headers, is_state, shown}
 use Rattle.image_scans.proofs.CommitScans.{none_unread}

@@ -52,7 +52,8 @@ use Rattle.change_batches.specs.Batches.{area_puts, areas_of, batch_if, commit_b
 use Rattle.change_batches.proofs.LabelPuts.{all_if, label_where, labels_keep_other}
 use Rattle.vg_change.specs.LineBatches.{batches_of}
 use Rattle.vg_change.proofs.LineLabels.{new_labels_are, new_near}
-use Rattle.image_scans.specs.Laws.{CanCarryOut, IsInExtents, IsOutside, place_of, places_in, visible_places}
+use Rattle.volume_view.specs.InExtents.{IsInExtents}
+use Rattle.image_scans.specs.Laws.{CanCarryOut, IsOutside, place_of, places_in, visible_places}
 use Rattle.image_scans.proofs.CommitCommands.{Commits}
 use Rattle.image_scans.proofs.CommitLine.{can, is_state, lies, settled}
 use Rattle.image_scans.proofs.CommitOnTheWay.{header_read, writes}
@@ -60,7 +61,8 @@ use Rattle.image_scans.proofs.CommitWrites.{IsAreaWrite}
 use Rattle.image_scans.proofs.FoundAreas.{IsHeldOn, all_held, entry_kept}
 use Rattle.image_scans.proofs.Front.{AnyWrites}
 use Rattle.image_scans.proofs.Lines.{LineMakes, MakesPv, line_makes, makes_nothing, makes_pv, makes_version}
-use Rattle.image_scans.proofs.Placed.{IsPlaceOn, extent_beside, primary_in_extents}
+use Rattle.volume_view.proofs.InExtents.{primary_in_extents}
+use Rattle.image_scans.proofs.Placed.{IsPlaceOn, extent_beside}
 use Rattle.image_scans.proofs.SettledBase.{IsSettledScan, settled_none, settled_some}
 
 -- ---- lists

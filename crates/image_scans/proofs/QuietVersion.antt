@@ -16,7 +16,7 @@ use Rattle.vg_found.specs.declared.found.Found.{Found}
 use Rattle.vg_found.specs.Disks.{disk_with, disks_of, held_areas, old_of}
 use Rattle.vg_scan.specs.Readings.{AreDiskReadings}
 use Rattle.vg_scan.specs.Scans.{IsFoundBy}
-use Rattle.image_scans.specs.Versions.{FindsVersion, Version, version_in}
+use Rattle.vg_scan.specs.Versions.{FindsVersion, Version, version_in}
 use Rattle.image_scans.proofs.Again.{Finds, finds_newest}
 use Rattle.image_scans.proofs.Decided.{HasNothing, IsFoundWith, found_parts, nothing_found}
 use Rattle.image_scans.proofs.AreaReadings.{DisksGive, IsNone, copies_none, disks_weaker, refusals_none}

@@ -45,7 +45,7 @@ use Rattle.change_batches.specs.Laws.{ClearsImages, ShowsEntries}
 use Rattle.vg_change.specs.LineBatches.{clears_of}
 use Rattle.image_scans.proofs.CommitLine.{all_written, is_state, settled}
 use Rattle.image_scans.specs.Laws.{CanCarryOut, none_out}
-use Rattle.image_scans.specs.Versions.{FindsVersion, Version, version_in}
+use Rattle.vg_scan.specs.Versions.{FindsVersion, Version, version_in}
 use Rattle.image_scans.proofs.Again.{AreasAgain, DisksAgain, Finds, GivesAgain, PvAgain, again_give, again_headers, finds_newest}
 use Rattle.image_scans.proofs.Again.{missing_same}
 use Rattle.image_scans.proofs.BaseEntries.{entries_shown}

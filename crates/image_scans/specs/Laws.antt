@@ -1,6 +1,6 @@
 -- What a scan of the disks finds in every image on the way of a line's change, and that volumes keep their contents.
-use Rattle.std.specs.Prelude.{◌≡◌, ◌≢◌, ◌≤◌, ◌<◌, ◌⊎◌, ℕ, ◌^◌, ◌+◌, ◌*◌, ◌==◌, Bool, true, false, IsTrue, if◌then◌else◌, List, [], length}
-use Rattle.std.specs.Prelude.{take, replicate, slice_get, slice_index, filter_map, flat_map, map, option_map, All, Option, None, Some}
+use Rattle.std.specs.Prelude.{◌≡◌, ◌≢◌, ◌<◌, ◌⊎◌, ℕ, ◌^◌, ◌*◌, ◌==◌, Bool, true, false, IsTrue, if◌then◌else◌, List, [], length}
+use Rattle.std.specs.Prelude.{take, replicate, slice_index, filter_map, flat_map, map, option_map, All, Option, None, Some}
 use Rattle.std.specs.FinSet as set
 use Rattle.std.specs.List.{enumerate_from, list_any, range_with_len}
 use Rattle.sector_base.specs.Spans.{covers}
@@ -13,8 +13,8 @@ use Rattle.disk_model.specs.Steps.{Image}
 use Rattle.disk_model.specs.Submitting.{writes_at}
 use Rattle.meta_model.specs.declared.group.Group.{Group}
 use Rattle.meta_model.specs.declared.lv.Lv.{Lv}
-use Rattle.meta_model.specs.declared.pv.Pv.{Pv}
 use Rattle.volume_rules.specs.Extents.{extents_of}
+use Rattle.volume_view.specs.InExtents.{IsInExtents}
 use Rattle.volume_view.specs.Places.{primary}
 use Rattle.volume_view.specs.View.{at_place, view}
 use Rattle.extent_alloc.specs.declared.part.Part.{Part}
@@ -32,7 +32,7 @@ use Rattle.group_ops.specs.Laws.{state_in}
 use Rattle.group_ops.specs.Planning.{IsBackupOf, IsPlanned, asks_of, change_of, refusal_of}
 use Rattle.vg_change.specs.LineBatches.{batches_of, clears_of, zeros_of}
 use Rattle.vg_change.specs.CarryingOut.{KeepsImages}
-use Rattle.image_scans.specs.Versions.{FindsVersion, Version, version_in}
+use Rattle.vg_scan.specs.Versions.{FindsVersion, Version, version_in}
 
 -- what was found of this image is whole, and nothing is stale or stray on its disks, which have these names; the backup is what
 -- the line's text gives, if it restores a group; the line takes these parts, no row refuses it with them at this time, and it
@@ -157,13 +157,6 @@ ViewIsKept =
     → view image group found.disk_of ≡ view base group found.disk_of
 
 -- ---- zeros
-
--- the place lies in the extents of a physical volume
-pub record IsInExtents (group : Group) (at : At) : Type 0 where
-  pub pv : List ℕ × Pv
-  pub is_pv : slice_get group.pvs at.pv ≡ Some pv
-  pub from : pv.1.pe_start ≤ at.sector
-  pub to : at.sector < pv.1.pe_start + pv.1.pe_count * group.extent_size
 
 -- the sector of the disk does
 pub record LiesInExtents (group : Group) (disk_of : List ℕ) (disk sector : ℕ) : Type 0 where

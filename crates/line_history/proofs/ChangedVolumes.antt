@@ -69,7 +69,7 @@ use Rattle.group_ops.specs.Laws.{state_in}
 use Rattle.group_ops.proofs.NextVersions.{drawn_is}
 use Rattle.group_ops.specs.Planning.{IsBackupOf, IsPlanned, asks_of, change_of, refusal_of}
 use Rattle.image_scans.specs.Laws.{CanCarryOut, version_of}
-use Rattle.image_scans.specs.Versions.{Version, version_in}
+use Rattle.vg_scan.specs.Versions.{Version, version_in}
 use Rattle.image_scans.proofs.CommitLine.{settled}
 use Rattle.image_scans.proofs.SettledBase.{IsSettledScan, copy_tree, settled_none, settled_some}
 use Rattle.repair_scans.proofs.FoundGroup.{found_accepted}

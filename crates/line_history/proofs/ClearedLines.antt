@@ -12,7 +12,7 @@ use Rattle.group_ops.proofs.NoClears.{clears}
 use Rattle.vg_repair.specs.Repaired.{repaired_of}
 use Rattle.image_scans.proofs.ClearScans.{clears_scan}
 use Rattle.image_scans.specs.Laws.{none_out, version_of}
-use Rattle.image_scans.specs.Versions.{FindsVersion, Version, version_in}
+use Rattle.vg_scan.specs.Versions.{FindsVersion, Version, version_in}
 use Rattle.repair_scans.specs.Laws.{RepairedScans}
 use Rattle.volume_history.proofs.Reshaped.{zeroes_stand}
 use Rattle.volume_history.specs.Changing.{ChangesVolumes}

@@ -26,7 +26,7 @@ use Rattle.vg_repair.specs.Repaired.{repaired_of}
 use Rattle.vg_repair.specs.Stale.{stale_areas, text_of}
 use Rattle.image_scans.proofs.ClearPlaces.{clears_keep_places}
 use Rattle.image_scans.proofs.CommitLine.{all_written}
-use Rattle.image_scans.specs.Versions.{version_in}
+use Rattle.vg_scan.specs.Versions.{version_in}
 use Rattle.repair_scans.specs.Laws.{RepairedScans}
 use Rattle.volume_history.specs.Chronicles.{Origin, now_at}
 use Rattle.volume_history.specs.Placed.{volumes_of}

@@ -23,7 +23,7 @@ use Rattle.vg_repair.specs.Repaired.{repaired_of}
 use Rattle.image_scans.proofs.ClearScans.{clears_scan}
 use Rattle.image_scans.proofs.CommitLine.{all_written}
 use Rattle.image_scans.specs.Laws.{CanCarryOut, none_out, version_of}
-use Rattle.image_scans.specs.Versions.{FindsVersion, Version}
+use Rattle.vg_scan.specs.Versions.{FindsVersion, Version}
 use Rattle.repair_scans.specs.Laws.{RepairedScans}
 use Rattle.volume_history.proofs.CommandKinds.{created_plain}
 use Rattle.volume_history.specs.Commands.{commits}

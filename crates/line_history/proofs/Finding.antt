@@ -11,7 +11,7 @@ use Rattle.image_scans.proofs.LineScans.{base_scans}
 use Rattle.image_scans.proofs.NoWrites.{place_kept}
 use Rattle.image_scans.proofs.Zeroes.{zeroes_keep_places, zeroes_scan}
 use Rattle.image_scans.specs.Laws.{CanCarryOut, none_out}
-use Rattle.image_scans.specs.Versions.{FindsVersion, Version, version_in}
+use Rattle.vg_scan.specs.Versions.{FindsVersion, Version, version_in}
 use Rattle.meta_model.specs.declared.group.Group.{Group}
 use Rattle.repair_scans.proofs.RepairFound.{repairs_scan}
 use Rattle.repair_scans.proofs.RepairPlaces.{place_kept as repair_keeps}

@@ -28,7 +28,7 @@ use Rattle.group_ops.specs.Planning.{IsPlanned, change_of}
 use Rattle.change_batches.specs.Batches.{batch_if, zero_put}
 use Rattle.vg_repair.proofs.RepairedSizes.{repaired_count}
 use Rattle.vg_repair.specs.Repaired.{repaired_of}
-use Rattle.image_scans.specs.Versions.{version_in}
+use Rattle.vg_scan.specs.Versions.{version_in}
 use Rattle.repair_scans.specs.Laws.{RepairedScans}
 use Rattle.volume_history.proofs.CommandKinds.{commit_says}
 use Rattle.volume_history.proofs.SingleLines.{done_commit, done_create, failed_create, fenced_commit, made_commit, no_line, undone_line}

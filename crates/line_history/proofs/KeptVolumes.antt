@@ -10,9 +10,9 @@ use Rattle.volume_rules.specs.Extents.{extents_of}
 use Rattle.volume_rules.specs.Rules.{IsAccepted}
 use Rattle.volume_view.specs.Places.{primary}
 use Rattle.volume_view.proofs.PrimariesStand.{primary_stands}
-use Rattle.image_scans.specs.Versions.{Version}
-use Rattle.image_scans.specs.Laws.{IsInExtents}
-use Rattle.image_scans.proofs.Placed.{primary_in_extents}
+use Rattle.vg_scan.specs.Versions.{Version}
+use Rattle.volume_view.specs.InExtents.{IsInExtents}
+use Rattle.volume_view.proofs.InExtents.{primary_in_extents}
 use Rattle.volume_history.specs.Placed.{Place, PlacedVolume, no_place, on_disk, place_of, placed_from, places_of, volumes_of}
 
 -- ---- rows

@@ -19,7 +19,7 @@ use Rattle.group_edits.proofs.ReducedRuns.{IsElsewhere, get_without, runs_elsewh
 use Rattle.group_edits.proofs.Renumbered.{extents_same}
 use Rattle.group_edits.specs.ReducedGroup.{has_leg_on_pv, number_without, on_without_pv, reduced_group}
 use Rattle.group_edits.specs.Renumbered.{renumbered_lv, renumbered_row}
-use Rattle.image_scans.specs.Versions.{Version}
+use Rattle.vg_scan.specs.Versions.{Version}
 use Rattle.volume_history.specs.Placed.{Place, PlacedVolume, no_place, on_disk, place_of, placed_from, places_of, volumes_of}
 use Rattle.line_history.proofs.KeptVolumes.{StandFrom, all_stand, first_stands, map_same, rest_stand}
 

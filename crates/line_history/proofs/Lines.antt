@@ -23,7 +23,7 @@ use Rattle.image_scans.proofs.CommitScans.{none_unread}
 use Rattle.image_scans.proofs.LineScans.{images_scan, last_scans, unpublished_scans}
 use Rattle.image_scans.proofs.Zeroes.{zeroes_kept}
 use Rattle.image_scans.specs.Laws.{CanCarryOut, FindsAtEnd, FindsOnTheWay, in_spans, none_out, version_of}
-use Rattle.image_scans.specs.Versions.{FindsVersion, Version, version_in}
+use Rattle.vg_scan.specs.Versions.{FindsVersion, Version, version_in}
 use Rattle.image_scans.proofs.CommitLine.{is_state}
 use Rattle.repair_scans.specs.Laws.{RepairedScans}
 use Rattle.repair_scans.proofs.FoundGroup.{found_accepted}

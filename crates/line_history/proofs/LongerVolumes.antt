@@ -21,7 +21,7 @@ use Rattle.group_edits.specs.GivenSegments.{extents_in, segments_of}
 use Rattle.group_edits.specs.LongerVolume.{last_kind, longer, longer_row, longer_volume}
 use Rattle.group_edits.specs.NewVolume.{with_volume}
 use Rattle.group_edits.specs.Visible.{visible_named}
-use Rattle.image_scans.specs.Versions.{Version}
+use Rattle.vg_scan.specs.Versions.{Version}
 use Rattle.volume_history.specs.Changing.{KindChanges, changed_named, grown_by, has_named}
 use Rattle.volume_history.specs.Placed.{Place, PlacedVolume, place_of, placed_from, places_of, volumes_of}
 use Rattle.line_history.proofs.KeptVolumes.{KeepsDisks, all_stand, places_kept, volumes_from}

@@ -13,7 +13,7 @@ use Rattle.disk_model.specs.Moments.{at_moment}
 use Rattle.disk_model.specs.Order.{WritesNothing}
 use Rattle.disk_model.specs.Steps.{Image, Step, Record, steps_on}
 use Rattle.image_scans.specs.Laws.{none_out}
-use Rattle.image_scans.specs.Versions.{FindsVersion}
+use Rattle.vg_scan.specs.Versions.{FindsVersion}
 use Rattle.volume_history.proofs.SingleLines.{done_line, no_line, undone_line}
 use Rattle.volume_history.specs.Chronicles.{ChronicleEntry, Origin, pending}
 use Rattle.volume_history.specs.Commands.{commits, is_created_at, is_good, may_say}

@@ -15,7 +15,7 @@ use Rattle.meta_print.proofs.Printable.{AreNames}
 use Rattle.scan_rules.proofs.Scanning.{same_bytes_tells}
 use Rattle.group_edits.specs.NextVersion.{changed_if}
 use Rattle.group_edits.specs.Visible.{visible_from, visible_named}
-use Rattle.image_scans.specs.Versions.{Version}
+use Rattle.vg_scan.specs.Versions.{Version}
 use Rattle.volume_history.specs.Changing.{changed_named}
 use Rattle.volume_history.specs.Placed.{Place, PlacedVolume, placed_from, places_of, volumes_of}
 use Rattle.line_history.proofs.KeptVolumes.{StandFrom, all_stand, first_stands, rest_stand}

@@ -16,7 +16,7 @@ use Rattle.change_batches.specs.Batches.{areas_of, batch_if, commit_batches, lab
 use Rattle.vg_repair.specs.Repaired.{repaired_of}
 use Rattle.image_scans.proofs.LineScans.{images_scan}
 use Rattle.image_scans.specs.Laws.{FindsAtEnd, FindsOnTheWay, is_labelled, none_out}
-use Rattle.image_scans.specs.Versions.{FindsVersion, Version, version_in}
+use Rattle.vg_scan.specs.Versions.{FindsVersion, Version, version_in}
 use Rattle.repair_scans.specs.Laws.{RepairedScans}
 use Rattle.list_laws.proofs.Bools.{eq_of}
 use Rattle.volume_history.proofs.Phases.{finds_with}

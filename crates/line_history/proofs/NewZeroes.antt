@@ -34,7 +34,7 @@ use Rattle.group_ops.proofs.NextVersions.{drawn_is}
 use Rattle.group_ops.specs.Planning.{IsPlanned, asks_of, change_of, refusal_of, zeroes}
 use Rattle.group_ops.specs.Laws.{state_in}
 use Rattle.image_scans.specs.Laws.{in_spans, version_of}
-use Rattle.image_scans.specs.Versions.{Version, version_in}
+use Rattle.vg_scan.specs.Versions.{Version, version_in}
 use Rattle.volume_history.specs.Candidates.{place_at}
 use Rattle.volume_history.specs.Placed.{Place, PlacedVolume, no_place, on_disk, place_of, volumes_of}
 use Rattle.line_history.proofs.KeptVolumes.{KeepsDisks}

@@ -32,7 +32,7 @@ use Rattle.vg_change.specs.LineBatches.{batches_of}
 use Rattle.vg_repair.specs.Repaired.{repaired_of}
 use Rattle.image_scans.proofs.RemovalScans.{removal_ends, removal_scans}
 use Rattle.image_scans.specs.Laws.{CanCarryOut, none_out}
-use Rattle.image_scans.specs.Versions.{FindsVersion, Version, version_in}
+use Rattle.vg_scan.specs.Versions.{FindsVersion, Version, version_in}
 use Rattle.repair_scans.specs.Laws.{RepairedScans}
 use Rattle.volume_history.proofs.MadeVersions.{changes_make}
 use Rattle.volume_history.proofs.EarlierMoments.{now_before}

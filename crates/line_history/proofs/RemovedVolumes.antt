@@ -12,7 +12,7 @@ use Rattle.group_edits.proofs.VisibleStay.{removed_goes, visible_stays}
 use Rattle.group_edits.specs.Removing.{on_after, stays, without_volume}
 use Rattle.group_edits.specs.Renumbered.{renumbered_lv}
 use Rattle.group_edits.specs.Visible.{visible_from, visible_named}
-use Rattle.image_scans.specs.Versions.{Version}
+use Rattle.vg_scan.specs.Versions.{Version}
 use Rattle.volume_history.specs.Changing.{without_named}
 use Rattle.volume_history.specs.Placed.{Place, PlacedVolume, placed_from, places_of, volumes_of}
 use Rattle.line_history.proofs.KeptVolumes.{KeepsDisks, StandFrom, all_stand, first_stands, places_kept, rest_stand}

@@ -9,7 +9,7 @@ use Rattle.volume_rules.specs.Rules.{IsAccepted}
 use Rattle.group_edits.proofs.RenamedPlaces.{primary_renamed}
 use Rattle.group_edits.specs.RenamedVolume.{renamed_volume}
 use Rattle.group_edits.specs.Visible.{visible_from, visible_named}
-use Rattle.image_scans.specs.Versions.{Version}
+use Rattle.vg_scan.specs.Versions.{Version}
 use Rattle.volume_history.specs.Changing.{changed_named, has_named, named_so}
 use Rattle.volume_history.specs.Placed.{Place, PlacedVolume, placed_from, places_of, volumes_of}
 use Rattle.line_history.proofs.KeptVolumes.{KeepsDisks, places_kept}

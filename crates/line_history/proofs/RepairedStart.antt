@@ -24,7 +24,7 @@ use Rattle.vg_repair.specs.Batches.{repair_batches}
 use Rattle.vg_repair.specs.Repaired.{repaired_of}
 use Rattle.image_scans.proofs.CommitLine.{all_written}
 use Rattle.image_scans.proofs.NewPlaces.{disks_differ}
-use Rattle.image_scans.specs.Versions.{Version, version_in}
+use Rattle.vg_scan.specs.Versions.{Version, version_in}
 use Rattle.repair_scans.proofs.FoundGroup.{found_group}
 use Rattle.repair_scans.proofs.RepairFound.{repairs_scan}
 use Rattle.repair_scans.proofs.RepairPlaces.{place_kept}

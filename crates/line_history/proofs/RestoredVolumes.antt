@@ -15,7 +15,7 @@ use Rattle.volume_rules.specs.Rules.{IsAccepted, ids_of}
 use Rattle.volume_rules.specs.declared.rule.Rule.TheVariants.{Ids}
 use Rattle.list_laws.proofs.Pairs.{Pairs, pairs_from}
 use Rattle.group_edits.specs.RestoredGroup.{restored_group}
-use Rattle.image_scans.specs.Versions.{Version}
+use Rattle.vg_scan.specs.Versions.{Version}
 use Rattle.list_laws.proofs.Bools.{same_text}
 use Rattle.volume_history.specs.Changing.{ChangesVolumes, HaveOwnIds, HaveOwnNames, has_named}
 use Rattle.volume_history.specs.Placed.{PlacedVolume, placed_from, places_of, volumes_of}

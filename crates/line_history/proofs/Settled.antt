@@ -4,7 +4,7 @@ use Rattle.std.proofs.lemmas.Bool.{true≢false}
 use Rattle.std.specs.Prelude.{is_some}
 use Rattle.command_table.specs.Options.{Word}
 use Rattle.disk_model.specs.Steps.{Image, Record}
-use Rattle.image_scans.specs.Versions.{Version}
+use Rattle.vg_scan.specs.Versions.{Version}
 use Rattle.volume_history.specs.Chronicles.{ChronicleEntry, pending}
 use Rattle.volume_history.specs.Laws.{Tells}
 use Rattle.volume_history.specs.Runs.{journal_of, lines_of}

@@ -18,7 +18,7 @@ use Rattle.group_edits.proofs.ShortFront.{fewer_extents}
 use Rattle.group_edits.proofs.ShortenedPlaces.{front_most, primary_front, primary_others}
 use Rattle.group_edits.specs.ShortenedVolume.{shortened, shortened_volume}
 use Rattle.group_edits.specs.Visible.{visible_named}
-use Rattle.image_scans.specs.Versions.{Version}
+use Rattle.vg_scan.specs.Versions.{Version}
 use Rattle.volume_history.specs.Changing.{changed_named, cut_to}
 use Rattle.volume_history.specs.Placed.{Place, place_of, places_of, volumes_of}
 use Rattle.line_history.proofs.KeptVolumes.{KeepsDisks, place_kept, places_kept}

@@ -19,7 +19,7 @@ use Rattle.vg_found.specs.declared.found.Found.{Found}
 use Rattle.vg_found.specs.Disks.{disks_of}
 use Rattle.vg_found.specs.Shape.{HasShape}
 use Rattle.vg_scan.specs.Scans.{IsScanOf}
-use Rattle.image_scans.specs.Versions.{Version, version_in}
+use Rattle.vg_scan.specs.Versions.{Version, version_in}
 use Rattle.repair_scans.proofs.FoundGroup.{found_accepted}
 use Rattle.volume_history.specs.Placed.{Place, PlacedVolume, no_place, on_disk, place_of, placed_from, places_of, volumes_of}
 use Rattle.volume_history.specs.Quiet.{AllUntouched, AreUntouched}

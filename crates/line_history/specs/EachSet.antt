@@ -15,7 +15,7 @@ use Rattle.group_ops.specs.Laws.{state_in}
 use Rattle.group_ops.specs.Planning.{change_of}
 use Rattle.vg_change.specs.LineBatches.{batches_of, clears_of}
 use Rattle.image_scans.specs.Laws.{CanCarryOut, none_out}
-use Rattle.image_scans.specs.Versions.{FindsVersion, Version}
+use Rattle.vg_scan.specs.Versions.{FindsVersion, Version}
 use Rattle.volume_history.specs.Commands.{commits}
 use Rattle.line_history.specs.Histories.{commits_in}
 use Rattle.line_history.specs.LineRun.{ClearsLine, Given}

@@ -25,7 +25,7 @@ use Rattle.vg_change.specs.LineBatches.{batches_of, clears_of, zeros_of}
 use Rattle.vg_repair.specs.Batches.{repair_batches}
 use Rattle.vg_repair.specs.Repaired.{repaired_of}
 use Rattle.image_scans.specs.Laws.{none_out}
-use Rattle.image_scans.specs.Versions.{FindsVersion, Version}
+use Rattle.vg_scan.specs.Versions.{FindsVersion, Version}
 use Rattle.volume_history.specs.Chronicles.{pending}
 use Rattle.volume_history.specs.Commands.{commits, is_good, may_say}
 use Rattle.volume_history.specs.Runs.{HasHistory, Run, zero_piece}

@@ -16,7 +16,7 @@ use Rattle.group_plan.specs.declared.backup.Backup.{Backup}
 use Rattle.group_ops.specs.Laws.{state_in}
 use Rattle.group_ops.specs.Planning.{change_of}
 use Rattle.image_scans.specs.Laws.{CanCarryOut, version_of}
-use Rattle.image_scans.specs.Versions.{version_in}
+use Rattle.vg_scan.specs.Versions.{version_in}
 use Rattle.volume_history.specs.Placed.{volumes_of}
 use Rattle.volume_history.specs.Quiet.{AllUntouched}
 use Rattle.volume_history.specs.Changing.{ChangesVolumes}

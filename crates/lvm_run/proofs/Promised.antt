@@ -39,7 +39,7 @@ use Rattle.vg_repair.specs.Stale.{too_large}
 use Rattle.vg_repair.specs.declared.fault.RepairFault.{RepairFault}
 use Rattle.vg_repair.specs.declared.fault.RepairFault.TheVariants as repair
 use Rattle.image_scans.specs.Laws.{none_out}
-use Rattle.image_scans.specs.Versions.{FindsVersion, Version}
+use Rattle.vg_scan.specs.Versions.{FindsVersion, Version}
 use Rattle.repair_scans.proofs.StraysApart.{strays_apart}
 use Rattle.line_history.proofs.Looks.{looks}
 use Rattle.line_history.specs.EachSet.{DoneSetsAgree, MadeMembersAgree}

@@ -24,7 +24,7 @@ use Rattle.line_table.specs.declared.journal.EntryKind.TheVariants as kind
 use Rattle.line_table.specs.declared.journal.JournalEntry.{JournalEntry}
 use Rattle.lvm_report.specs.AnswerLines.{answers_text}
 use Rattle.image_scans.specs.Laws.{none_out}
-use Rattle.image_scans.specs.Versions.{FindsVersion, Version}
+use Rattle.vg_scan.specs.Versions.{FindsVersion, Version}
 use Rattle.volume_history.specs.Chronicles.{Chronicle}
 use Rattle.volume_history.specs.Commands.{commits}
 use Rattle.volume_history.specs.Legal.{IsLegalHistory}

@@ -24,7 +24,7 @@ use Rattle.vg_repair.specs.Batches.{repair_batches}
 use Rattle.vg_repair.specs.Stale.{text_of}
 use Rattle.vg_repair.proofs.Nothing.{leaves_all}
 use Rattle.repair_scans.specs.Laws.{CanRepair, FindsAgain}
-use Rattle.image_scans.specs.Versions.{Version}
+use Rattle.vg_scan.specs.Versions.{Version}
 use Rattle.image_scans.proofs.Again.{AreasAgain, DisksAgain, Finds, GivesAgain, PvAgain, again_give, again_headers, finds_newest}
 use Rattle.image_scans.proofs.Again.{missing_same}
 use Rattle.image_scans.proofs.CommitScans.{disks_by_ids, none_unread}

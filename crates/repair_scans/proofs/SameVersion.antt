@@ -8,7 +8,7 @@ use Rattle.vg_found.specs.Disks.{disks_of}
 use Rattle.vg_repair.specs.Repaired.{repaired_disks, repaired_of}
 use Rattle.vg_repair.specs.Stale.{text_of}
 use Rattle.vg_repair.proofs.RepairedShape.{disks_kept}
-use Rattle.image_scans.specs.Versions.{Version, version_in}
+use Rattle.vg_scan.specs.Versions.{Version, version_in}
 
 -- the version of the group where these are its disks
 abbrev version_on : List Disk → Group → Version

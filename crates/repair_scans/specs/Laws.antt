@@ -15,7 +15,7 @@ use Rattle.vg_repair.specs.Laws.{KeepsImages, StraysAreOthers}
 use Rattle.vg_repair.specs.Repaired.{repaired_of}
 use Rattle.vg_repair.specs.Stale.{too_large}
 use Rattle.image_scans.specs.Laws.{none_out}
-use Rattle.image_scans.specs.Versions.{FindsVersion, version_in}
+use Rattle.vg_scan.specs.Versions.{FindsVersion, version_in}
 
 -- what was found of this image is whole, its text has room in each stale area, and its repair keeps images as one does whose
 -- batches were begun

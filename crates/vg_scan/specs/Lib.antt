@@ -8,3 +8,4 @@ pub mod Scans
 pub mod Shapes
 pub mod TextReads
 pub mod Texts
+pub mod Versions

@@ -1,7 +1,7 @@
 -- At the Took of a command that creates no sector the pending part becomes the primaries.
 use Rattle.std.proofs.Common.{◌≡◌, ℕ, true, false, List, [], ◌∷◌, Option, Some, None, inl, inr, refl, sym, subst, ◌∙◌}
 use Rattle.disk_model.specs.Steps.{Image}
-use Rattle.image_scans.specs.Versions.{Version}
+use Rattle.vg_scan.specs.Versions.{Version}
 use Rattle.line_table.specs.Machine.{PlainState, PlainStep, PlainVolume, plain_after}
 use Rattle.lvm_script.specs.declared.line.Line.{Line}
 use Rattle.volume_history.proofs.CommandKinds.{bearless, command_bears}

@@ -11,7 +11,7 @@ use Rattle.data_lines.specs.DataLines.{is_command, is_data, is_flush, is_read, v
 use Rattle.disk_model.specs.Steps.{Image}
 use Rattle.line_table.specs.Machine.{PlainState, plain_after}
 use Rattle.group_ops.specs.Planning.{kind_zeroes, zeroes}
-use Rattle.image_scans.specs.Versions.{Version}
+use Rattle.vg_scan.specs.Versions.{Version}
 use Rattle.volume_history.specs.Candidates.{is_born, is_zeroed}
 use Rattle.volume_history.specs.Commands.{commits, created_disk, is_list, is_pvcreate, is_resync}
 use Rattle.volume_history.specs.Commands.{may_say, removes}

@@ -5,7 +5,7 @@ use Rattle.std.proofs.lemmas.List.Elements.{Contains-push}
 use Rattle.data_lines.specs.DataLines.{zero_sector}
 use Rattle.disk_model.specs.CrashValues.{IsImage}
 use Rattle.disk_model.specs.Steps.{Image}
-use Rattle.image_scans.specs.Versions.{Version}
+use Rattle.vg_scan.specs.Versions.{Version}
 use Rattle.line_table.specs.Machine.{PlainStep, PlainVolume, plain_after}
 use Rattle.volume_history.proofs.Brought.{source_is_candidate}
 use Rattle.volume_history.specs.Candidates.{Anything, IsConsistent, IsConsistentNow, IsIn, OneOf, ShowsPending, ShowsVolumes, candidates}

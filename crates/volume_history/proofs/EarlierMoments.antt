@@ -4,7 +4,7 @@ use Rattle.std.proofs.Common.{sym, ap, subst, ◌∙◌, arith}
 use Rattle.std.proofs.lemmas.Bool.{cases_lt}
 use Rattle.std.proofs.lemmas.List.{length-drop}
 use Rattle.disk_model.specs.Steps.{Image, Step, now_after}
-use Rattle.image_scans.specs.Versions.{Version}
+use Rattle.vg_scan.specs.Versions.{Version}
 use Rattle.line_table.specs.Machine.{PlainState, plain_after}
 use Rattle.lvm_script.specs.declared.line.Line.{Line}
 use Rattle.sector_base.specs.declared.places.Piece.{Piece}

@@ -10,7 +10,7 @@ use Rattle.disk_model.specs.ValueList.{values}
 use Rattle.volume_view.specs.InSegments.{leg_spot, met}
 use Rattle.volume_view.specs.Places.{primary}
 use Rattle.line_table.specs.Machine.{key_of, list_of, plain_after, sector_of}
-use Rattle.image_scans.specs.Versions.{Version}
+use Rattle.vg_scan.specs.Versions.{Version}
 use Rattle.volume_history.proofs.SmallGroups.{creating, extending, filling, filling_through, group_removing, listing, making, moving}
 use Rattle.volume_history.proofs.SmallGroups.{pvcreating, reading, reducing, removing, renaming, restoring, version_1, version_2, version_3}
 use Rattle.volume_history.proofs.SmallGroups.{version_4, version_5, version_6, version_7}

@@ -8,7 +8,7 @@ use Rattle.sector_base.specs.declared.spans.Span.{Span}
 use Rattle.data_lines.specs.DataLines.{number_sector}
 use Rattle.volume_view.specs.InSegments.{leg_spot, met}
 use Rattle.volume_view.specs.Places.{primary}
-use Rattle.image_scans.specs.Versions.{FindsVersion}
+use Rattle.vg_scan.specs.Versions.{FindsVersion}
 use Rattle.volume_history.proofs.Phases.{finds_with}
 use Rattle.volume_history.proofs.SmallGroups.{filling, flushing, holding}
 use Rattle.volume_history.proofs.SmallRun.{opened, origin_of}

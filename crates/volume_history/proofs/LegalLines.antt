@@ -7,7 +7,7 @@ use Rattle.line_answers.specs.declared.answer.Answer.{Answer}
 use Rattle.line_answers.specs.declared.answer.Answer.TheVariants as answer
 use Rattle.lvm_script.specs.declared.line.Line.{Line}
 use Rattle.disk_model.specs.Order.{WritesNothing}
-use Rattle.image_scans.specs.Versions.{Version}
+use Rattle.vg_scan.specs.Versions.{Version}
 use Rattle.list_laws.proofs.Bools.{and_both}
 use Rattle.data_lines.specs.DataLines.{is_command, is_data, is_flush}
 use Rattle.volume_history.proofs.CommandKinds.{commit_says, plain_command}

@@ -12,7 +12,7 @@ use Rattle.command_table.specs.Commands.{Scripted, VolumeAdded, VolumeGone, Volu
 use Rattle.disk_model.specs.Steps.{Image}
 use Rattle.line_table.specs.Machine.{Created, Extended, Nothing, PlainState, PlainStep, PlainVolume, key_of, plain_after, sectors_of}
 use Rattle.line_table.specs.Machine.{with_key}
-use Rattle.image_scans.specs.Versions.{Version}
+use Rattle.vg_scan.specs.Versions.{Version}
 use Rattle.volume_history.proofs.ComingFrom.{come_both, come_changed, come_kept, come_without, found_key, key_from, none_equal, other_equal}
 use Rattle.volume_history.proofs.ComingFrom.{places_changed, plain_at}
 use Rattle.list_laws.proofs.Bools.{and_both, eq_to, itself, lt_false, lt_true}

@@ -5,7 +5,7 @@ use Rattle.std.proofs.lemmas.List.{length-map}
 use Rattle.std.specs.FinSet as set
 use Rattle.std.specs.Ordering.{nat_cmp}
 use Rattle.disk_model.specs.Steps.{Image}
-use Rattle.image_scans.specs.Versions.{FindsVersion, Version, version_in}
+use Rattle.vg_scan.specs.Versions.{FindsVersion, Version, version_in}
 use Rattle.meta_model.specs.declared.group.Group.{Group}
 use Rattle.scan_rules.specs.Decision.{Reading, ScanAnswer, DuplicatePv, NoCopy, Unsupported, TwoGroups, Conflict, PvShape, NoGroup}
 use Rattle.scan_rules.specs.Decision.{FoundGroup, decide_scan}

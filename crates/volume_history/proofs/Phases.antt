@@ -4,7 +4,7 @@ use Rattle.std.proofs.Common.{ap, subst, ◌∙◌, arith}
 use Rattle.std.proofs.lemmas.Bool.{cases_lt}
 use Rattle.disk_model.specs.Moments.{at_moment}
 use Rattle.disk_model.specs.Steps.{Image}
-use Rattle.image_scans.specs.Versions.{FindsVersion, Version}
+use Rattle.vg_scan.specs.Versions.{FindsVersion, Version}
 use Rattle.line_table.specs.Machine.{PlainState}
 use Rattle.list_laws.proofs.Bools.{lt_true}
 use Rattle.volume_history.proofs.Consistent.{parts_make_consistent}

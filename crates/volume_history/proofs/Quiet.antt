@@ -6,7 +6,7 @@ use Rattle.std.proofs.lemmas.Bool.Decides.{nat_tests}
 use Rattle.disk_model.specs.CrashValues.{MayLeave}
 use Rattle.disk_model.specs.Moments.{at_moment}
 use Rattle.disk_model.specs.Steps.{Image, Record}
-use Rattle.image_scans.specs.Versions.{Version}
+use Rattle.vg_scan.specs.Versions.{Version}
 use Rattle.line_table.specs.Machine.{Nothing, PlainState, PlainStep, PlainVolume, plain_after, sector_of, sectors_of}
 use Rattle.lvm_script.specs.declared.line.Line.{Line}
 use Rattle.sector_base.specs.declared.places.Piece.{Piece}

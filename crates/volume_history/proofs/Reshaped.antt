@@ -9,7 +9,7 @@ use Rattle.disk_model.specs.CrashValues.{MayLeave}
 use Rattle.disk_model.specs.Steps.{Image}
 use Rattle.line_table.specs.Machine.{PlainState, PlainStep, PlainVolume, plain_after, sector_of, sectors_of}
 use Rattle.group_ops.specs.Planning.{zeroes}
-use Rattle.image_scans.specs.Versions.{Version}
+use Rattle.vg_scan.specs.Versions.{Version}
 use Rattle.volume_history.proofs.CommandKinds.{none_zeroed}
 use Rattle.volume_history.specs.Single.{ZeroesStand}
 use Rattle.volume_history.proofs.Quiet.{OwnSectors, own_sectors, untouched_at, value_on, values_length}

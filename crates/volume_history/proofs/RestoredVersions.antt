@@ -9,7 +9,7 @@ use Rattle.command_table.specs.Commands.{Restore}
 use Rattle.disk_model.specs.Steps.{Image}
 use Rattle.line_table.specs.Machine.{PlainState, PlainStep, PlainVolume, Restored, RestoredVolume, key_of, restored_sectors}
 use Rattle.line_table.specs.Machine.{restored_volume, sectors_of}
-use Rattle.image_scans.specs.Versions.{Version}
+use Rattle.vg_scan.specs.Versions.{Version}
 use Rattle.list_laws.proofs.Bools.{and_cases, either, eq_of, eq_to, itself, same_text}
 use Rattle.volume_history.proofs.ComingFrom.{none_equal, other_equal}
 use Rattle.volume_history.specs.Candidates.{is_given, is_replaced, no_image, place_at}

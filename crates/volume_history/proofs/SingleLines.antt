@@ -9,7 +9,7 @@ use Rattle.disk_model.specs.CrashValues.{IsImage}
 use Rattle.disk_model.specs.Moments.{at_moment}
 use Rattle.disk_model.specs.Steps.{Image, Step, Record}
 use Rattle.line_table.specs.Machine.{PlainState, PlainStep, plain_after, sector_of}
-use Rattle.image_scans.specs.Versions.{FindsVersion, Version}
+use Rattle.vg_scan.specs.Versions.{FindsVersion, Version}
 use Rattle.list_laws.proofs.Bools.{eq_of}
 use Rattle.data_lines.specs.DataLines.{is_command, is_through}
 use Rattle.volume_history.proofs.CommandKinds.{commit_kind, created_plain, created_says, plain_command}

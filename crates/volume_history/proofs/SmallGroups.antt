@@ -13,7 +13,7 @@ use Rattle.meta_model.specs.declared.pv.Pv.{Pv}
 use Rattle.meta_model.specs.declared.segment.SegKind.TheVariants.{Striped}
 use Rattle.meta_model.specs.declared.segment.Segment.{Segment}
 use Rattle.meta_model.specs.declared.segment.On.TheVariants as on
-use Rattle.image_scans.specs.Versions.{Version}
+use Rattle.vg_scan.specs.Versions.{Version}
 
 -- a physical volume of 99 extents from sector 10 on
 abbrev pub one_pv : List ℕ × Pv

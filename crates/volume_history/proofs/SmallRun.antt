@@ -9,7 +9,7 @@ use Rattle.disk_model.specs.CrashValues.{HasCompleted, IsImage, MayLeave}
 use Rattle.disk_model.specs.Durability.{EachOnlyLeaves}
 use Rattle.disk_model.specs.Moments.{at_moment}
 use Rattle.disk_model.specs.Steps.{Completed, Flushing, Image, Step, Submitted, Record, Writing, value_at}
-use Rattle.image_scans.specs.Versions.{FindsVersion}
+use Rattle.vg_scan.specs.Versions.{FindsVersion}
 use Rattle.sector_base.specs.Spans.{covers}
 use Rattle.sector_base.specs.declared.spans.Span.{Span}
 use Rattle.volume_history.proofs.Phases.{finds_with}

@@ -3,7 +3,7 @@ use Rattle.std.proofs.Common.{◌≡◌, ◌<◌, ℕ, zero, suc, ◌+◌, ◌*�
 use Rattle.std.proofs.Common.{sym, ap, subst, ◌∙◌, arith, option_map, unwrap_or, slice_get}
 use Rattle.std.specs.List.{range_with_len}
 use Rattle.disk_model.specs.Steps.{Image}
-use Rattle.image_scans.specs.Versions.{Version}
+use Rattle.vg_scan.specs.Versions.{Version}
 use Rattle.meta_model.specs.declared.lv.Lv.{Lv}
 use Rattle.sector_base.specs.declared.places.At.{At}
 use Rattle.volume_history.specs.Placed.{Place, PlacedVolume, no_place, on_disk, place_of, placed_from, places_of, values_on, volumes_of}

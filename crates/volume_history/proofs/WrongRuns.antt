@@ -8,7 +8,7 @@ use Rattle.data_lines.specs.DataLines.{number_sector}
 use Rattle.disk_model.specs.Steps.{Submitted, Record, Writing}
 use Rattle.volume_view.specs.InSegments.{leg_spot, met}
 use Rattle.volume_view.specs.Places.{primary}
-use Rattle.image_scans.specs.Versions.{FindsVersion, Version}
+use Rattle.vg_scan.specs.Versions.{FindsVersion, Version}
 use Rattle.volume_history.proofs.Phases.{finds_with}
 use Rattle.volume_history.proofs.FlushedRun.{entries_by, origin_with, sector, writes}
 use Rattle.volume_history.proofs.SmallGroups.{filling_through, holding, making, version_1}

@@ -6,7 +6,7 @@ use Rattle.command_table.specs.declared.command.Command.TheVariants.{Lvcreate}
 use Rattle.command_table.specs.declared.command.NewVolume.{NewVolume}
 use Rattle.disk_model.specs.Steps.{Image}
 use Rattle.line_table.specs.Machine.{PlainState, PlainStep, Created, PlainVolume}
-use Rattle.image_scans.specs.Versions.{Version}
+use Rattle.vg_scan.specs.Versions.{Version}
 use Rattle.volume_history.proofs.ComingFrom.{other_equal}
 use Rattle.volume_history.specs.Candidates.{is_born, is_zeroed, place_at}
 use Rattle.volume_history.specs.Changing.{ChangesVolumes}

@@ -7,7 +7,7 @@ use Rattle.data_lines.specs.DataLines.{is_command}
 use Rattle.disk_model.specs.Steps.{Image, Step}
 use Rattle.volume_rules.specs.Rules.{IsAccepted}
 use Rattle.volume_view.specs.View.{view}
-use Rattle.image_scans.specs.Versions.{FindsVersion, Version}
+use Rattle.vg_scan.specs.Versions.{FindsVersion, Version}
 use Rattle.volume_history.specs.Placed.{Place, PlacedVolume, group_name, values_on, volumes_of}
 use Rattle.volume_history.specs.Commands.{commits, is_good, may_say, removes}
 use Rattle.volume_history.specs.Chronicles.{AreUpto, ChronicleEntry, Answered, Origin, Chronicle, moment_of, chronicle_at, in_force}

@@ -21,7 +21,7 @@ use Rattle.group_plan.specs.declared.state.Change.{Change}
 use Rattle.lv_plans.specs.Allocating.{Takes}
 use Rattle.group_ops.specs.Laws.{state_in}
 use Rattle.group_ops.specs.Planning.{IsBackupOf, IsPlanned, asks_of, change_of, refusal_of}
-use Rattle.image_scans.specs.Versions.{FindsVersion, Version}
+use Rattle.vg_scan.specs.Versions.{FindsVersion, Version}
 use Rattle.volume_history.specs.Commands.{is_wait, is_move, is_tended, failed_pv, is_good, is_judged_again}
 use Rattle.volume_history.specs.Commands.{is_refused, may_say, commits, removes}
 use Rattle.volume_history.specs.Chronicles.{ChronicleEntry, Begun, Opened, Took, Changed, GivenUp, Failed, Answered, Origin, Chronicle}

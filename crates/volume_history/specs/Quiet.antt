@@ -6,7 +6,7 @@ use Rattle.data_lines.specs.DataLines.{is_data}
 use Rattle.disk_model.specs.CrashValues.{MayLeave}
 use Rattle.disk_model.specs.Steps.{Image, Record}
 use Rattle.line_table.specs.Machine.{plain_after}
-use Rattle.image_scans.specs.Versions.{Version}
+use Rattle.vg_scan.specs.Versions.{Version}
 use Rattle.volume_history.specs.Placed.{Place, PlacedVolume, group_name, volumes_of}
 use Rattle.volume_history.specs.Chronicles.{ChronicleEntry, Begun, Origin, Chronicle, chronicle_at, in_force, now_at, pending}
 use Rattle.volume_history.specs.Replay.{plain_state}

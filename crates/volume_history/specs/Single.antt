@@ -9,7 +9,7 @@ use Rattle.disk_model.specs.Moments.{at_moment}
 use Rattle.disk_model.specs.Order.{WritesNothing}
 use Rattle.disk_model.specs.Steps.{Image, Record}
 use Rattle.line_table.specs.Machine.{plain_after}
-use Rattle.image_scans.specs.Versions.{FindsVersion, Version}
+use Rattle.vg_scan.specs.Versions.{FindsVersion, Version}
 use Rattle.volume_history.specs.Placed.{volumes_of}
 use Rattle.volume_history.specs.Commands.{commits, created_disk, is_created_at, removes}
 use Rattle.volume_history.specs.Chronicles.{ChronicleEntry, Begun, Opened, Took, Changed, GivenUp, Answered, Origin, has_written, now_at}

@@ -3,7 +3,7 @@ use Rattle.std.specs.Prelude.{◌≡◌, ◌≤◌, ℕ, IfSome, [], length, Opt
 use Rattle.disk_model.specs.Steps.{now_after}
 use Rattle.volume_view.specs.View.{DisksDiffer}
 use Rattle.vg_found.specs.declared.found.Found.{Found}
-use Rattle.image_scans.specs.Versions.{Version}
+use Rattle.vg_scan.specs.Versions.{Version}
 use Rattle.volume_history.specs.Changing.{HaveOwnNames}
 use Rattle.volume_history.specs.Chronicles.{Origin, now_at, origin_at}
 use Rattle.volume_history.specs.Legal.{FindsNow}

@@ -3,6 +3,7 @@ pub mod CopiesApart
 mod ExampleLaws
 mod Examples
 pub mod GoingDown
+pub mod InExtents
 pub mod MetSegments
 pub mod OnTheWay
 pub mod OneAbove

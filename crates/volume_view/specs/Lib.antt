@@ -1,4 +1,5 @@
 pub mod Copies
+pub mod InExtents
 pub mod InSegments
 pub mod Laws
 pub mod Places

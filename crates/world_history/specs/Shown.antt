@@ -4,7 +4,7 @@ use Rattle.sector_base.specs.declared.places.Piece.{Piece}
 use Rattle.sector_base.specs.declared.spans.Span.{Span}
 use Rattle.disk_model.specs.Steps.{Image, Record, now_after}
 use Rattle.line_table.specs.Machine.{PlainState}
-use Rattle.image_scans.specs.Versions.{Version}
+use Rattle.vg_scan.specs.Versions.{Version}
 use Rattle.volume_history.specs.Chronicles.{AreUpto, ChronicleEntry, Origin, in_force}
 use Rattle.volume_history.specs.Legal.{IsLegalHistory}
 use Rattle.volume_history.specs.Placed.{Place, PlacedVolume, group_name, volumes_of}

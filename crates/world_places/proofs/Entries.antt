@@ -8,7 +8,7 @@ use Rattle.line_answers.specs.declared.answer.Answer.{Answer}
 use Rattle.lvm_script.specs.declared.line.Line.{Line}
 use Rattle.disk_model.specs.Durability.{OnlyLeaves}
 use Rattle.line_table.specs.Machine.{sector_of}
-use Rattle.image_scans.specs.Versions.{Version}
+use Rattle.vg_scan.specs.Versions.{Version}
 use Rattle.volume_history.proofs.Bases.{base_moves, each_cut_map}
 use Rattle.volume_history.specs.Candidates.{base, bears, is_write}
 use Rattle.volume_history.specs.Chronicles.{Answered, Begun, Changed, ChronicleEntry, Failed, GivenUp, Opened, Took, begun_in, is_answered}

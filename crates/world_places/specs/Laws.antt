@@ -13,7 +13,7 @@ use Rattle.disk_model.specs.Steps.{Completed, Flushing, Step, Submitted, Work, W
 use Rattle.flush_plan.specs.Plans.{IsOrderly, Plan, flush_of, is_in_flight}
 use Rattle.flush_plan.specs.Steps.{after_flushed, after_forgot, after_lost, after_submitted, after_wrote}
 use Rattle.line_table.specs.Machine.{PlainVolume, sector_of}
-use Rattle.image_scans.specs.Versions.{Version}
+use Rattle.vg_scan.specs.Versions.{Version}
 use Rattle.volume_history.specs.Candidates.{bears, is_write}
 use Rattle.volume_history.specs.Chronicles.{Answered, Begun, Changed, ChronicleEntry, Failed, GivenUp, Opened, Took, begun_in, is_answered}
 use Rattle.volume_history.specs.Commands.{is_fine}

@@ -16,7 +16,7 @@ use Rattle.claim_table.specs.Extents.{overlaps}
 use Rattle.piece_table.specs.declared.live.LivePiece.{LivePiece}
 use Rattle.piece_table.specs.Pieces.{is_waiting, is_waiting_stage, live_at}
 use Rattle.piece_table.specs.Steps.{live_of, no_live}
-use Rattle.image_scans.specs.Versions.{Version}
+use Rattle.vg_scan.specs.Versions.{Version}
 use Rattle.volume_history.specs.Placed.{Place, volumes_of}
 use Rattle.world_acts.specs.Acts.{Allowed, Asks, World}
 use Rattle.world_acts.specs.Orderly.{IsOrderly}

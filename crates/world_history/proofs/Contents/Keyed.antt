@@ -22,9 +22,9 @@ use Rattle.volume_view.specs.Places.{primary}
 use Rattle.volume_view.proofs.CopiesApart.{IsFree, copies_apart, same_number}
 use Rattle.volume_view.proofs.GoingDown.{down_has_copy}
 use Rattle.volume_view.proofs.PrimariesStand.{primary_stands}
-use Rattle.image_scans.specs.Laws.{IsInExtents}
-use Rattle.image_scans.specs.Versions.{Version}
-use Rattle.image_scans.proofs.Placed.{primary_in_extents}
+use Rattle.volume_view.specs.InExtents.{IsInExtents}
+use Rattle.vg_scan.specs.Versions.{Version}
+use Rattle.volume_view.proofs.InExtents.{primary_in_extents}
 use Rattle.line_table.specs.Machine.{name_of}
 use Rattle.seg_place.specs.Sectors.{sectors_of}
 use Rattle.volume_history.specs.Changing.{HaveOwnNames, has_named}

@@ -6,7 +6,7 @@ use Rattle.std.proofs.lemmas.Option.{none-some, same_Some}
 use Rattle.sector_base.specs.declared.places.Piece.{Piece}
 use Rattle.disk_model.specs.Steps.{Image}
 use Rattle.line_table.specs.Machine.{PlainVolume, PlainState, Wrote, plain_after, put_at, with_key}
-use Rattle.image_scans.specs.Versions.{Version}
+use Rattle.vg_scan.specs.Versions.{Version}
 use Rattle.volume_history.specs.Placed.{Place, PlacedVolume, group_name, values_on, volumes_of}
 use Rattle.volume_history.specs.Replay.{opening_volumes}
 use Rattle.world_history.specs.Shown.{places_keyed, shown_state}

@@ -8,7 +8,7 @@ use Rattle.lvm_script.specs.declared.line.Line.{Line}
 use Rattle.data_lines.specs.DataLines.{value_for, writes}
 use Rattle.disk_model.specs.Steps.{Image, now_after}
 use Rattle.line_table.specs.Machine.{Nothing, PlainState, PlainStep, Wrote, name_of, plain_after, sector_of}
-use Rattle.image_scans.specs.Versions.{Version}
+use Rattle.vg_scan.specs.Versions.{Version}
 use Rattle.volume_history.specs.Chronicles.{ChronicleEntry, Failed, Origin, Took, begun_in, in_force, now_at}
 use Rattle.volume_history.specs.Legal.{IsOrdered, LeavesOldOrNew}
 use Rattle.volume_history.specs.Laws.{HistoriesGrow}

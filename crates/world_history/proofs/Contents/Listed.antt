@@ -6,7 +6,7 @@ use Rattle.std.proofs.lemmas.List.{length-map}
 use Rattle.std.proofs.lemmas.List.FromFn.{length-map-range_with_len}
 use Rattle.disk_model.specs.Steps.{Image}
 use Rattle.meta_model.specs.declared.group.Group.{Group}
-use Rattle.image_scans.specs.Versions.{Version}
+use Rattle.vg_scan.specs.Versions.{Version}
 use Rattle.line_table.specs.Machine.{PlainVolume, list_of}
 use Rattle.seg_place.specs.Sectors.{sectors_of}
 use Rattle.volume_rules.specs.Extents.{extents_of}

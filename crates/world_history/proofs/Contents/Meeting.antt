@@ -6,7 +6,7 @@ use Rattle.sector_base.specs.declared.places.Piece.{Piece}
 use Rattle.sector_base.specs.declared.spans.Span.{Span}
 use Rattle.sector_base.specs.Spans.{covers}
 use Rattle.claim_table.specs.Extents.{end_of, overlaps}
-use Rattle.image_scans.specs.Versions.{Version}
+use Rattle.vg_scan.specs.Versions.{Version}
 use Rattle.volume_history.specs.Placed.{Place, volumes_of}
 use Rattle.world_history.specs.Shown.{StandsIn, places_keyed}
 

@@ -12,7 +12,7 @@ use Rattle.list_laws.proofs.Bools.{eq_to}
 use Rattle.disk_model.specs.Steps.{Image}
 use Rattle.meta_model.specs.declared.group.Group.{Group}
 use Rattle.meta_model.specs.declared.lv.Lv.{Lv}
-use Rattle.image_scans.specs.Versions.{Version}
+use Rattle.vg_scan.specs.Versions.{Version}
 use Rattle.group_edits.specs.Visible.{visible_from, visible_named}
 use Rattle.line_table.specs.Machine.{key_of}
 use Rattle.volume_history.specs.Legal.{key_in}

@@ -4,7 +4,7 @@ use Rattle.std.proofs.lemmas.Option.{none-some}
 use Rattle.disk_model.specs.Record.{Operation}
 use Rattle.line_table.specs.Machine.{PlainState, PlainVolume}
 use Rattle.vg_found.specs.declared.found.Found.{Found}
-use Rattle.image_scans.specs.Versions.{Version}
+use Rattle.vg_scan.specs.Versions.{Version}
 use Rattle.volume_history.specs.Chronicles.{Origin}
 use Rattle.volume_history.specs.Placed.{group_name, volumes_of}
 use Rattle.volume_history.specs.Starting.{StartsWith}

@@ -10,7 +10,7 @@ use Rattle.meta_model.specs.declared.group.Group.{Group}
 use Rattle.volume_rules.specs.Rules.{IsAccepted}
 use Rattle.volume_view.specs.Places.{primary}
 use Rattle.seg_place.specs.Sectors.{sectors_of}
-use Rattle.image_scans.specs.Versions.{Version}
+use Rattle.vg_scan.specs.Versions.{Version}
 use Rattle.volume_history.specs.Placed.{PlacedVolume, volumes_of}
 use Rattle.world_acts.specs.declared.volumes.Volumes.{Volumes}
 use Rattle.world_acts.specs.Volumes.{AreLaidOut, IsPlaced, StandsAt, has_sector, lv_of, on_disk, place_of, span_at, span_of}
