@@ -31,7 +31,7 @@ mod NewPv
 mod NewPvEnd
 pub mod LineScans
 pub mod BesideAreas
-mod BesideScan
+pub mod BesideScan
 pub mod Zeroes
 pub mod NoLater
 pub mod MetAreas

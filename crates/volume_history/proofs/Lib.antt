@@ -2,7 +2,7 @@ pub mod EarlierMoments
 mod Legal
 pub mod Bases
 mod Brought
-mod Numbered
+pub mod Numbered
 pub mod Answers
 mod Acknowledged
 pub mod CommandKinds
