@@ -50,6 +50,7 @@ begins_on w v u line begun is goes stays = record {
   carried = record {
     mid = is.carried.mid;
     prepares = is.carried.prepares;
+    awaits = is.carried.awaits;
     goes = reaches_both follows is.carried.mid v u is.carried.goes goes;
   };
   how = is.how ∙ ap (λ (o : Opens). begun_as is.first (is_some (open_at o (length w.core.lines.begun)))) (sym stays);

@@ -1,5 +1,5 @@
 -- A line that begins, waits for its flushes and enters its pieces.
-use Rattle.std.proofs.Common.{◌≡◌, ◌≤◌, ◌<◌, ◌+◌, ℕ, zero, suc, Bool, true, List, [], ◌∷◌, ◌++◌, length, get_or, map, All, Option}
+use Rattle.std.proofs.Common.{◌≡◌, ◌≤◌, ◌<◌, ◌+◌, ℕ, zero, suc, Bool, true, false, List, [], ◌∷◌, ◌++◌, length, get_or, map, All, Option}
 use Rattle.std.proofs.Common.{None, Some, filter, inl, inr, is_some, slice_get, unwrap_or, refl, sym, ap, subst, ◌∙◌, arith, true≢false}
 use Rattle.std.specs.Option.{option_map_or}
 use Rattle.std.proofs.lemmas.Bool.{eq-eqb, eqb-false}
@@ -12,6 +12,7 @@ use Rattle.command_table.specs.declared.command.Command.TheVariants.{Wait}
 use Rattle.line_answers.specs.declared.answer.Answer.{Answer}
 use Rattle.line_answers.specs.declared.op_refusal.OpRefusal.{OpRefusal}
 use Rattle.lvm_script.specs.declared.line.Line.{Line}
+use Rattle.data_lines.specs.DataLines.{is_flush}
 use Rattle.line_table.specs.Steps.{is_open}
 use Rattle.claim_table.specs.declared.claim.By.{By}
 use Rattle.claim_table.specs.Claims.{ready_at}
@@ -23,15 +24,16 @@ use Rattle.world_acts.specs.declared.open_line.OpenLine.{OpenLine}
 use Rattle.world_acts.specs.declared.open_line.Work.{Work}
 use Rattle.world_acts.specs.declared.open_line.Work.TheVariants.{Read, Whole, Write}
 use Rattle.world_acts.specs.declared.volumes.Volumes.{Volumes}
-use Rattle.world_acts.specs.Acts.{Begins, Holds, IsPartOf, MayBegin, Prepares, Reaches, World, after, follows, world}
+use Rattle.world_acts.specs.Acts.{Begins, Holds, IsPartOf, MayBegin, Prepares, Reaches, World, after, carries_on, follows, world}
 use Rattle.world_acts.specs.OpenLines.{IsBarrier, is_whole, left_of, no_open, open_at, open_of}
 use Rattle.world_acts.specs.Orderly.{IsOrderly}
 use Rattle.world_acts.specs.Rooms.{more}
+use Rattle.world_acts.proofs.Lasting.{begun_reaches, sizes_reach}
 use Rattle.world_acts.proofs.Orderly.{orderly_after, orderly_reaches}
 use Rattle.world_acts.proofs.Reaching.{prepared_carried, prepares_both, prepares_none, reaches_act, reaches_none}
 use Rattle.line_plans.specs.declared.preparing.NewPiece.{NewPiece}
 use Rattle.line_plans.specs.declared.preparing.Plan.{Plan}
-use Rattle.io_core.specs.Beginning.{MayCarryOn}
+use Rattle.io_core.specs.Beginning.{AwaitsAll, MayCarryOn}
 use Rattle.io_core.specs.declared.beginning.Begun.{Begun}
 use Rattle.io_core.specs.declared.beginning.Begun.TheVariants.{Started}
 use Rattle.io_core.specs.Events.{BeginsIn, IsPreparedAndGoes, begun_as}
@@ -44,6 +46,13 @@ use Rattle.io_core.proofs.RoomsBorne.{borne_less, borne_owed, covers_first, cove
 use Rattle.io_core.proofs.SameKinds.{KindKept, kept_kind, may_be_still}
 
 -- ---- a line that was begun is carried on
+
+-- whether the line at this place flushes its volume
+abbrev is_flush_in : List Line → ℕ → Bool
+is_flush_in begun line = option_map_or (λ (l : Line). is_flush l.command) (slice_get begun line) false
+
+abbrev flushes_at : World → ℕ → Bool
+flushes_at w line = is_flush_in w.core.lines.begun line
 
 -- what `close_line` leaves
 pub record HasClosed (line : ℕ) (w v : World) : Type 0 where
@@ -83,7 +92,7 @@ then_by : (w : World) (line : ℕ) (pieces : List NewPiece) (tickets : ℕ) (d :
     → AreTickets w.core.volumes w.shelf.sizes (open_of w.core.opens line) (slice_get w.core.lines.begun line) tickets
     → MayEnterPieces (world w.shelf d) line pieces
 then_by w line pieces tickets d m s (inl none) =
-    subst (λ (x : Core). MayEnterPieces (world w.shelf x) line pieces) (sym (s.none none))
+    subst (λ (x : Core). MayEnterPieces (world w.shelf x) line pieces) (sym (s.none none.none))
     (record {
       orderly = m.orderly;
       opened = m.opened;
@@ -138,6 +147,32 @@ then_closes w v u line tickets pieces by m s t =
       other = λ e. none-some line (sym (t.barrier ∙ s.barrier) ∙ e);
     }
 
+-- no pieces enter where there are none
+pub none_in : (pieces : List NewPiece) → length (pieces_in pieces) ≡ 0 → length pieces ≡ 0
+none_in pieces is = sym (length-map pieces (λ (new : NewPiece). new.piece)) ∙ is
+
+-- a line that flushes its volume takes place as a whole
+flush_whole : (w : World) (line tickets : ℕ)
+    → AreTickets w.core.volumes w.shelf.sizes (open_of w.core.opens line) (slice_get w.core.lines.begun line) tickets
+    → flushes_at w line ≡ true
+    → is_whole (open_of w.core.opens line).work ≡ true
+flush_whole w line tickets (inl none) flush = (none.refused flush).0
+flush_whole w line tickets (inr are) flush = are.whole
+
+-- and waits on each disk, once it has waited by all its tickets
+all_await : (w v : World) (line tickets : ℕ) → IsOrderly w
+    → AreTickets w.core.volumes w.shelf.sizes (open_of w.core.opens line) (slice_get w.core.lines.begun line) tickets
+    → HasWaited line w v tickets tickets
+    → flushes_at w line ≡ true
+    → AwaitsAll v.core line
+all_await w v line tickets o (inl none) s flush =
+    subst (λ (c : Core). AwaitsAll c line) (sym (s.none none.none)) (λ pv below. inr (inl (none.refused flush).1))
+all_await w v line tickets o (inr are) s flush =
+    let goes : Reaches carries_on w v = prepared_carried line [] None w v s.prepares in
+    let kept : IsOrderly v = orderly_reaches goes o in
+    let sizes : length v.shelf.sizes ≡ length w.shelf.sizes = ap (λ (l : List ℕ). length l) (sizes_reach carries_on w v goes) in
+    λ pv below. s.awaits pv (omega (arith, below, are.many, sizes, kept.backed.places.many))
+
 pub record IsCarriedOn (line : ℕ) (pieces : List Piece) (first : Option By) (w v : World) : Type 0 where
   pub carried : IsPreparedAndGoes line pieces first w v
   pub settled : IsSettled v.core
@@ -150,7 +185,17 @@ pub carried_on : (w v u t : World) (line tickets : ℕ) (pieces : List NewPiece)
 carried_on w v u t line tickets pieces by m a b c = record {
   carried = record {
     mid = u;
-    prepares = prepares_both line [] (pieces_in pieces) (pieces_in pieces) None by w v u refl a.prepares b.prepares;
+    prepares = prepares;
+    awaits =
+        λ flush.
+        let was : flushes_at w line ≡ true =
+        ap (λ (ls : List Line). is_flush_in ls line)
+        (sym (begun_reaches w u (prepared_carried line (pieces_in pieces) by w u prepares))) ∙ flush in
+        let none : pieces ≡ [] =
+        no_pieces w.core.volumes w.shelf.sizes (open_of w.core.opens line) (slice_get w.core.lines.begun line) pieces
+        (flush_whole w line tickets m.tickets was) m.each in
+        subst (λ (d : Core). AwaitsAll d line) (sym (b.none (ap (λ (l : List NewPiece). length (pieces_in l)) none)))
+        (all_await w v line tickets m.orderly m.tickets a was);
     goes = c.reaches;
   };
   settled = record {
@@ -163,6 +208,9 @@ carried_on w v u t line tickets pieces by m a b c = record {
         (a.released m.released);
   };
 }
+  where
+    prepares : Prepares line (pieces_in pieces) by w u
+    prepares = prepares_both line [] (pieces_in pieces) (pieces_in pieces) None by w v u refl a.prepares b.prepares
 
 -- ---- a line begins
 
@@ -347,6 +395,9 @@ module _ (w : World) (line : Line) (plan : Plan) (m : MayBeginBy w line plan) wh
             prepares =
                 subst (λ (ps : List Piece). Prepares place ps None begun begun)
                 (sym (ap (λ (c : Command). pieces_for w.core.volumes c) waits)) (prepares_none place begun);
+            awaits =
+                λ flush. absurd (true≢false (sym flush
+                ∙ ap (λ (x : Option Line). option_map_or (λ (l : Line). is_flush l.command) x false) own_line ∙ ap is_flush waits));
             goes = reaches_act follows begun (Holds place) refl (m.free, barrier);
           };
           how = ap (λ (o : Option OpenLine). begun_as None (is_some o)) (sym own_open);

@@ -1,9 +1,12 @@
 -- A line that waits for flushes.
-use Rattle.std.proofs.Common.{◌≡◌, ◌≤◌, ◌<◌, ◌⊎◌, ℕ, ◌+◌, ◌*◌, ◌^◌, Bool, true, false, cond, nat_eq, List, [], length, Option, None, Some}
-use Rattle.std.proofs.Common.{IfSome, inl, inr, is_some, slice_get, unwrap_or, refl, sym, ap, subst, ◌∙◌, arith}
+use Rattle.std.proofs.Common.{◌≡◌, ◌≤◌, ◌<◌, ◌⊎◌, ℕ, ◌+◌, ◌*◌, ◌^◌, Bool, true, false, cond, nat_eq, List, [], ◌∷◌, ◌++◌, length, get_or}
+use Rattle.std.proofs.Common.{Option, None, Some, IfSome, inl, inr, is_some, slice_get, unwrap_or, refl, sym, ap, subst, ◌∙◌, arith}
+use Rattle.std.proofs.Common.{⊎_elim}
+use Rattle.std.specs.Prelude.{Contains}
 use Rattle.std.specs.Option.{option_map_or}
-use Rattle.std.proofs.lemmas.Bool.{eqb-false, eqb-true, eq-eqb}
-use Rattle.std.proofs.lemmas.List.{get_or-set_other, get_or-set_same}
+use Rattle.std.proofs.lemmas.Bool.{cases_lt, eqb-false, eqb-true, eq-eqb}
+use Rattle.std.proofs.lemmas.List.{get_or-set_other, get_or-set_same, length-set}
+use Rattle.std.proofs.lemmas.List.Elements.{Contains-append_left, Contains-append_right, Contains-push}
 use Rattle.std.proofs.lemmas.Option.{none-some}
 use Rattle.line_answers.specs.declared.answer.Answer.{Answer}
 use Rattle.line_answers.specs.declared.answer.Answer.TheVariants.{PvFailed}
@@ -20,7 +23,8 @@ use Rattle.flush_waits.specs.Waits.{DiskWaits, awaited, dirty_at, disk_waits, no
 use Rattle.world_acts.specs.declared.state.Core.{Core}
 use Rattle.world_acts.specs.declared.open_line.OpenLine.{OpenLine}
 use Rattle.world_acts.specs.declared.room.Room.{Room}
-use Rattle.world_acts.specs.Acts.{Awaits, IsBorne, LineFails, MayAwait, Prepares, Reaches, TellsDisk, World, after, carries_on, world}
+use Rattle.world_acts.specs.Acts.{Awaits, IsBorne, IsLost, LineFails, MayAwait, Prepares, Reaches, TellsDisk, World, after, carries_on}
+use Rattle.world_acts.specs.Acts.{world}
 use Rattle.world_acts.specs.OpenLines.{Opens, after_failure, is_pv_failed, is_whole, left_of, no_open, open_at, open_of, with_open}
 use Rattle.world_acts.specs.Orderly.{AreReleased, IsOrderly}
 use Rattle.world_acts.specs.Rooms.{more}
@@ -33,16 +37,38 @@ use Rattle.world_acts.proofs.Orderly.{orderly_reaches}
 use Rattle.world_acts.proofs.Reaching.{prepared_carried, prepares_act, prepares_both, prepares_none}
 use Rattle.world_acts.proofs.Tables.{some_of}
 use Rattle.line_plans.specs.Plans.{AreForDisks, AreTickets, flushes_room}
+use Rattle.io_core.specs.Beginning.{AwaitsOn}
 use Rattle.io_core.specs.Rest.{IsCalm, SameLines, just, no_one}
 use Rattle.io_core.proofs.Calm.{asked_same, others_failed, others_set, unfinished_but}
 use Rattle.io_core.proofs.LineKinds.{same_added, same_both, same_failed, same_lines}
+use Rattle.io_core.proofs.LiveLines.{failed_some}
 use Rattle.io_core.proofs.RoomsBorne.{borne_less, borne_same, covers_last}
 use Rattle.io_core.proofs.SameKinds.{KindKept, kept_kind}
+
+-- ---- what stays of one that waits on a disk
+
+-- all that waits on a disk
+abbrev all_on : DiskWaits → List Waiting
+all_on d = d.served ++ d.next
+
+-- the same write is the last of its volume there, and as much lasts; it fails still if it did, and waits still
+pub record StaysOn (line pv : ℕ) (c d : Core) : Type 0 where
+  pub place : dirty_at d.waits (open_of d.opens line).key pv ≡ dirty_at c.waits (open_of c.opens line).key pv
+  pub stable : (marks_of d.waits.plan pv).stable ≡ (marks_of c.waits.plan pv).stable
+  pub fails : is_some (open_of c.opens line).failure ≡ true → is_some (open_of d.opens line).failure ≡ true
+  pub waits : (it : Waiting) → Contains (all_on (disk_waits c.waits pv)) it → Contains (all_on (disk_waits d.waits pv)) it
+
+awaits_still : (line pv : ℕ) (c d : Core) → StaysOn line pv c d → AwaitsOn c line pv → AwaitsOn d line pv
+awaits_still line pv c d s (inl lasts) = inl (omega (arith, lasts, s.place, s.stable))
+awaits_still line pv c d s (inr (inl fails)) = inr (inl (s.fails fails))
+awaits_still line pv c d s (inr (inr waits)) =
+    let it : Waiting = record { waiter = waiter.Line line; place = dirty_at c.waits (open_of c.opens line).key pv } in
+    inr (inr (subst (λ (n : ℕ). Contains (all_on (disk_waits d.waits pv)) (record it { place = n })) (sym s.place) (s.waits it waits)))
 
 -- ---- one disk
 
 -- what a line leaves that waits on a disk, or has no need to
-pub record WaitsOn (line : ℕ) (w v : World) : Type 0 where
+pub record WaitsOn (line pv : ℕ) (w v : World) : Type 0 where
   pub prepares : Prepares line [] None w v
   pub well : IfSome (open_of v.core.opens line).failure TellsDisk
   pub room : (r : Room) → IsBorne w (more w.core.owed (more (flushes_room 1) r)) → IsBorne v (more v.core.owed r)
@@ -52,9 +78,13 @@ pub record WaitsOn (line : ℕ) (w v : World) : Type 0 where
   pub pieces : v.core.pieces ≡ w.core.pieces
   pub barrier : v.core.barrier ≡ w.core.barrier
   pub left : left_of v.core.opens line ≤ left_of w.core.opens line + 1
+  pub here : AwaitsOn v.core line pv
+  pub others : (other : ℕ) → nat_eq pv other ≡ false → AwaitsOn w.core line other → AwaitsOn v.core line other
 
-waits_none : (line : ℕ) (w : World) → IfSome (open_of w.core.opens line).failure TellsDisk → WaitsOn line w w
-waits_none line w well = record {
+waits_none : (line pv : ℕ) (w : World) → IfSome (open_of w.core.opens line).failure TellsDisk
+    → dirty_at w.core.waits (open_of w.core.opens line).key pv ≤ (marks_of w.core.waits.plan pv).stable
+    → WaitsOn line pv w w
+waits_none line pv w well lasts = record {
   prepares = prepares_none line w;
   well = well;
   room =
@@ -66,6 +96,8 @@ waits_none line w well = record {
   pieces = refl;
   barrier = refl;
   left = omega arith;
+  here = inl lasts;
+  others = λ q apart is. is;
 }
 
 -- the line at a place that another takes
@@ -87,14 +119,16 @@ failed_well opens line o pv at well =
 waits_failed : (line pv : ℕ) (w : World) → is_some (open_at w.core.opens line) ≡ true
     → option_map_or (λ (l : Line). is_flush l.command) (slice_get w.core.lines.begun line) false ≡ true
     → IfSome (open_of w.core.opens line).failure TellsDisk
-    → WaitsOn line w (after w (LineFails line (PvFailed pv)))
-waits_failed line pv w opened flushes well =
+    → IsLost w.core pv
+    → WaitsOn line pv w (after w (LineFails line (PvFailed pv)))
+waits_failed line pv w opened flushes well lost =
     let c : Core = w.core in
     let d : Core = after_line_fails c line (PvFailed pv) in
     let found : (x : OpenLine) × (open_at c.opens line ≡ Some x) = some_of (open_at c.opens line) opened in
     record {
       prepares =
-          prepares_act w line (LineFails line (PvFailed pv)) (eq-eqb line line refl) refl refl (opened, (pv, refl), inl (flushes, well));
+          prepares_act w line (LineFails line (PvFailed pv)) (eq-eqb line line refl) refl refl
+          (opened, (pv, refl, lost), inl (flushes, well));
       well = failed_well c.opens line found.0 pv found.1 well;
       room = λ r b. borne_same w (after w (LineFails line (PvFailed pv))) (more c.owed (more (flushes_room 1) r)) (more c.owed r)
           (covers_last c.owed (flushes_room 1) r) refl refl refl refl b;
@@ -112,14 +146,28 @@ waits_failed line pv w opened flushes well =
       pieces = refl;
       barrier = refl;
       left = let e = (line_failed c.opens line found.0 (PvFailed pv) found.1).left line in omega (arith, e);
+      here = inr (inl (failed_some c.opens line found.0 (PvFailed pv) found.1));
+      others = λ q apart. awaits_still line q c d (record {
+        place =
+            ap (λ (n : ℕ). dirty_at c.waits n q)
+            (kept_kind c.opens d.opens line (same_failed c.opens line found.0 (PvFailed pv) found.1) opened).key;
+        stable = refl;
+        fails = λ is. failed_some c.opens line found.0 (PvFailed pv) found.1;
+        waits = λ it is. is;
+      });
     }
 
 hit_most : (b : Bool) → hit b ≤ 1
 hit_most true = omega arith
 hit_most false = omega arith
 
+-- it waits, whether a flush serves it or none does yet
+waits_among : (d : DiskWaits) (it : Waiting) (served : Bool) → Contains (all_on (with_waiting d it (cond served Served Unserved))) it
+waits_among d it true = Contains-append_left (d.served ++ it ∷ []) d.next it (Contains-push d.served it)
+waits_among d it false = Contains-append_right d.served (d.next ++ it ∷ []) it (Contains-push d.next it)
+
 waits_on : (w : World) (line pv : ℕ) → IsOrderly w → (m : MayAwait w line pv) → IfSome (open_of w.core.opens line).failure TellsDisk
-    → WaitsOn line w (after w (Awaits line pv))
+    → WaitsOn line pv w (after w (Awaits line pv))
 waits_on w line pv o m well =
     let c : Core = w.core in
     let v : World = after w (Awaits line pv) in
@@ -138,11 +186,16 @@ waits_on w line pv o m well =
       | false ↦ waits_unserved x it
     ]) in
     let within : pv < length c.waits.disks = let disk = m.disk in omega (arith, disk, o.backed.places.many) in
+    let now : OpenLine = record (open_of c.opens line) { left = (open_of c.opens line).left + 1 } in
+    let now_is : open_of v.core.opens line ≡ now = with_is c.opens line m.opened now m.is_open in
+    let same_place : (q : ℕ) → dirty_at v.core.waits (open_of v.core.opens line).key q ≡ dirty_at c.waits (open_of c.opens line).key q =
+    (λ q. ap (λ (n : ℕ). get_or c.waits.dirty ((open_of v.core.opens line).key * n + q) 0)
+    (length-set c.waits.disks pv (with_waiting x it a)) ∙ ap (λ (y : OpenLine). dirty_at c.waits y.key q) now_is) in
+    let own : disk_waits v.core.waits pv ≡ with_waiting x it (cond (serves (flight_of c.waits.plan pv) place) Served Unserved) =
+    get_or-set_same c.waits.disks pv (with_waiting x it a) none_waits within ∙ ap (with_waiting x it) is in
     record {
       prepares = prepares_act w line (Awaits line pv) (eq-eqb line line refl) refl refl m;
-      well =
-          subst (λ (x : OpenLine). IfSome x.failure TellsDisk)
-          (sym (with_is c.opens line m.opened (record (open_of c.opens line) { left = (open_of c.opens line).left + 1 }) m.is_open)) well;
+      well = subst (λ (x : OpenLine). IfSome x.failure TellsDisk) (sym now_is) well;
       room = λ r b. record {
         counted = record {
           ops = omega (arith, b.counted.ops, k.one);
@@ -188,6 +241,18 @@ waits_on w line pv o m well =
       left =
           let e = (line_added c.opens line m.opened m.is_open).left line in
           omega (arith, e, hit_most (nat_eq line line));
+      here =
+          inr (inr (subst (λ (n : ℕ). Contains (all_on (disk_waits v.core.waits pv)) (record it { place = n })) (sym (same_place pv))
+          (subst (λ (d : DiskWaits). Contains (all_on d) it) (sym own)
+          (waits_among x it (serves (flight_of c.waits.plan pv) place)))));
+      others = λ q apart. awaits_still line q c v.core (record {
+        place = same_place q;
+        stable = refl;
+        fails = λ fails. ap (λ (y : OpenLine). is_some y.failure) now_is ∙ fails;
+        waits =
+            λ other. subst (λ (d : DiskWaits). Contains (all_on d) other)
+            (sym (get_or-set_other c.waits.disks pv q (with_waiting x it a) none_waits (λ e. eqb-false pv q apart (sym e))));
+      });
     }
 
 -- what `await_flush` asks
@@ -216,13 +281,16 @@ last_within w line pv o m at =
 -- what comes of it
 pub awaits_so : (w : World) (line pv place : ℕ) (d : Core) → MayAwaitFlush w line pv
     → place ≡ dirty_at w.core.waits (open_of w.core.opens line).key pv
-    → (d ≡ w.core) ⊎ ((d ≡ after_line_fails w.core line (PvFailed pv))
+    → ((place ≤ (marks_of w.core.waits.plan pv).stable) × (d ≡ w.core))
+    ⊎ ((IsLost w.core pv × (d ≡ after_line_fails w.core line (PvFailed pv)))
     ⊎ (((marks_of w.core.waits.plan pv).ended < place) × (d ≡ after_awaits w.core line pv place)))
-    → WaitsOn line w (world w.shelf d)
+    → WaitsOn line pv w (world w.shelf d)
 awaits_so w line pv place d m at (inl same) =
-    subst (λ (x : Core). WaitsOn line w (world w.shelf x)) (sym same) (waits_none line w m.well)
+    let lasts : place ≤ (marks_of w.core.waits.plan pv).stable = same.0 in
+    subst (λ (x : Core). WaitsOn line pv w (world w.shelf x)) (sym same.1) (waits_none line pv w m.well (omega (arith, lasts, at)))
 awaits_so w line pv place d m at (inr (inl fails)) =
-    subst (λ (x : Core). WaitsOn line w (world w.shelf x)) (sym fails) (waits_failed line pv w m.opened m.flushes m.well)
+    subst (λ (x : Core). WaitsOn line pv w (world w.shelf x)) (sym fails.1)
+    (waits_failed line pv w m.opened m.flushes m.well fails.0)
 awaits_so w line pv place d m at (inr (inr waits)) =
     let found : (x : OpenLine) × (open_at w.core.opens line ≡ Some x) = some_of (open_at w.core.opens line) m.opened in
     let is : open_of w.core.opens line ≡ found.0 = open_is w.core.opens line found.0 found.1 in
@@ -244,7 +312,7 @@ awaits_so w line pv place d m at (inr (inr waits)) =
           (more w.core.owed (record { ops = 1; sectors = 0; writes = 0; waits = 0; entries = 0 }))
           (record { ops = omega arith; sectors = omega arith; writes = omega arith; waits = omega arith; entries = omega arith }) m.room;
     } in
-    subst (λ (x : Core). WaitsOn line w (world w.shelf x)) (sym (waits.1 ∙ ap (λ (n : ℕ). after_awaits w.core line pv n) at))
+    subst (λ (x : Core). WaitsOn line pv w (world w.shelf x)) (sym (waits.1 ∙ ap (λ (n : ℕ). after_awaits w.core line pv n) at))
     (waits_on w line pv m.orderly may m.well)
 
 -- ---- all disks
@@ -258,6 +326,10 @@ pub record MayAwaitFlushes (w : World) (line many : ℕ) : Type 0 where
   pub room : IsBorne w (more w.core.owed (flushes_room many))
   pub few : left_of w.core.opens line + many < 2 ^ 64
 
+below_apart : (pv q : ℕ) → q < pv + 1 → (pv ≡ q → ⊥) → q < pv
+below_apart pv q below apart =
+    ⊎_elim (λ (lt : q < pv). lt) (λ (ge : pv ≤ q). absurd (apart (omega (arith, below, ge)))) (cases_lt q pv)
+
 -- what it leaves
 pub record HasWaited (line : ℕ) (w v : World) (waited many : ℕ) : Type 0 where
   pub prepares : Prepares line [] None w v
@@ -268,6 +340,7 @@ pub record HasWaited (line : ℕ) (w v : World) (waited many : ℕ) : Type 0 whe
   pub pieces : v.core.pieces ≡ w.core.pieces
   pub barrier : v.core.barrier ≡ None
   pub left : left_of v.core.opens line ≤ left_of w.core.opens line + waited
+  pub awaits : (pv : ℕ) → pv < waited → AwaitsOn v.core line pv
 
 -- the line has waited on so many of the disks, and waits on so many more
 pub record Waited (line : ℕ) (w v : World) (pv rest many : ℕ) : Type 0 where
@@ -279,7 +352,7 @@ pub record Waited (line : ℕ) (w v : World) (pv rest many : ℕ) : Type 0 where
 for_disks : (w : World) (line many : ℕ) → (many ≡ 0 → ⊥)
     → AreTickets w.core.volumes w.shelf.sizes (open_of w.core.opens line) (slice_get w.core.lines.begun line) many
     → AreForDisks w.core.volumes w.shelf.sizes (open_of w.core.opens line) (slice_get w.core.lines.begun line) many
-for_disks w line many some (inl none) = absurd (some none)
+for_disks w line many some (inl none) = absurd (some none.none)
 for_disks w line many some (inr are) = are
 
 pub waited_none : (line many : ℕ) (w : World) → MayAwaitFlushes w line many → Waited line w w 0 many many
@@ -296,6 +369,7 @@ waited_none line many w m = record {
     pieces = refl;
     barrier = m.other;
     left = omega arith;
+    awaits = λ pv below. absurd (omega (arith, below));
   };
 }
 
@@ -336,7 +410,7 @@ waited_next line w v pv rest more_rest many m next k =
 
 -- and was
 pub waited_more : (line : ℕ) (w v u : World) (pv rest more_rest many : ℕ) → more_rest ≡ rest + 1 → Waited line w v pv more_rest many
-    → WaitsOn line v u
+    → WaitsOn line pv v u
     → Waited line w u (pv + 1) rest many
 waited_more line w v u pv rest more_rest many next k s = record {
   count = omega (arith, next, k.count);
@@ -360,5 +434,12 @@ waited_more line w v u pv rest more_rest many next k s = record {
     pieces = s.pieces ∙ k.has.pieces;
     barrier = s.barrier ∙ k.has.barrier;
     left = omega (arith, s.left, k.has.left);
+    awaits =
+        λ q below. elim (nat_eq pv q) as (λ b. nat_eq pv q ≡ b → AwaitsOn u.core line q) [
+          | true ↦ λ t. subst (λ (n : ℕ). AwaitsOn u.core line n) (eqb-true pv q t) s.here
+          | false ↦ λ t.
+              let apart : pv ≡ q → ⊥ = eqb-false pv q t in
+              s.others q t (k.has.awaits q (below_apart pv q below apart))
+        ] refl;
   };
 }

@@ -1,8 +1,9 @@
 -- The line of a piece under way is open, has something left, may have entries, and isn't the one that waits for all others.
 use Rattle.std.proofs.Common.{◌≡◌, ◌≢◌, ◌<◌, ℕ, zero, suc, ◌-◌, Bool, true, false, List, [], ◌∷◌, map, get_or, Option}
 use Rattle.std.proofs.Common.{None, Some}
-use Rattle.std.proofs.Common.{is_some, slice_get, IfSome, sym, ap, subst, arith, true≢false}
+use Rattle.std.proofs.Common.{is_some, unwrap_or, slice_get, IfSome, refl, sym, ap, subst, arith, true≢false}
 use Rattle.std.specs.Option.{option_map_or}
+use Rattle.std.proofs.lemmas.Bool.{cond_both}
 use Rattle.std.proofs.lemmas.List.{get_or-set_same}
 use Rattle.line_answers.specs.declared.answer.Answer.{Answer}
 use Rattle.line_table.specs.Steps.{is_open, may_enter}
@@ -11,7 +12,8 @@ use Rattle.piece_table.specs.Pieces.{live_at}
 use Rattle.world_acts.specs.declared.state.Core.{Core}
 use Rattle.world_acts.specs.declared.open_line.OpenLine.{OpenLine}
 use Rattle.world_acts.specs.Acts.{World}
-use Rattle.world_acts.specs.OpenLines.{IsBarrier, Opens, after_finished, left_of, open_at, open_of, with_open}
+use Rattle.world_acts.specs.OpenLines.{IsBarrier, Opens, after_failure, after_finished, is_pv_failed, left_of, no_open, open_at}
+use Rattle.world_acts.specs.OpenLines.{open_of, with_open}
 use Rattle.world_acts.specs.Orderly.{IsLive, IsOfLine, IsOrderly, IsTidy}
 use Rattle.world_acts.proofs.Leaving.{something_left}
 use Rattle.world_acts.proofs.LinesKept.{open_within}
@@ -73,3 +75,16 @@ pub finished_open : (opens : Opens) (line : ℕ) (o : OpenLine) → open_at open
     → is_some (open_at (after_finished opens line) line) ≡ true
 finished_open opens line o at =
     ap is_some (set_open opens line o (record (open_of opens line) { left = (open_of opens line).left - 1 }) at)
+
+-- one that was let fail has a failure, this or the one before
+pv_failed : (failure : Option Answer) → is_pv_failed failure ≡ true → is_some failure ≡ true
+pv_failed None is = absurd (true≢false (sym is))
+pv_failed (Some why) is = refl
+
+pub failed_some : (opens : Opens) (line : ℕ) (o : OpenLine) (why : Answer) → open_at opens line ≡ Some o
+    → is_some (open_of (after_failure opens line why) line).failure ≡ true
+failed_some opens line o why at =
+    let p : OpenLine = record (open_of opens line) { failure = Some why } in
+    cond_both (is_pv_failed (open_of opens line).failure) opens (with_open opens line p)
+    (λ (x : Opens). is_some (open_of x line).failure ≡ true) (pv_failed (open_of opens line).failure)
+    (λ t. ap (λ (x : Option OpenLine). is_some (unwrap_or x no_open).failure) (set_open opens line o p at))

@@ -7,7 +7,7 @@ use Rattle.std.specs.Option.{option_or}
 use Rattle.std.specs.Prelude.{remove}
 use Rattle.std.specs.List.{list_any, position_or_len}
 use Rattle.std.proofs.lemmas.Bool.{eq-eqb}
-use Rattle.std.proofs.lemmas.List.{append-nil}
+use Rattle.std.proofs.lemmas.List.{append-nil, length_push}
 use Rattle.std.proofs.lemmas.List.Elements.{All-head, All-tail}
 use Rattle.std.proofs.lemmas.List.Folds.{list_any-append, list_any_none}
 use Rattle.sector_base.specs.declared.places.Piece.{Piece}
@@ -385,6 +385,7 @@ pub record MayEnterPieces (w : World) (line : ℕ) (pieces : List NewPiece) : Ty
 -- what `enter_pieces` leaves
 pub record HasEntered (line : ℕ) (pieces : List Piece) (first : Option By) (w v : World) : Type 0 where
   pub prepares : Prepares line pieces first w v
+  pub none : length pieces ≡ 0 → v.core ≡ w.core
   pub calm : IsCalm no_one (just line) w.core → IsCalm no_one (just line) v.core
   pub ready : NoneReady w.core → NoneReady v.core
   pub opens : SameLines w.core.opens v.core.opens
@@ -410,6 +411,7 @@ none_entered line w pieces m = record {
   may = m;
   has = record {
     prepares = prepares_none line w;
+    none = λ is. refl;
     calm = λ k. k;
     ready = λ k. k;
     opens = same_lines w.core.opens;
@@ -470,6 +472,7 @@ one_entered line first by w v u new all rest k s = record {
   may = others_enter line by v u new rest k.may s;
   has = record {
     prepares = prepares_both line k.done (new.piece ∷ []) (k.done ++ new.piece ∷ []) first by w v u refl k.has.prepares s.prepares;
+    none = λ is. absurd (omega (arith, is, length_push k.done new.piece));
     calm = λ z. s.calm (k.has.calm z);
     ready = λ z. s.ready (k.has.ready z);
     opens = same_both w.core.opens v.core.opens u.core.opens k.has.opens s.opens;

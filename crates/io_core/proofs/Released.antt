@@ -1,7 +1,8 @@
 -- What a disk's last flush served is released, one by one.
 use Rattle.std.proofs.Common.{◌≡◌, ◌≢◌, ◌≤◌, ◌<◌, ℕ, ◌+◌, Bool, true, false, cond, nat_eq, List, [], ◌∷◌, length, get_or, set, drop}
-use Rattle.std.proofs.Common.{◌-◌, Option, None, Some, count_by, inr, is_some, unwrap_or, option_map, slice_get, refl, sym, ap, subst, ◌∙◌}
-use Rattle.std.proofs.Common.{arith}
+use Rattle.std.proofs.Common.{◌-◌, Option, None, Some, IfSome, count_by, inl, inr, is_some, unwrap_or, option_map, slice_get, refl, sym, ap}
+use Rattle.std.proofs.Common.{subst, ◌∙◌, arith, true≢false}
+use Rattle.std.specs.FinSet as sets
 use Rattle.std.specs.Option.{option_map_or}
 use Rattle.std.proofs.lemmas.Bool.{cond_both, eq-eqb, eqb-false, eqb-true}
 use Rattle.std.proofs.lemmas.List.{get_or-set_other, get_or-set_same, length-drop, length-set, set-get_or, set-set}
@@ -9,7 +10,7 @@ use Rattle.std.proofs.lemmas.List.Sums.{get_or-le-sum_by}
 use Rattle.std.proofs.lemmas.Option.{none-some, same_Some}
 use Rattle.line_answers.specs.declared.answer.Answer.{Answer}
 use Rattle.line_answers.specs.declared.answer.Answer.TheVariants.{PvFailed}
-use Rattle.flush_plan.specs.Plans.{flight_of}
+use Rattle.flush_plan.specs.Plans.{flight_of, marks_of}
 use Rattle.flush_waits.specs.declared.ticket.Waiter.{Waiter}
 use Rattle.flush_waits.specs.declared.ticket.Waiter.TheVariants as waiter
 use Rattle.flush_waits.specs.declared.ticket.Waiting.{Waiting}
@@ -21,7 +22,8 @@ use Rattle.piece_table.specs.Pieces.{live_at}
 use Rattle.piece_table.specs.Steps.{live_of}
 use Rattle.world_acts.specs.declared.state.Core.{Core}
 use Rattle.world_acts.specs.declared.open_line.OpenLine.{OpenLine}
-use Rattle.world_acts.specs.Acts.{LineFails, Marks, Reaches, Releases, Runs, World, after, core_released, follows, line_of_waiter}
+use Rattle.world_acts.specs.Acts.{IsSettledWait, LineFails, Marks, Reaches, Releases, Runs, World, after, core_released, follows}
+use Rattle.world_acts.specs.Acts.{line_of_waiter}
 use Rattle.world_acts.specs.Acts.{line_released}
 use Rattle.world_acts.specs.Acts.{flushed_acts, released_at, world}
 use Rattle.world_acts.specs.Counts.{is_line, is_piece, waiting}
@@ -36,8 +38,8 @@ use Rattle.world_acts.proofs.Tables.{some_of}
 use Rattle.world_acts.proofs.WaitsKept.{count_first, waiting_on}
 use Rattle.io_core.specs.Rest.{AreReleasedBut, IsCalm, just, no_one}
 use Rattle.io_core.proofs.CalmActs.{calm_weaker, line_fails_calm, released_calm, same_calm}
-use Rattle.io_core.proofs.LiveLines.{finished_open, left_other, set_open}
-use Rattle.io_core.proofs.Settled.{OfLine, of_line_at}
+use Rattle.io_core.proofs.LiveLines.{failed_some, finished_open, left_other, set_open}
+use Rattle.io_core.proofs.Settled.{OfLine, insert_has, of_line_at}
 
 -- ---- who is the first
 
@@ -90,50 +92,45 @@ without_first old pv = set old.disks pv (record (disk_waits old pv) { served = d
 
 -- the first waits no more: its line is open, but may have nothing left
 pub record ReleasesOne (w : World) (pv line : ℕ) (v : World) : Type 0 where
-  pub reaches : Reaches follows w v
   pub calm : IsCalm no_one (just line) v.core
   pub opened : is_some (open_at v.core.opens line) ≡ true
   pub other : v.core.barrier ≢ Some line
   pub flights : (q : ℕ) → flight_of v.core.waits.plan q ≡ flight_of w.core.waits.plan q
+  pub marks : v.core.waits.plan.marks ≡ w.core.waits.plan.marks
   pub disks : v.core.waits.disks ≡ without_first w.core.waits pv
+  pub failed : v.core.failed ≡ w.core.failed
 
-pub releases_one : (w : World) (pv line : ℕ) → IsOrderly w → pv < length w.core.waits.disks → flight_of w.core.waits.plan pv ≡ None
+pub releases_one : (w : World) (pv line : ℕ) → IsOrderly w → pv < length w.core.waits.disks
     → Some line ≡ line_released w.core pv
     → IsCalm no_one no_one w.core
     → ReleasesOne w pv line (world w.shelf (core_released w.core pv (released_at w.core pv)))
-releases_one w pv line o within ended is calm = by (released_at w.core pv) refl is
+releases_one w pv line o within is calm = by (released_at w.core pv) refl is
   where
-    reaches : (it : Waiting) → released_at w.core pv ≡ Some it → Reaches follows w (world w.shelf (after_released w.core it.waiter pv))
-    reaches it at =
-        subst (λ (x : Option Waiting). Reaches follows w (world w.shelf (core_released w.core pv x))) at
-        (reaches_act follows w (Releases pv) refl (ended, ap is_some at))
-
     there : (it : Waiting) → released_at w.core pv ≡ Some it → (number : ℕ) → it.waiter ≡ waiter.Piece number
         → is_some (live_at w.core.pieces.lives number) ≡ true
     there it at number who = ap is_some (released_piece w.core pv number it o.tidy within at who).1.at
 
     made : (it : Waiting) (who : Waiter) → it.waiter ≡ who → released_at w.core pv ≡ Some it → line ≡ line_of_waiter w.core who
-        → Reaches follows w (world w.shelf (after_released w.core who pv))
         → IsCalm no_one (just line) (after_released w.core who pv)
         → ReleasesOne w pv line (world w.shelf (after_released w.core who pv))
-    made it (waiter.Line n) who at same goes quiet =
+    made it (waiter.Line n) who at same quiet =
         let some : 0 < left_of w.core.opens n = released_line w.core pv n it o.tidy within at who in
         let p = some_of (open_at w.core.opens n) (left_open (open_at w.core.opens n) some) in
         record {
-          reaches = goes;
           calm = quiet;
           opened =
               subst (λ (k : ℕ). is_some (open_at (after_finished w.core.opens n) k) ≡ true) (sym same)
               (finished_open w.core.opens n p.0 p.1);
           other = subst (λ (k : ℕ). w.core.barrier ≢ Some k) (sym same) (left_other w n o some);
           flights = λ q. refl;
+          marks = refl;
           disks = refl;
+          failed = refl;
         }
-    made it (waiter.Piece number) who at same goes quiet =
+    made it (waiter.Piece number) who at same quiet =
         let p : OfLine w number = of_line_at w number o (there it at number who) in
         let its : line ≡ p.live.line = same ∙ ap (λ (l : LivePiece). l.line) p.is in
         record {
-          reaches = goes;
           calm = quiet;
           opened =
               subst (λ (k : ℕ). is_some (open_at (after_finished w.core.opens (live_of w.core.pieces number).line) k) ≡ true) (sym same)
@@ -141,7 +138,9 @@ releases_one w pv line o within ended is calm = by (released_at w.core pv) refl 
               (finished_open w.core.opens p.live.line p.of_line.opened p.of_line.is_open));
           other = subst (λ (k : ℕ). w.core.barrier ≢ Some k) (sym its) (left_other w p.live.line o p.left);
           flights = λ q. refl;
+          marks = refl;
           disks = refl;
+          failed = refl;
         }
 
     by : (x : Option Waiting) → released_at w.core pv ≡ x
@@ -150,7 +149,7 @@ releases_one w pv line o within ended is calm = by (released_at w.core pv) refl 
     by None at is = absurd (none-some line (sym is))
     by (Some it) at is =
         let same : line ≡ line_of_waiter w.core it.waiter = same_Some line (line_of_waiter w.core it.waiter) is in
-        made it it.waiter refl at same (reaches it at)
+        made it it.waiter refl at same
         (released_calm w.core it.waiter pv (just line) o.tidy.pieces.single (there it at)
         (eq-eqb (line_of_waiter w.core it.waiter) line (sym same))
         (calm_weaker no_one no_one no_one (just line) w.core (λ q not. not) (λ q not. refl) calm))
@@ -211,25 +210,60 @@ released_open w pv line o within served = by (released_at w.core pv) refl served
   by None at is = absurd (none-some line (sym is))
   by (Some it) at is = of it it.waiter refl at (same_Some line (line_of_waiter w.core it.waiter) is)
 
+-- something is released
+some_served : (c : Core) (line : ℕ) (x : Option Waiting) → Some line ≡ option_map (λ (it : Waiting). line_of_waiter c it.waiter) x
+    → is_some x ≡ true
+some_served c line None is = absurd (none-some line (sym is))
+some_served c line (Some it) is = refl
+
+-- up to this place at the most
+abbrev pub IsUpTo : ℕ → Waiting → Type 0
+IsUpTo to it = it.place ≤ to
+
+-- it lasts, where the flush went well
+lasts_first : (w : World) (pv line : ℕ) (c : Core) → flight_of w.core.waits.plan pv ≡ None → Some line ≡ line_released w.core pv
+    → c ≡ core_released w.core pv (released_at w.core pv)
+    → IfSome (released_at w.core pv) (IsUpTo (marks_of w.core.waits.plan pv).ended)
+    → (marks_of w.core.waits.plan pv).stable ≡ (marks_of w.core.waits.plan pv).ended
+    → Reaches follows w (world w.shelf c)
+lasts_first w pv line c ended served is behind lasts =
+    subst (λ (d : Core). Reaches follows w (world w.shelf d)) (sym is)
+    (reaches_act follows w (Releases pv) refl
+    (ended, some_served w.core line (released_at w.core pv) served, settled (released_at w.core pv) behind))
+  where
+    settled : (x : Option Waiting) → IfSome x (IsUpTo (marks_of w.core.waits.plan pv).ended) → IfSome x (IsSettledWait w.core pv)
+    settled None behind = tt
+    settled (Some it) behind = inl (omega (arith, behind, lasts))
+
 -- that it fails, and that it waits no more, may come in any order
 fails_first : (w : World) (pv line : ℕ) (c : Core) → IsOrderly w → pv < length w.core.waits.disks → flight_of w.core.waits.plan pv ≡ None
     → Some line ≡ line_released w.core pv
+    → sets.contains w.core.failed pv ≡ true
     → c ≡ core_released w.core pv (released_at w.core pv)
     → Reaches follows w (world w.shelf (after_line_fails c line (PvFailed pv)))
-fails_first w pv line c o within ended served is =
+fails_first w pv line c o within ended served lost is =
     let why : Answer = PvFailed pv in
     let v : World = after w (LineFails line why) in
     let own : (x : OpenLine) × (open_at w.core.opens line ≡ Some x) = released_open w pv line o within served in
-    let there : is_some (released_at w.core pv) ≡ true = some_served (released_at w.core pv) served in
+    let there : is_some (released_at w.core pv) ≡ true = some_served w.core line (released_at w.core pv) served in
     subst (λ (d : Core). Reaches follows w (world w.shelf d))
     (swapped own.0 own.1 (released_at w.core pv) served ∙ ap (λ (d : Core). after_line_fails d line why) (sym is))
     (reaches_both follows w v (after v (Releases pv))
-    (reaches_act follows w (LineFails line why) refl (ap is_some own.1, (pv, refl), inr (pv, ended, sym served)))
-    (reaches_act follows v (Releases pv) refl (ended, there)))
+    (reaches_act follows w (LineFails line why) refl (ap is_some own.1, (pv, refl, inl lost), inr (pv, ended, sym served)))
+    (reaches_act follows v (Releases pv) refl (ended, there, settled own.0 own.1 (released_at w.core pv) served)))
   where
-    some_served : (x : Option Waiting) → Some line ≡ option_map (λ (it : Waiting). line_of_waiter w.core it.waiter) x → is_some x ≡ true
-    some_served None is = absurd (none-some line (sym is))
-    some_served (Some it) is = refl
+    same_line : (who : Waiter) → line_of_waiter (after_line_fails w.core line (PvFailed pv)) who ≡ line_of_waiter w.core who
+    same_line (waiter.Line n) = refl
+    same_line (waiter.Piece number) = refl
+
+    settled : (o : OpenLine) → open_at w.core.opens line ≡ Some o → (x : Option Waiting)
+        → Some line ≡ option_map (λ (it : Waiting). line_of_waiter w.core it.waiter) x
+        → IfSome x (IsSettledWait (after_line_fails w.core line (PvFailed pv)) pv)
+    settled o at None is = tt
+    settled o at (Some it) is =
+        inr (subst (λ (n : ℕ). is_some (open_of (after_failure w.core.opens line (PvFailed pv)) n).failure ≡ true)
+        (same_Some line (line_of_waiter w.core it.waiter) is ∙ sym (same_line it.waiter))
+        (failed_some w.core.opens line o (PvFailed pv) at))
 
     of : (x : OpenLine) → open_at w.core.opens line ≡ Some x → (who : Waiter) → line ≡ line_of_waiter w.core who
         → after_released (after_line_fails w.core line (PvFailed pv)) who pv
@@ -252,27 +286,47 @@ fails_first w pv line c o within ended served is =
     swapped x at None is = absurd (none-some line (sym is))
     swapped x at (Some it) is = of x at it.waiter (same_Some line (line_of_waiter w.core it.waiter) is)
 
--- its line fails too, where the flush did
-pub warned : (w : World) (pv line : ℕ) (c : Core) (well : Bool) → IsOrderly w → pv < length w.core.waits.disks
-    → flight_of w.core.waits.plan pv ≡ None
+-- what is known as the flush that has ended is released: where it went well all that ended lasts, else the disk has failed
+pub record MayRelease (w : World) (pv : ℕ) (well : Bool) : Type 0 where
+  pub orderly : IsOrderly w
+  pub calm : IsCalm no_one no_one w.core
+  pub disk : pv < length w.core.waits.disks
+  pub ended : flight_of w.core.waits.plan pv ≡ None
+  pub lasts : well ≡ true → (marks_of w.core.waits.plan pv).stable ≡ (marks_of w.core.waits.plan pv).ended
+  pub lost : well ≡ false → sets.contains w.core.failed pv ≡ true
+
+-- the first waits no more, and its line fails too, where the flush did
+pub record WarnsOne (w : World) (pv line : ℕ) (v : World) : Type 0 where
+  pub reaches : Reaches follows w v
+  pub one : ReleasesOne w pv line v
+
+pub warned : (w : World) (pv line : ℕ) (c : Core) (well : Bool) → MayRelease w pv well
     → Some line ≡ line_released w.core pv
+    → IfSome (released_at w.core pv) (IsUpTo (marks_of w.core.waits.plan pv).ended)
     → c ≡ core_released w.core pv (released_at w.core pv)
-    → ReleasesOne w pv line (world w.shelf c)
-    → ReleasesOne w pv line (world w.shelf (cond well c (after_line_fails c line (PvFailed pv))))
-warned w pv line c well o within ended served is r =
+    → WarnsOne w pv line (world w.shelf (cond well c (after_line_fails c line (PvFailed pv))))
+warned w pv line c well m served behind is =
     let why : Answer = PvFailed pv in
+    let r : ReleasesOne w pv line (world w.shelf c) =
+    subst (λ (x : Core). ReleasesOne w pv line (world w.shelf x)) (sym is)
+    (releases_one w pv line m.orderly m.disk served m.calm) in
     let v : World = world w.shelf c in
     let d : Core = after_line_fails c line why in
     let p = some_of (open_at c.opens line) r.opened in
     let q = (line_failed c.opens line p.0 why p.1).lines line p.0 p.1 in
-    cond_both well c d (λ (x : Core). ReleasesOne w pv line (world w.shelf x)) (λ t. r)
+    cond_both well c d (λ (x : Core). WarnsOne w pv line (world w.shelf x))
+    (λ t. record { reaches = lasts_first w pv line c m.ended served is behind (m.lasts t); one = r })
     (λ t. record {
-      reaches = fails_first w pv line c o within ended served is;
-      calm = line_fails_calm c line why no_one (just line) (eq-eqb line line refl) r.calm;
-      opened = ap is_some q.1;
-      other = r.other;
-      flights = r.flights;
-      disks = r.disks;
+      reaches = fails_first w pv line c m.orderly m.disk m.ended served (m.lost t) is;
+      one = record {
+        calm = line_fails_calm c line why no_one (just line) (eq-eqb line line refl) r.calm;
+        opened = ap is_some q.1;
+        other = r.other;
+        flights = r.flights;
+        marks = r.marks;
+        disks = r.disks;
+        failed = r.failed;
+      };
     })
 
 -- what the disk's failure leaves
@@ -287,15 +341,21 @@ pub marked_orderly : (w : World) (pv : ℕ) (well : Bool) → pv < length w.shel
 marked_orderly w pv true disk o = o
 marked_orderly w pv false disk o = orderly_after w (Marks pv) o disk
 
--- what waits on the disks, and what is calm, is the same
-pub record IsMarked (c d : Core) : Type 0 where
+-- what waits on the disks, and what is calm, is the same; where the flush failed the disk has
+pub record IsMarked (pv : ℕ) (well : Bool) (c d : Core) : Type 0 where
   pub waits : d.waits ≡ c.waits
   pub calm : IsCalm no_one no_one c → IsCalm no_one no_one d
+  pub lost : well ≡ false → sets.contains d.failed pv ≡ true
 
-pub is_marked : (c : Core) (pv : ℕ) (well : Bool) → IsMarked c (cond well c (after_marks c pv))
+pub is_marked : (c : Core) (pv : ℕ) (well : Bool) → IsMarked pv well c (cond well c (after_marks c pv))
 is_marked c pv well =
-    cond_both well c (after_marks c pv) (λ (x : Core). IsMarked c x) (λ t. record { waits = refl; calm = λ is. is })
-    (λ t. record { waits = refl; calm = λ is. same_calm c (after_marks c pv) no_one no_one refl refl refl refl is })
+    cond_both well c (after_marks c pv) (λ (x : Core). IsMarked pv well c x)
+    (λ t. record { waits = refl; calm = λ is. is; lost = λ f. absurd (true≢false (sym t ∙ f)) })
+    (λ t. record {
+      waits = refl;
+      calm = λ is. same_calm c (after_marks c pv) no_one no_one refl refl refl refl is;
+      lost = λ f. insert_has c.failed pv;
+    })
 
 -- ---- all are released
 

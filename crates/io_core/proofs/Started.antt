@@ -4,6 +4,7 @@ use Rattle.std.proofs.Common.{◌∙◌}
 use Rattle.std.proofs.Common.{arith, subst}
 use Rattle.std.specs.Option.{option_map_or}
 use Rattle.line_answers.specs.declared.answer.Answer.{Answer}
+use Rattle.line_answers.specs.declared.answer.Answer.TheVariants.{PvFailed}
 use Rattle.sector_base.specs.declared.places.At.{At}
 use Rattle.sector_base.specs.declared.places.Piece.{Piece}
 use Rattle.disk_model.specs.declared.ops.Op.{Op}
@@ -79,12 +80,13 @@ started_piece w number l o at may =
       orderly = after_start w number o may;
     }
 
-pub starts_failed : (w : World) (number : ℕ) (why : Answer) (l : LivePiece) → IsOrderly w → live_at w.core.pieces.lives number ≡ Some l
+pub starts_failed : (w : World) (number disk : ℕ) (l : LivePiece) → IsOrderly w → live_at w.core.pieces.lives number ≡ Some l
     → may_start w.core.pieces number ≡ true
     → AreClaimed (after w (Starts number)).core.pieces.claims (after w (Starts number)).core.pieces.lives
-    → IsFailure w.core l.piece why
-    → StartsIn w number (after (after w (Starts number)) (Fails number why))
-starts_failed w number why l o at may claimed fails =
+    → IsFailure w.core l.piece (PvFailed disk)
+    → StartsIn w number (after (after w (Starts number)) (Fails number (PvFailed disk)))
+starts_failed w number disk l o at may claimed fails =
+    let why : Answer = PvFailed disk in
     let m : MayStartNow w.core.pieces number = may_start_now w.core.pieces number may in
     let u : World = after w (Starts number) in
     let v : World = after u (Fails number why) in
@@ -187,21 +189,21 @@ may_fly w number tag l o at may fresh =
 
 -- ---- the two exits
 
-pub fails_so : (s : State) (c d : Core) (number : ℕ) (l : LivePiece) (why : Answer) (p : Pieces) (r room : Room) → IsOrderly (world s c)
+pub fails_so : (s : State) (c d : Core) (number : ℕ) (l : LivePiece) (disk : ℕ) (p : Pieces) (r room : Room) → IsOrderly (world s c)
     → live_at c.pieces.lives number ≡ Some l
     → may_start c.pieces number ≡ true
     → p ≡ with_stage c.pieces number (Started 0 None)
     → room ≡ start_room l.piece
     → r ≡ fewer c.owed room
     → AreClaimed p.claims p.lives
-    → IsFailure c l.piece why
-    → d ≡ after_fails (record c { pieces = p; owed = r }) number why s.steps
+    → IsFailure c l.piece (PvFailed disk)
+    → d ≡ after_fails (record c { pieces = p; owed = r }) number (PvFailed disk) s.steps
     → StartsIn (world s c) number (world s d)
-fails_so s c d number l why p r room o at may pieces used owes claimed fails after =
+fails_so s c d number l disk p r room o at may pieces used owes claimed fails after =
     let is : record c { pieces = p; owed = r } ≡ after_starts c number = started_core c number l p r room at pieces used owes in
     subst (λ (x : Core). StartsIn (world s c) number (world s x))
-    (sym (after ∙ ap (λ (x : Core). after_fails x number why s.steps) is))
-    (starts_failed (world s c) number why l o at may (subst (λ (x : Pieces). AreClaimed x.claims x.lives) pieces claimed) fails)
+    (sym (after ∙ ap (λ (x : Core). after_fails x number (PvFailed disk) s.steps) is))
+    (starts_failed (world s c) number disk l o at may (subst (λ (x : Pieces). AreClaimed x.claims x.lives) pieces claimed) fails)
 
 pub asks_so : (s now : State) (c : Core) (number tag : ℕ) (l : LivePiece) (at : At) (sectors : List (List ℕ)) (op : Op) (p q : Pieces)
     (r room : Room)

@@ -1,8 +1,11 @@
 -- The events of a world.
-use Rattle.std.specs.Prelude.{◌≡◌, ◌<◌, ℕ, Bool, if◌then◌else◌, is_some, List, filter, length, Option, None, Some, option_map}
+use Rattle.std.specs.Prelude.{◌≡◌, ◌<◌, ℕ, Bool, false, true, if◌then◌else◌, is_some, List, filter, length, slice_get, Option, None, Some}
+use Rattle.std.specs.Prelude.{option_map}
+use Rattle.std.specs.Option.{option_map_or}
 use Rattle.sector_base.specs.declared.places.Piece.{Piece}
 use Rattle.command_table.specs.declared.command.Command.TheVariants.{Wait}
 use Rattle.lvm_script.specs.declared.line.Line.{Line}
+use Rattle.data_lines.specs.DataLines.{is_flush}
 use Rattle.disk_model.specs.Calls.{MakesReady}
 use Rattle.disk_model.specs.State.{IsLawful, State}
 use Rattle.disk_model.specs.declared.ops.Done.{Done}
@@ -18,15 +21,18 @@ use Rattle.line_plans.specs.Plans.{opened_for, pieces_for}
 use Rattle.world_acts.specs.Acts.{Act, Allowed, Begins, Ends, EndsFlush, Holds, IsGrown, MayBegin, Prepares, Reaches, SettlesAndGoes, World}
 use Rattle.world_acts.specs.Acts.{after}
 use Rattle.world_acts.specs.Acts.{flushing, follows, settling}
+use Rattle.io_core.specs.Beginning.{AwaitsAll}
 use Rattle.io_core.specs.Rest.{IsAtRest}
 use Rattle.io_core.specs.declared.beginning.Begun.{Begun}
 use Rattle.io_core.specs.declared.beginning.Begun.TheVariants.{Answered, Deferred, Started}
 
 -- a line that was begun is prepared, with these pieces, of which the first that waits conflicts with this, before anything is answered,
--- and then what follows is done
+-- where one that flushes its volume waits on each disk, and then what follows is done
 pub record IsPreparedAndGoes (line : ℕ) (pieces : List Piece) (first : Option By) (w v : World) : Type 0 where
   pub mid : World
   pub prepares : Prepares line pieces first w mid
+  pub awaits :
+      option_map_or (λ (l : Line). is_flush l.command) (slice_get mid.core.lines.begun line) false ≡ true → AwaitsAll mid.core line
   pub goes : Reaches follows mid v
 
 -- how a line was begun: deferred, where a piece of it waits; else it is open, or answered

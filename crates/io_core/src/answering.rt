@@ -33,6 +33,7 @@ pub(crate) fn close_line<S: Shelf>(shelf: &S, core: &mut Core, line: u32)
     ensures calm { IsCalm no_one (just line) core.old → IsCalm no_one no_one core.new }
     ensures pieces { core.new.pieces ≡ core.old.pieces }
     ensures waits { core.new.waits ≡ core.old.waits }
+    ensures failed { core.new.failed ≡ core.old.failed }
 {
     if core.opens.get(line).left > 0 {
         return;
@@ -48,6 +49,7 @@ fn pass_barrier<S: Shelf>(shelf: &S, core: &mut Core)
     ensures calm { IsQuiet no_one no_one core.old → IsCalm no_one no_one core.new }
     ensures pieces { core.new.pieces ≡ core.old.pieces }
     ensures waits { core.new.waits ≡ core.old.waits }
+    ensures failed { core.new.failed ≡ core.old.failed }
 {
     let Some(line) = core.barrier else {
         return;

@@ -1,5 +1,7 @@
 //! A line is begun, as it was prepared.
-ghost use Rattle.std.specs.Prelude.{◌≡◌, ◌⊎◌, ◌≤◌, ◌<◌, ◌+◌, ◌^◌, [], ◌∷◌, All, IfSome, IsTrue, None, false, is_some, length, map, slice_get, true};
+ghost use Rattle.std.specs.Prelude.{◌≡◌, ◌⊎◌, ◌≤◌, ◌<◌, ◌==◌, ◌+◌, ◌^◌, ℕ, [], ◌∷◌, All, IfSome, IsTrue, None, false, is_some, length, map};
+ghost use Rattle.std.specs.Prelude.{slice_get, true};
+ghost use Rattle.std.specs.FinSet as set;
 ghost use Rattle.std.specs.Option.{option_map_or};
 ghost use Rattle.command_table.specs.declared.command.Command.TheVariants.{Wait};
 ghost use Rattle.lvm_script.specs.declared.line.Line.{Line as LineRecord};
@@ -11,13 +13,13 @@ ghost use Rattle.flush_plan.specs.Plans.{marks_of};
 ghost use Rattle.line_answers.specs.declared.answer.Answer.TheVariants.{PvFailed};
 ghost use Rattle.piece_table.specs.Pieces.{claim_of, may_start};
 ghost use Rattle.world_acts.specs.declared.room.Room.{Room as RoomRecord};
-ghost use Rattle.world_acts.specs.Acts.{IsBorne, MayBegin, Prepares, TellsDisk, world};
+ghost use Rattle.world_acts.specs.Acts.{IsBorne, IsLost, MayBegin, Prepares, TellsDisk, world};
 ghost use Rattle.world_acts.specs.OpenLines.{is_whole, left_of, open_at, open_of};
 ghost use Rattle.world_acts.specs.Orderly.{AreReleased, IsOrderly};
 ghost use Rattle.world_acts.specs.Rooms.{IsCounted, more, piece_room};
 ghost use Rattle.world_acts.specs.Steps.{after_awaits, after_begins, after_enters, after_line_fails, await_room};
 ghost use Rattle.world_acts.specs.Volumes.{lv_of};
-ghost use Rattle.io_core.specs.Beginning.{MayCarryOn};
+ghost use Rattle.io_core.specs.Beginning.{AwaitsOn, MayCarryOn};
 ghost use Rattle.io_core.specs.Events.{BeginsIn, IsPreparedAndGoes, begun_as};
 ghost use Rattle.line_plans.specs.Plans.{AreTickets, MayBeBegun, MayBeOf, flushes_room, pieces_room};
 ghost use Rattle.io_core.specs.Rest.{IsCalm, IsSettled, NoneReady, SameLines, just, no_one};
@@ -135,6 +137,7 @@ fn await_flushes<S: Shelf>(shelf: &S, core: &mut Core, line: u32, tickets: Vec<T
     ensures pieces { core.new.pieces ≡ core.old.pieces }
     ensures barrier { core.new.barrier ≡ None }
     ensures left { left_of core.new.opens line ≤ left_of core.old.opens line + length tickets.items }
+    ensures awaits { (pv : ℕ) → pv < length tickets.items → AwaitsOn core.new line pv }
 {
     let mut rest = tickets;
     let mut pv = 0;
@@ -166,6 +169,8 @@ fn await_flush<S: Shelf>(shelf: &S, core: &mut Core, line: u32, pv: u32, ticket:
     ensures pieces { core.new.pieces ≡ core.old.pieces }
     ensures barrier { core.new.barrier ≡ None }
     ensures left { left_of core.new.opens line ≤ left_of core.old.opens line + 1 }
+    ensures here { AwaitsOn core.new line pv }
+    ensures others { (other : ℕ) → (pv == other) ≡ false → AwaitsOn core.old line other → AwaitsOn core.new line other }
 {
     let last = core.waits.dirty(core.opens.get(line).key, pv);
     await_write(core, line, pv, last, ticket);
@@ -179,7 +184,8 @@ fn await_write(core: &mut Core, line: u32, pv: u32, place: u64, ticket: Ticket)
     requires room { 0 < core.old.waits.room }
     requires owed { core.old.owed.ops + 1 < 2 ^ 64 }
     requires few { left_of core.old.opens line + 1 < 2 ^ 64 }
-    ensures { (core.new ≡ core.old) ⊎ ((core.new ≡ after_line_fails core.old line (PvFailed pv))
+    ensures { ((place ≤ (marks_of core.old.waits.plan pv).stable) × (core.new ≡ core.old))
+        ⊎ ((IsLost core.old pv × (core.new ≡ after_line_fails core.old line (PvFailed pv)))
         ⊎ (((marks_of core.old.waits.plan pv).ended < place) × (core.new ≡ after_awaits core.old line pv place))) }
 {
     match core.waits.awaited(pv, place) {
@@ -197,7 +203,8 @@ fn wait_or_fail(core: &mut Core, line: u32, pv: u32, place: u64, ticket: Ticket)
     requires room { 0 < core.old.waits.room }
     requires owed { core.old.owed.ops + 1 < 2 ^ 64 }
     requires few { left_of core.old.opens line + 1 < 2 ^ 64 }
-    ensures { (core.new ≡ after_line_fails core.old line (PvFailed pv)) ⊎ (core.new ≡ after_awaits core.old line pv place) }
+    ensures { ((set.contains core.old.failed pv ≡ true) × (core.new ≡ after_line_fails core.old line (PvFailed pv)))
+        ⊎ (core.new ≡ after_awaits core.old line pv place) }
 {
     if core.failed.contains(pv) {
         core.opens.fail(line, Answer::PvFailed(pv));
@@ -235,6 +242,7 @@ fn enter_pieces<S: Shelf>(
     requires spare { length pieces.items ≤ core.old.pieces.claims.spare }
     requires few { left_of core.old.opens line + length pieces.items < 2 ^ 64 }
     ensures prepares { Prepares line (map (λ (new : NewRecord). new.piece) pieces.items) result (world (S.state shelf.old) core.old) (world (S.state shelf.new) core.new) }
+    ensures none { length pieces.items ≡ 0 → core.new ≡ core.old }
     ensures calm { IsCalm no_one (just line) core.old → IsCalm no_one (just line) core.new }
     ensures ready { NoneReady core.old → NoneReady core.new }
     ensures opens { SameLines core.old.opens core.new.opens }

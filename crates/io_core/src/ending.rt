@@ -1,8 +1,9 @@
 //! What becomes of operations that complete.
-ghost use Rattle.std.specs.Prelude.{◌≡◌, ◌<◌, IsTrue, None, false, if◌then◌else◌, is_some, length, true};
+ghost use Rattle.std.specs.Prelude.{◌≡◌, ◌≤◌, ◌<◌, IfSome, IsTrue, None, false, if◌then◌else◌, is_some, length, true};
 ghost use Rattle.line_answers.specs.declared.answer.Answer.TheVariants.{PvFailed};
 ghost use Rattle.disk_model.specs.Operations.{Lies, work_of};
-ghost use Rattle.flush_plan.specs.Plans.{flight_of};
+ghost use Rattle.flush_plan.specs.Plans.{flight_of, marks_of};
+ghost use Rattle.flush_waits.specs.declared.ticket.Waiting.{Waiting as WaitingRecord};
 ghost use Rattle.piece_table.specs.Pieces.{flying_at, is_among, is_started};
 ghost use Rattle.piece_table.specs.Steps.{live_of};
 ghost use Rattle.world_acts.specs.Acts.{SettlesAndGoes, core_released, flushed_acts, line_released, read_acts, released_at, settling, world, written_acts};
@@ -159,6 +160,7 @@ pub(crate) fn release_all<S: Shelf>(shelf: &S, core: &mut Core, pv: u32, well: b
     requires orderly { IsOrderly (world (S.state shelf.now) core.old) }
     requires disk { pv < length core.old.waits.disks }
     requires ended { flight_of core.old.waits.plan pv ≡ None }
+    requires lasts { well ≡ true → (marks_of core.old.waits.plan pv).stable ≡ (marks_of core.old.waits.plan pv).ended }
     requires calm { IsCalm no_one no_one core.old }
     ensures ends { SettlesAndGoes (flushed_acts pv well) (world (S.state shelf.now) core.old) (world (S.state shelf.now) core.new) }
     ensures calm { IsCalm no_one no_one core.new }
@@ -197,6 +199,7 @@ fn release(core: &mut Core, pv: u32) -> Option<u32>
     requires disk { pv < length core.old.waits.disks }
     requires ended { flight_of core.old.waits.plan pv ≡ None }
     ensures line { result ≡ line_released core.old pv }
+    ensures behind { IfSome (released_at core.old pv) (λ (w : WaitingRecord). w.place ≤ (marks_of core.old.waits.plan pv).ended) }
     ensures after { core.new ≡ core_released core.old pv (released_at core.old pv) }
 {
     let first = core.waits.release(pv)?;

@@ -30,6 +30,7 @@ use Rattle.world_acts.specs.declared.open_line.Work.TheVariants.{Read, Whole, Wr
 use Rattle.world_acts.specs.declared.state.Core.{Core}
 use Rattle.world_acts.specs.declared.volumes.VolumeRow.{VolumeRow}
 use Rattle.world_acts.specs.declared.volumes.Volumes.{Volumes}
+use Rattle.world_acts.specs.OpenLines.{is_whole}
 use Rattle.world_acts.specs.Volumes.{AreLaidOut, IsPlaced, lv_of}
 use Rattle.line_plans.specs.declared.preparing.NewPiece.{NewPiece}
 use Rattle.line_plans.specs.declared.preparing.Plan.{Plan}
@@ -52,12 +53,17 @@ in_mapped (first ∷ news) new (inr later) = inr (in_mapped news new later)
 
 pub alone_planned : (volumes : Volumes) (sizes : List ℕ) (line : Line) (plan : Plan) (opened : OpenLine)
     → opened ≡ opened_for volumes line.command
-    → pieces_for volumes line.command ≡ [] → IsAlone opened plan → IsPlanned volumes sizes line plan
-alone_planned volumes sizes line plan opened is none alone = record {
+    → pieces_for volumes line.command ≡ []
+    → (is_flush line.command ≡ true → (is_whole opened.work ≡ true) × (is_some opened.failure ≡ true))
+    → IsAlone opened plan → IsPlanned volumes sizes line plan
+alone_planned volumes sizes line plan opened is none refused alone = record {
   opened = alone.opened ∙ is;
   cut = ap (map (λ (new : NewPiece). new.piece)) alone.pieces ∙ sym none;
   pieces = none_of (MayBeOf volumes sizes plan.opened (Some line)) plan.pieces.items alone.pieces;
-  tickets = inl (ap length alone.tickets);
+  tickets = inl (record {
+    none = ap length alone.tickets;
+    refused = (λ flush. subst (λ (o : OpenLine). (is_whole o.work ≡ true) × (is_some o.failure ≡ true)) (sym alone.opened) (refused flush));
+  });
 }
 
 -- a list of the volumes, and a wait for all others
@@ -79,8 +85,13 @@ whole_planned core line plan command is none alone sizes laid disks =
     (option_map_or (λ (r : ℕ × ℕ). pieces_of (key_for volumes command) r.0 r.1 (writes command)) (range_of command) [])) free
     ∙ ap (λ (o : Option (ℕ × ℕ)). option_map_or (λ (r : ℕ × ℕ). pieces_of (key_for volumes command) r.0 r.1 (writes command)) o []) range in
     alone_planned volumes sizes line plan (opened_on 0 (work_for volumes command))
-    (sym (ap (opened_for volumes) is ∙ opened)) (ap (pieces_for volumes) is ∙ pieces) alone
+    (sym (ap (opened_for volumes) is ∙ opened)) (ap (pieces_for volumes) is ∙ pieces)
+    (λ flush. absurd (no_flush command none (sym (ap is_flush is) ∙ flush))) alone
   where
+    no_flush : (c : Command) → volume_named c ≡ None → is_flush c ≡ true → ⊥
+    no_flush (verb.Flush path) named flush = cc
+    no_flush c named flush = false≢true flush
+
     no_range : (c : Command) → volume_named c ≡ None → range_of c ≡ None
     no_range (verb.Read path start count) named = absurd cc
     no_range (verb.Fill path start count value through) named = absurd cc
@@ -123,7 +134,7 @@ module _ (volumes : Volumes) (command : Command) (path : Path) (range : Option (
       (ap (pieces_for volumes) is
       ∙ ap (λ (o : Option OpRefusal). option_map_or (λ (refusal : OpRefusal). []) o
       (option_map_or (λ (r : ℕ × ℕ). pieces_of (key_for volumes command) r.0 r.1 (writes command)) (range_of command) [])) why)
-      made)
+      (λ flush. (refl, refl)) made)
 
   module _ (row : VolumeRow) (none : first_refusal (rows_on volumes.group path writing range) ≡ None)
       (found : IsFoundIn volumes path range row) where
@@ -229,9 +240,16 @@ module _ (volumes : Volumes) (command : Command) (path : Path) (range : Option (
                 piece_of row.key start count writing new.piece cover request cuts (among new (Contains-get_or news k d lt)) in
                 subst (λ (o : OpenLine). MayBeOf volumes sizes o (Some line) new) (sym made.opened)
                 (suits sizes new (made.suit k d lt) piece (placed sizes new.piece laid piece)));
-            tickets = inl (ap length made.tickets);
+            tickets = inl (record {
+              none = ap length made.tickets;
+              refused = (λ flush. absurd (no_flush command (names.sectors ∙ sectors) (sym (ap is_flush is) ∙ flush)));
+            });
           })
         where
+          no_flush : (c : Command) → range_of c ≡ Some (start, count) → is_flush c ≡ true → ⊥
+          no_flush (verb.Flush path) sectors flush = cc
+          no_flush c sectors flush = false≢true flush
+
           mapped : (news : List NewPiece) (new : NewPiece) → Contains news new → Contains (map (λ (n : NewPiece). n.piece) news) new.piece
           mapped news new has =
               has_member (map (λ (n : NewPiece). n.piece) news) new.piece (in_mapped news new (in_list news new has))

@@ -115,7 +115,14 @@ pub record MayBeOf (volumes : Volumes) (sizes : List ℕ) (opened : OpenLine) (l
   pub through : is_some new.ticket ≡ true → new.piece.write ≡ true
   pub waits : is_some new.ticket ≡ option_map_or (λ (l : Line). is_through l.command) line false
 
--- the tickets: none, or, of a line that flushes a volume and isn't refused, one for each disk
+-- the tickets: none, of a line that flushes no volume or is refused; or, of one that flushes a volume and isn't refused, one for each
+-- disk
+pub record AreNone (opened : OpenLine) (line : Option Line) (tickets : ℕ) : Type 0 where
+  pub none : tickets ≡ 0
+  pub refused :
+      option_map_or (λ (l : Line). is_flush l.command) line false ≡ true
+      → (is_whole opened.work ≡ true) × (is_some opened.failure ≡ true)
+
 pub record AreForDisks (volumes : Volumes) (sizes : List ℕ) (opened : OpenLine) (line : Option Line) (tickets : ℕ) : Type 0 where
   pub many : tickets ≡ length sizes
   pub whole : is_whole opened.work ≡ true
@@ -124,7 +131,7 @@ pub record AreForDisks (volumes : Volumes) (sizes : List ℕ) (opened : OpenLine
   pub stands : is_some (lv_of volumes opened.key) ≡ true
 
 abbrev pub AreTickets : Volumes → List ℕ → OpenLine → Option Line → ℕ → Type 0
-AreTickets volumes sizes opened line tickets = (tickets ≡ 0) ⊎ AreForDisks volumes sizes opened line tickets
+AreTickets volumes sizes opened line tickets = AreNone opened line tickets ⊎ AreForDisks volumes sizes opened line tickets
 
 -- the plan is the line's, over disks of these sizes
 pub record IsPlanned (volumes : Volumes) (sizes : List ℕ) (line : Line) (plan : Plan) : Type 0 where

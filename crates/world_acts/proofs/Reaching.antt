@@ -97,20 +97,20 @@ settled_further w v u s more = record { mid = s.mid; settles = s.settles; goes =
 start_follows : (a : Act) → starts a ≡ true → follows a ≡ true
 start_follows (Starts number) is = refl
 start_follows (Asks number op tag now) is = refl
-start_follows (Fails number why) is = refl
+start_follows (Fails number (PvFailed pv)) is = refl
 start_follows a is = absurd (true≢false (sym is))
 
 start_prepares : (line : ℕ) (a : Act) → starts a ≡ true → prepares line a ≡ true
 start_prepares line (Starts number) is = refl
 start_prepares line (Asks number op tag now) is = refl
-start_prepares line (Fails number why) is = refl
+start_prepares line (Fails number (PvFailed pv)) is = refl
 start_prepares line a is = absurd (true≢false (sym is))
 
 start_enters : (a : Act) (acts : List Act) → starts a ≡ true
     → (pieces_entered (a ∷ acts) ≡ pieces_entered acts) × (first_deferral (a ∷ acts) ≡ first_deferral acts)
 start_enters (Starts number) acts is = (refl, refl)
 start_enters (Asks number op tag now) acts is = (refl, refl)
-start_enters (Fails number why) acts is = (refl, refl)
+start_enters (Fails number (PvFailed pv)) acts is = (refl, refl)
 start_enters a acts is = absurd (true≢false (sym is))
 
 none_enters : (acts : List Act) → All (λ (a : Act). starts a ≡ true) acts → (pieces_entered acts ≡ []) × (first_deferral acts ≡ None)
@@ -134,7 +134,7 @@ prepare_carries line (Awaits n pv) is = refl
 prepare_carries line (LineFails n why) is = refl
 prepare_carries line (Starts number) is = refl
 prepare_carries line (Asks number op tag now) is = refl
-prepare_carries line (Fails number why) is = refl
+prepare_carries line (Fails number (PvFailed pv)) is = refl
 prepare_carries line a is = absurd (true≢false (sym is))
 
 pub prepared_carried : (line : ℕ) (pieces : List Piece) (first : Option By) (w v : World) → Prepares line pieces first w v

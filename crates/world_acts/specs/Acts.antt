@@ -174,6 +174,14 @@ pub record MayEnter (w : World) (line : ℕ) (piece : Piece) (sectors : List (Li
 abbrev pub TellsDisk : Answer → Type 0
 TellsDisk why = (pv : ℕ) × (why ≡ PvFailed pv)
 
+-- the disk has failed: an operation on it did, or a flush since its last one that went well
+abbrev pub IsLost : Core → ℕ → Type 0
+IsLost c pv = (set.contains c.failed pv ≡ true) ⊎ ((marks_of c.waits.plan pv).stable < (marks_of c.waits.plan pv).ended)
+
+-- the answer says so of a disk that has
+abbrev pub TellsLost : Core → Answer → Type 0
+TellsLost c why = (pv : ℕ) × (why ≡ PvFailed pv) × IsLost c pv
+
 -- a line that isn't refused waits on a disk for the last write of its volume there, where no flush that has ended serves that
 pub record MayAwait (w : World) (line pv : ℕ) : Type 0 where
   pub opened : OpenLine
@@ -202,6 +210,11 @@ line_of_waiter c (waiter.Piece number) = (live_of c.pieces number).line
 abbrev pub line_released : Core → ℕ → Option ℕ
 line_released c pv = option_map (λ (w : Waiting). line_of_waiter c w.waiter) (released_at c pv)
 
+-- what was released lasts, or its line fails
+abbrev pub IsSettledWait : Core → ℕ → Waiting → Type 0
+IsSettledWait c pv it =
+    (it.place ≤ (marks_of c.waits.plan pv).stable) ⊎ (is_some (open_of c.opens (line_of_waiter c it.waiter)).failure ≡ true)
+
 -- a line may fail as a whole: it flushes its volume and isn't refused, or is the first that the last flush of a disk served, which has
 -- ended
 abbrev pub MayLineFail : Core → ℕ → Type 0
@@ -216,7 +229,7 @@ Allowed w (Begins line opened) = MayBegin w opened
 Allowed w (Enters line piece sectors ticket entry) =
     MayEnter w line piece sectors ticket × IsEntry w.core.pieces.claims (claim_of w.core.pieces.next piece None) entry
 Allowed w (Awaits line pv) = MayAwait w line pv
-Allowed w (LineFails line why) = IsTrue (is_some (open_at w.core.opens line)) × TellsDisk why × MayLineFail w.core line
+Allowed w (LineFails line why) = IsTrue (is_some (open_at w.core.opens line)) × TellsLost w.core why × MayLineFail w.core line
 Allowed w (Answers line) = IsTrue (is_some (open_at w.core.opens line)) × (left_of w.core.opens line ≡ 0) × (w.core.barrier ≢ Some line)
 Allowed w (Holds line) = (w.core.barrier ≡ None) × IsBarrier w.core.opens line
 Allowed w (Passes line) = (w.core.barrier ≡ Some line) × (length (filter is_open w.core.lines.answers) ≤ 1)
@@ -239,7 +252,9 @@ Allowed w (Reads number sectors) =
 Allowed w (AsksFlush pv tag now) =
     Submits w.shelf (Flush pv) tag now × IsLawful now × IsTrue (is_wanted w.core.waits pv) × ((disk_waits w.core.waits pv).served ≡ [])
 Allowed w (EndsFlush done now) = Completes w.shelf done now × IsLawful now × (owner_at w.core.pieces.owners done.tag ≡ None)
-Allowed w (Releases pv) = (flight_of w.core.waits.plan pv ≡ None) × IsTrue (is_some (released_at w.core pv))
+Allowed w (Releases pv) =
+    (flight_of w.core.waits.plan pv ≡ None) × IsTrue (is_some (released_at w.core pv)) ×
+    IfSome (released_at w.core pv) (IsSettledWait w.core pv)
 Allowed w (Readies now) = MakesReady w.shelf now × IsLawful now
 Allowed w (Grows v) = IsGrown w v
 
@@ -299,10 +314,12 @@ owes_more (Enters line piece sectors ticket entry) = true
 owes_more (Awaits line pv) = true
 owes_more _ = false
 
--- whether it settles what the operation that has completed came to: its piece has written, or read, or its disk has failed
+-- whether it settles what the operation that has completed came to: its piece has written, or read, or couldn't be read, or its disk has
+-- failed
 abbrev pub settles : Act → Bool
 settles (Writes number pv) = true
 settles (Reads number sectors) = true
+settles (Fails number (ReadFailed pv)) = true
 settles (Marks pv) = true
 settles _ = false
 
@@ -327,7 +344,7 @@ pub record SettlesAndGoes (acts : List Act) (w v : World) : Type 0 where
 abbrev pub starts : Act → Bool
 starts (Starts number) = true
 starts (Asks number op tag now) = true
-starts (Fails number why) = true
+starts (Fails number (PvFailed pv)) = true
 starts _ = false
 
 -- whether it is of a line that was begun, before that may be answered: a piece of it enters, and starts, or it waits for a flush

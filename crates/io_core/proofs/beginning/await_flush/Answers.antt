@@ -38,7 +38,7 @@ pub returns : goal.returns
 returns g c =
     let w : World = world (g.S.Shelf.state c.args.shelf.now) c.args.core.now in
     let key : c.dirty-last.result ≡ dirty_at w.core.waits c.get.result.now.key c.args.pv = c.dirty-last.ensures.place in
-    let is : WaitsOn c.args.line w (world w.shelf c.await_write.new.core) =
+    let is : WaitsOn c.args.line c.args.pv w (world w.shelf c.await_write.new.core) =
     awaits_so w c.args.line c.args.pv c.dirty-last.result c.await_write.new.core
     (record {
       orderly = c.requires.orderly;
@@ -64,4 +64,6 @@ returns g c =
       pieces = is.pieces;
       barrier = is.barrier ∙ c.requires.other;
       left = is.left;
+      here = is.here;
+      others = is.others;
     }

@@ -67,6 +67,8 @@ loop-ticket-preserved g c =
       pieces = is.pieces;
       barrier = is.barrier ∙ sym c.loop-ticket.invariant.has.barrier;
       left = is.left;
+      here = is.here;
+      others = is.others;
     })
 
 pub returns : goal.returns
@@ -81,4 +83,7 @@ returns g c =
       pieces = is.has.pieces;
       barrier = is.has.barrier;
       left = omega (arith, is.has.left, is.count);
+      awaits =
+          λ pv below. is.has.awaits pv
+          (omega (arith, below, is.count, c.in_default.ensures.cases.0, c.loop-ticket.rest.ok.0));
     }

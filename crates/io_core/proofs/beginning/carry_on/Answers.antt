@@ -1,6 +1,6 @@
 use Rattle.std.proofs.Common.{length}
 use Rattle.world_acts.specs.Acts.{World, world}
-use Rattle.io_core.proofs.LineBegins.{IsCarriedOn, MayClose, carried_on, first_waits, then_closes, then_enters}
+use Rattle.io_core.proofs.LineBegins.{IsCarriedOn, MayClose, carried_on, first_waits, none_in, then_closes, then_enters}
 use Rattle.io_core.proofs.LineWaits.{MayAwaitFlushes}
 use Rattle.io_core.proofs.PieceEnters.{MayEnterPieces, pieces_in}
 use Rattle.io_core.proofs.beginning.carry_on.Goals as goal
@@ -27,6 +27,7 @@ enter_pieces-first-requires g c =
       pieces = s.pieces;
       barrier = s.barrier;
       left = s.left;
+      awaits = s.awaits;
     }) in
     record { orderly = is.orderly; opened = is.opened; each = is.each; room = is.room; spare = is.spare; few = is.few }
 
@@ -48,8 +49,17 @@ close_line-requires g c =
       pieces = s.pieces;
       barrier = s.barrier;
       left = s.left;
+      awaits = s.awaits;
     })
-    (record { prepares = t.prepares; calm = t.calm; ready = t.ready; opens = t.opens; barrier = t.barrier; waits = t.waits }) in
+    (record {
+      prepares = t.prepares;
+      none = λ is. t.none (none_in c.args.pieces.items is);
+      calm = t.calm;
+      ready = t.ready;
+      opens = t.opens;
+      barrier = t.barrier;
+      waits = t.waits;
+    }) in
     record { orderly = is.orderly; opened = is.opened; other = is.other }
 
 pub returns : goal.returns
@@ -72,7 +82,16 @@ returns g c =
       pieces = s.pieces;
       barrier = s.barrier;
       left = s.left;
+      awaits = s.awaits;
     })
-    (record { prepares = t.prepares; calm = t.calm; ready = t.ready; opens = t.opens; barrier = t.barrier; waits = t.waits })
+    (record {
+      prepares = t.prepares;
+      none = λ is. t.none (none_in c.args.pieces.items is);
+      calm = t.calm;
+      ready = t.ready;
+      opens = t.opens;
+      barrier = t.barrier;
+      waits = t.waits;
+    })
     (record { reaches = e.reaches; calm = e.calm; pieces = e.pieces; waits = e.waits }) in
     record { carried = is.carried; settled = is.settled }

@@ -1,5 +1,5 @@
-use Rattle.std.proofs.Common.{◌≡◌, ◌∷◌, [], List, None, Option, reverse, sym, ap, subst, ◌∙◌, arith}
-use Rattle.std.proofs.lemmas.List.{append-nil, nil_from_length, reverse-append, reverse-reverse}
+use Rattle.std.proofs.Common.{◌≡◌, ◌∷◌, [], List, None, Option, length, reverse, sym, ap, subst, ◌∙◌, arith}
+use Rattle.std.proofs.lemmas.List.{append-nil, length-map, nil_from_length, reverse-append, reverse-reverse}
 use Rattle.sector_base.specs.declared.places.Piece.{Piece}
 use Rattle.claim_table.specs.declared.claim.By.{By}
 use Rattle.world_acts.specs.Acts.{Prepares, World, world}
@@ -68,6 +68,8 @@ returns g c =
     let all : k.done ≡ pieces_in c.args.pieces.items = sym (append-nil k.done) ∙ k.some in
     record {
       prepares = subst (λ (ps : List Piece). Prepares c.args.line ps c.loop-new.first w v) all k.has.prepares;
+      none =
+          λ is. k.has.none (ap (λ (l : List Piece). length l) all ∙ length-map c.args.pieces.items (λ (new : NewPiece). new.piece) ∙ is);
       calm = k.has.calm;
       ready = k.has.ready;
       opens = k.has.opens;

@@ -1,5 +1,6 @@
-use Rattle.std.proofs.Common.{◌≡◌, ◌<◌, Option, Some, is_some, sym, ap, subst, ◌∙◌}
+use Rattle.std.proofs.Common.{◌≡◌, ◌<◌, Option, Some, IfSome, is_some, sym, ap, subst, ◌∙◌}
 use Rattle.std.specs.Option.{option_map_or}
+use Rattle.flush_plan.specs.Plans.{marks_of}
 use Rattle.flush_waits.specs.declared.ticket.Waiter.TheVariants.{Line, Piece}
 use Rattle.flush_waits.specs.declared.ticket.Waiting.{Waiting}
 use Rattle.flush_waits.specs.Waits.{Waits}
@@ -11,7 +12,7 @@ use Rattle.world_acts.specs.OpenLines.{left_of}
 use Rattle.world_acts.specs.Steps.{after_leaves}
 use Rattle.io_core.proofs.LiveLines.{left_tidy}
 use Rattle.io_core.proofs.PieceAsks.{live_is}
-use Rattle.io_core.proofs.Released.{released_as, released_line, released_piece, unserved_release}
+use Rattle.io_core.proofs.Released.{IsUpTo, released_as, released_line, released_piece, unserved_release}
 use Rattle.io_core.proofs.ending.release.Goals as goal
 
 pub get-requires : goal.get-requires
@@ -49,6 +50,9 @@ returns-in-Piece c =
     record {
       line =
           ap (λ (l : LivePiece). Some l.line) (sym (live_is core.pieces c.in-Piece.number c.get.result.now c.get.ensures)) ∙ p.1;
+      behind =
+          subst (λ (x : Option Waiting). IfSome x (IsUpTo (marks_of core.waits.plan c.args.pv).ended)) c.in_ok-first.ensures.first
+          c.in_ok-first.ensures.behind;
       after =
           c.leave.ensures
           ∙ ap (λ (x : Waits). after_leaves (record core { waits = x }) c.in-Piece.number c.args.pv) c.release.ensures.after ∙ p.0;
@@ -60,8 +64,15 @@ returns-in-Line c =
     let p = released_as core c.args.pv c.in_ok-first.first (Line c.in-Line.line) c.in_ok-first.ensures.first c.in-Line.is in
     record {
       line = p.1;
+      behind =
+          subst (λ (x : Option Waiting). IfSome x (IsUpTo (marks_of core.waits.plan c.args.pv).ended)) c.in_ok-first.ensures.first
+          c.in_ok-first.ensures.behind;
       after = (λ i. record core { waits = c.release.ensures.after i; opens = c.finish.ensures i }) ∙ p.0;
     }
+
+pub returns-in_err-first-clause-behind : goal.returns-in_err-first-clause-behind
+returns-in_err-first-clause-behind c =
+    subst (λ (x : Option Waiting). IfSome x (IsUpTo (marks_of c.args.core.now.waits.plan c.args.pv).ended)) c.in_err-first.ensures.first tt
 
 pub returns-in_err-first-clause-after : goal.returns-in_err-first-clause-after
 returns-in_err-first-clause-after c =

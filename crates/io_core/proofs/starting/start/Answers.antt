@@ -61,25 +61,25 @@ its_disk g c = (
 pub returns-then-contains-clause-reaches : goal.returns-then-contains-clause-reaches
 returns-then-contains-clause-reaches g c =
     (fails_so (g.S.Shelf.state c.args.shelf.now) c.args.core.now c.fail.new.core c.args.number c.get.result.now
-    (PvFailed c.primary-at.result.pv) c.start-sectors.new.self c.shrink.new.self c.of_start.result c.requires.orderly c.get.ensures
+    c.primary-at.result.pv c.start-sectors.new.self c.shrink.new.self c.of_start.result c.requires.orderly c.get.ensures
     c.requires.waiting c.start-sectors.ensures.after c.of_start.ensures c.shrink.ensures c.agree.ensures.claimed (its_disk g c) c.fail.ensures).reaches
 
 pub returns-then-contains-clause-calm : goal.returns-then-contains-clause-calm
 returns-then-contains-clause-calm g c =
     (fails_so (g.S.Shelf.state c.args.shelf.now) c.args.core.now c.fail.new.core c.args.number c.get.result.now
-    (PvFailed c.primary-at.result.pv) c.start-sectors.new.self c.shrink.new.self c.of_start.result c.requires.orderly c.get.ensures
+    c.primary-at.result.pv c.start-sectors.new.self c.shrink.new.self c.of_start.result c.requires.orderly c.get.ensures
     c.requires.waiting c.start-sectors.ensures.after c.of_start.ensures c.shrink.ensures c.agree.ensures.claimed (its_disk g c) c.fail.ensures).calm
 
 pub returns-then-contains-clause-opens : goal.returns-then-contains-clause-opens
 returns-then-contains-clause-opens g c =
     (fails_so (g.S.Shelf.state c.args.shelf.now) c.args.core.now c.fail.new.core c.args.number c.get.result.now
-    (PvFailed c.primary-at.result.pv) c.start-sectors.new.self c.shrink.new.self c.of_start.result c.requires.orderly c.get.ensures
+    c.primary-at.result.pv c.start-sectors.new.self c.shrink.new.self c.of_start.result c.requires.orderly c.get.ensures
     c.requires.waiting c.start-sectors.ensures.after c.of_start.ensures c.shrink.ensures c.agree.ensures.claimed (its_disk g c) c.fail.ensures).opens
 
 pub returns-then-contains-clause-deferred : goal.returns-then-contains-clause-deferred
 returns-then-contains-clause-deferred g c =
     (fails_so (g.S.Shelf.state c.args.shelf.now) c.args.core.now c.fail.new.core c.args.number c.get.result.now
-    (PvFailed c.primary-at.result.pv) c.start-sectors.new.self c.shrink.new.self c.of_start.result c.requires.orderly c.get.ensures
+    c.primary-at.result.pv c.start-sectors.new.self c.shrink.new.self c.of_start.result c.requires.orderly c.get.ensures
     c.requires.waiting c.start-sectors.ensures.after c.of_start.ensures c.shrink.ensures c.agree.ensures.claimed (its_disk g c) c.fail.ensures).deferred
 
 pub submit-tag-requires-clause-lies : goal.submit-tag-requires-clause-lies
