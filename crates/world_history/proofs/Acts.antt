@@ -1,10 +1,11 @@
 -- Acts that follow one another: what each of them keeps told, all of them do.
 use Rattle.std.proofs.Common.{◌≡◌, All, ℕ, ◌+◌, Bool, true, false, not, cond, ◌&&◌, ◌==◌, option_map, List, [], ◌∷◌, ◌++◌, Option, refl}
-use Rattle.std.proofs.Common.{sym, subst, arith, true≢false}
+use Rattle.std.proofs.Common.{length, slice_get, sym, subst, arith, true≢false}
+use Rattle.std.specs.Option.{option_map_or}
 use Rattle.std.proofs.lemmas.Bool.{and_parts, eqb-true}
 use Rattle.std.proofs.lemmas.List.Elements.{All-head, All-tail}
 use Rattle.sector_base.specs.declared.places.Piece.{Piece}
-use Rattle.data_lines.specs.DataLines.{in_range}
+use Rattle.data_lines.specs.DataLines.{in_range, is_flush}
 use Rattle.claim_table.specs.declared.claim.By.{By}
 use Rattle.disk_model.specs.State.{State}
 use Rattle.disk_model.specs.declared.ops.Done.{Done}
@@ -19,6 +20,7 @@ use Rattle.world_acts.specs.Acts.{Marks, Passes, Prepares, Reaches, Reads, Relea
 use Rattle.world_acts.specs.Acts.{Begins, IsGrown, Readies, follows, pieces_entered, prepares, settles, world}
 use Rattle.world_acts.specs.Steps.{after_begins}
 use Rattle.line_plans.specs.Plans.{opened_for}
+use Rattle.io_core.specs.Beginning.{AwaitsAll}
 use Rattle.io_core.specs.Events.{ending, settling_of}
 use Rattle.world_acts.specs.Orderly.{IsOrderly}
 use Rattle.world_acts.proofs.LinesKept.{hit}
@@ -34,9 +36,11 @@ use Rattle.world_history.proofs.PieceActs.{fail_told, read_told, write_told}
 use Rattle.world_history.proofs.Quiet.{line_still, quiet_told}
 use Rattle.world_history.proofs.ShortActs.{ask_flush_told, ask_told, mark_told, start_told, wake_told}
 
--- what else is kept of a world and its entries, while these say what it has done: by what follows and by what prepares a line, by the
--- begin of a line, by an end with what it came to, and where more is ready or spare
-pub record KeepsAlso (start : ℕ) (Also : World → List ChronicleEntry → Type 0) : Type 0 where
+-- what else is kept of a world and its entries, while these say what it has done: by what follows, by an end with what it came to, and
+-- where more is ready or spare. From the begin of a line on, what is kept while this is prepared: at its end a line that flushes waits on
+-- each disk.
+pub record KeepsAlso (start : ℕ) (Preparing : ℕ → World → List ChronicleEntry → Type 0) (Also : World → List ChronicleEntry → Type 0)
+    : Type 0 where
   pub goes :
       {w : World} {es : List ChronicleEntry} (a : Act) → follows a ≡ true → IsOrderly w → IsTold start none_coming w es → Allowed w a
       → AllOrdered start (entries_of w a ++ es)
@@ -47,8 +51,8 @@ pub record KeepsAlso (start : ℕ) (Also : World → List ChronicleEntry → Typ
       → IsTold start coming w es
       → Allowed w a
       → AllOrdered start (entries_of w a ++ es)
-      → Also w es
-      → Also (after w a) (entries_of w a ++ es)
+      → Preparing line w es
+      → Preparing line (after w a) (entries_of w a ++ es)
   pub begins :
       {w : World} {es : List ChronicleEntry} (line : Line) (opened : OpenLine) (barrier : Option ℕ)
       → opened ≡ opened_for w.core.volumes line.command
@@ -56,8 +60,14 @@ pub record KeepsAlso (start : ℕ) (Also : World → List ChronicleEntry → Typ
       → IsTold start none_coming w es
       → AllOrdered start (entries_of w (Begins line opened) ++ es)
       → Also w es
-      → Also (world w.shelf (record (after_begins w.core line opened w.shelf.steps) { barrier = barrier }))
+      → Preparing (length w.core.lines.begun)
+      (world w.shelf (record (after_begins w.core line opened w.shelf.steps) { barrier = barrier }))
       (entries_of w (Begins line opened) ++ es)
+  pub prepared :
+      {w : World} {es : List ChronicleEntry} (line : ℕ) → IsOrderly w → IsTold start none_coming w es
+      → (option_map_or (λ (l : Line). is_flush l.command) (slice_get w.core.lines.begun line) false ≡ true → AwaitsAll w.core line)
+      → Preparing line w es
+      → Also w es
   pub ends :
       {w mid : World} {es : List ChronicleEntry} (piece : Option ℕ) (done : Done) (now : State)
       → piece ≡ option_map (λ (owner : Owner). owner.piece) (owner_at w.core.pieces.owners done.tag)
@@ -106,10 +116,11 @@ module _ (start : ℕ) (w : World) (o : IsOrderly w) (es : List ChronicleEntry) 
   told_goes_on (Releases pv) is may = release_told t o pv may
   told_goes_on a is may = absurd (true≢false (sym is))
 
-pub goes_told : {start : ℕ} {Also : World → List ChronicleEntry → Type 0} {w v : World} → KeepsAlso start Also → Reaches follows w v
+pub goes_told : {start : ℕ} {Preparing : ℕ → World → List ChronicleEntry → Type 0} {Also : World → List ChronicleEntry → Type 0}
+    {w v : World} → KeepsAlso start Preparing Also → Reaches follows w v
     → HasToldEntries start Also w
     → HasToldEntries start Also v
-goes_told {start} {Also} {w} {v} keeps goes h =
+goes_told {start} {Preparing} {Also} {w} {v} keeps goes h =
     reaches_keep follows (HasToldEntries start Also)
     (λ u a is may k. let told = told_goes_on start u k.orderly k.entries k.told a (and_parts (goes_on a) (not (settles a)) is).0 may in
     record {
@@ -134,13 +145,14 @@ settled_told {start} (a ∷ acts) w v es all o t run =
 
 -- ---- a line is prepared
 
-module _ (start : ℕ) {Also : World → List ChronicleEntry → Type 0} (keeps : KeepsAlso start Also) (line : ℕ) where
+module _ (start : ℕ) {Preparing : ℕ → World → List ChronicleEntry → Type 0} {Also : World → List ChronicleEntry → Type 0}
+    (keeps : KeepsAlso start Preparing Also) (line : ℕ) where
   -- of these pieces are still to enter
   record IsPreparing (pieces : List Piece) (w : World) : Type 0 where
     orderly : IsOrderly w
     entries : List ChronicleEntry
     told : IsTold start (coming_of line pieces) w entries
-    also : Also w entries
+    also : Preparing line w entries
 
   enters_less : (n : ℕ) (piece : Piece) (pieces : List Piece) → (n == line) ≡ true → (q x : ℕ)
       → coming_of line (piece ∷ pieces) q x ≡ coming_of line pieces q x + hit ((n == q) && in_range piece.first piece.count x)
@@ -210,8 +222,8 @@ module _ (start : ℕ) {Also : World → List ChronicleEntry → Type 0} (keeps 
   pub prepares_told : {pieces : List Piece} {by : Option By} {w v : World} → Prepares line pieces by w v → IsOrderly w
       → (es : List ChronicleEntry)
       → IsTold start (coming_of line pieces) w es
-      → Also w es
-      → HasToldEntries start Also v
+      → Preparing line w es
+      → HasToldEntries start (Preparing line) v
   prepares_told {pieces} {by} {w} {v} p orderly es t also =
       let k = prepared p.reaches.acts w v p.reaches.all p.reaches.run
       (record {
@@ -230,3 +242,15 @@ module _ (start : ℕ) {Also : World → List ChronicleEntry → Type 0} (keeps 
       no_more : (b : Bool) → ◌≡◌ {A = ℕ} (cond b 0 0) 0
       no_more true = refl
       no_more false = refl
+
+  -- and its preparation ends
+  pub prepared_told : {w : World}
+      → (option_map_or (λ (l : Line). is_flush l.command) (slice_get w.core.lines.begun line) false ≡ true → AwaitsAll w.core line)
+      → HasToldEntries start (Preparing line) w
+      → HasToldEntries start Also w
+  prepared_told {w} awaits h = record {
+    orderly = h.orderly;
+    entries = h.entries;
+    told = h.told;
+    also = keeps.prepared line h.orderly h.told awaits h.also;
+  }

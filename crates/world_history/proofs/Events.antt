@@ -1,13 +1,14 @@
 -- What each event keeps: its entries are in order, and say what the world has done.
 use Rattle.std.proofs.Common.{◌≡◌, ◌<◌, ℕ, Bool, true, false, cond, All, List, ◌==◌, nat_lt, [], ◌++◌, Option, None, Some, filter, inl, inr}
-use Rattle.std.proofs.Common.{is_some, length, refl, sym, ap, subst, ◌∙◌, arith, true≢false}
+use Rattle.std.proofs.Common.{◌+◌, ◌∷◌, is_some, slice_get, length, refl, sym, ap, subst, ◌∙◌, arith, true≢false}
 use Rattle.std.specs.Option.{option_map_or}
 use Rattle.std.proofs.lemmas.Bool.{ltb-false, ltb-true}
-use Rattle.std.proofs.lemmas.List.{get_or_push}
-use Rattle.std.proofs.lemmas.Option.{none-some}
+use Rattle.std.proofs.lemmas.List.{get_or_push, length_push}
+use Rattle.std.proofs.lemmas.Option.{none-some, slice_get-get_or}
 use Rattle.command_table.specs.declared.command.Command.{Command}
 use Rattle.command_table.specs.declared.command.Command.TheVariants as command
 use Rattle.lvm_script.specs.declared.line.Line.{Line}
+use Rattle.data_lines.specs.DataLines.{is_flush}
 use Rattle.disk_model.specs.State.{State}
 use Rattle.disk_model.specs.declared.ops.Done.{Done}
 use Rattle.line_table.specs.Steps.{is_open}
@@ -30,7 +31,8 @@ use Rattle.io_core.specs.Rest.{IsAtRest, IsUnfinished}
 use Rattle.io_core.proofs.MoreSpare.{rest_grown}
 use Rattle.world_history.specs.Entries.{entries_by, entries_of}
 use Rattle.world_history.specs.Told.{IsSessionLine, IsTold, none_coming}
-use Rattle.world_history.proofs.Acts.{HasToldEntries, KeepsAlso, goes_told, prepares_told, same_coming, settled_told}
+use Rattle.world_history.proofs.Acts.{HasToldEntries, KeepsAlso, goes_told, prepared_told, prepares_told, same_coming}
+use Rattle.world_history.proofs.Acts.{settled_told}
 use Rattle.world_history.proofs.Covering.{coming_of}
 use Rattle.world_history.proofs.LineBegun.{begin_told, places}
 use Rattle.world_history.proofs.Passed.{some_open}
@@ -44,19 +46,23 @@ pub record IsGoing (start : ℕ) (Also : World → List ChronicleEntry → Type 
 
 -- ---- a line is begun
 
--- a wait has no pieces, and takes place as a whole
+-- a wait has no pieces, takes place as a whole, and flushes nothing
 no_pieces : (volumes : Volumes) (c : Command) → c ≡ command.Wait → pieces_for volumes c ≡ []
 no_pieces volumes c is = ap (pieces_for volumes) is
 
 wait_whole : (volumes : Volumes) (c : Command) → c ≡ command.Wait → is_whole (opened_for volumes c).work ≡ true
 wait_whole volumes c is = ap (λ (d : Command). is_whole (opened_for volumes d).work) is
 
+wait_flushes_none : (c : Command) → c ≡ command.Wait → is_flush c ≡ false
+wait_flushes_none c is = ap is_flush is
+
 is_the_wait : (c : Command) → is_wait c ≡ true → c ≡ command.Wait
 is_the_wait command.Wait is = refl
 is_the_wait c is = absurd (true≢false (sym is))
 
-module _ (start : ℕ) {Also : World → List ChronicleEntry → Type 0} (keeps : KeepsAlso start Also) (law : PiecesCoverRequest) (u : World)
-    (line : Line) (how : Begun) (v : World) (session : IsSessionLine line) (b : BeginsIn u line how v) (h : HasToldEntries start Also u)
+module _ (start : ℕ) {Preparing : ℕ → World → List ChronicleEntry → Type 0} {Also : World → List ChronicleEntry → Type 0}
+    (keeps : KeepsAlso start Preparing Also) (law : PiecesCoverRequest) (u : World) (line : Line) (how : Begun) (v : World)
+    (session : IsSessionLine line) (b : BeginsIn u line how v) (h : HasToldEntries start Also u)
     (unfinished : (q : ℕ) → IsUnfinished u.core q) where
   abbrev c : Core
   c = u.core
@@ -77,6 +83,17 @@ module _ (start : ℕ) {Also : World → List ChronicleEntry → Type 0} (keeps 
   abbrev mid : World
   mid = after u (Begins line b.opened)
 
+  -- whether the line flushes a volume, as it was begun
+  abbrev flushes_in : Option Line → Bool
+  flushes_in x = option_map_or (λ (l : Line). is_flush l.command) x false
+
+  -- which is the one that is begun last
+  its_line : slice_get (c.lines.begun ++ line ∷ []) n ≡ Some line
+  its_line =
+      let long : length (c.lines.begun ++ line ∷ []) ≡ n + 1 = length_push c.lines.begun line in
+      slice_get-get_or (c.lines.begun ++ line ∷ []) n line (omega (arith, long))
+      ∙ ap Some (get_or_push c.lines.begun line line n refl)
+
   mid_orderly : IsOrderly mid
   mid_orderly = orderly_after u (Begins line b.opened) h.orderly b.may
 
@@ -85,8 +102,9 @@ module _ (start : ℕ) {Also : World → List ChronicleEntry → Type 0} (keeps 
   begun_alone alone =
       let told = begin_told h.told h.orderly busy law line session b.opened b.is c.barrier (λ wait. inr (λ q y at. alone q y wait at)) in
       goes_told keeps b.carried.goes
+      (prepared_told start keeps n b.carried.awaits
       (prepares_told start keeps n b.carried.prepares mid_orderly (entries_of u (Begins line b.opened) ++ h.entries) told
-      (keeps.begins line b.opened c.barrier b.is h.orderly h.told told.ordered h.also))
+      (keeps.begins line b.opened c.barrier b.is h.orderly h.told told.ordered h.also)))
 
   begun_held : line.command ≡ command.Wait → 0 < length (filter is_open c.lines.answers) → HasToldEntries start Also v
   begun_held wait others =
@@ -98,6 +116,8 @@ module _ (start : ℕ) {Also : World → List ChronicleEntry → Type 0} (keeps 
       } in
       let told = begin_told h.told h.orderly busy law line session b.opened b.is (Some n) (λ is. inl refl) in
       goes_told keeps (b.holds wait others)
+      (prepared_told start keeps n
+      (λ flushes. absurd (true≢false (sym flushes ∙ ap flushes_in its_line ∙ wait_flushes_none line.command wait)))
       (record {
         orderly = orderly_after mid (Holds n) mid_orderly (b.free, barrier);
         entries = entries_of u (Begins line b.opened) ++ h.entries;
@@ -105,7 +125,7 @@ module _ (start : ℕ) {Also : World → List ChronicleEntry → Type 0} (keeps 
             same_coming (λ q x. no_more (n == q) ∙ ap (λ ps. coming_of n ps q x) (sym (no_pieces c.volumes line.command wait)))
             told;
         also = keeps.begins line b.opened (Some n) b.is h.orderly h.told told.ordered h.also;
-      })
+      }))
     where
       no_more : (d : Bool) → ◌≡◌ {A = ℕ} 0 (cond d 0 0)
       no_more true = refl
@@ -127,7 +147,8 @@ module _ (start : ℕ) {Also : World → List ChronicleEntry → Type 0} (keeps 
 
 -- ---- all events
 
-module _ {start : ℕ} {Also : World → List ChronicleEntry → Type 0} (keeps : KeepsAlso start Also) where
+module _ {start : ℕ} {Preparing : ℕ → World → List ChronicleEntry → Type 0} {Also : World → List ChronicleEntry → Type 0}
+    (keeps : KeepsAlso start Preparing Also) where
   grown_going : {w v : World} → IsGrown w v → IsGoing start Also w → IsGoing start Also v
   grown_going {w} {v} grows g = record {
     has = record {
@@ -198,7 +219,8 @@ abbrev pub IsOfSession : Event Line → Type 0
 IsOfSession (BeginsLine line) = IsSessionLine line
 IsOfSession event = Unit {0}
 
-pub event_going : {start : ℕ} {Also : World → List ChronicleEntry → Type 0} {w v : World} → KeepsAlso start Also
+pub event_going : {start : ℕ} {Preparing : ℕ → World → List ChronicleEntry → Type 0} {Also : World → List ChronicleEntry → Type 0}
+    {w v : World} → KeepsAlso start Preparing Also
     → (law : PiecesCoverRequest) (event : Event Line) → IsOfSession event → Makes w event v
     → IsGoing start Also w
     → IsGoing start Also v

@@ -43,11 +43,12 @@ opened_told found disks w is start from = record {
 abbrev nothing : World → List ChronicleEntry → Type 0
 nothing w es = Unit {0}
 
-keeps_nothing : (start : ℕ) → KeepsAlso start nothing
+keeps_nothing : (start : ℕ) → KeepsAlso start (λ line. nothing) nothing
 keeps_nothing start = record {
   goes = λ a is o t may ordered also. tt;
   readies_line = λ line a is o t may ordered also. tt;
   begins = λ line opened barrier is o t ordered also. tt;
+  prepared = λ line o t awaits also. tt;
   ends = λ piece done now whose o t may run ordered also. tt;
   grows = λ o grows also. tt;
   readies = λ now o may also. tt;
@@ -79,13 +80,15 @@ module _ {S : Type 0} (state : S → State) (law : PiecesCoverRequest) (start : 
   of_session wanted allows w RefusesCommit timely = tt
   of_session wanted allows w Halts timely = tt
 
-  pub trace_going : (moment : ℕ) {Also : World → List ChronicleEntry → Type 0} → KeepsAlso moment Also
+  pub trace_going : (moment : ℕ) {Preparing : ℕ → World → List ChronicleEntry → Type 0} {Also : World → List ChronicleEntry → Type 0}
+      → KeepsAlso moment Preparing Also
       → (allows : WorldOn S → Line → Bool) (steps : List (TraceStep (WorldOn S) Line)) (w : WorldOn S)
       → IsTrace makes start steps w
       → IsTimely (λ x. x.core.lines.begun) allows script steps
       → IsGoing moment Also (seen start)
       → IsGoing moment Also (seen w)
-  trace_going moment {Also} keeps allows [] w trace timely g = subst (λ (x : WorldOn S). IsGoing moment Also (seen x)) (sym trace) g
+  trace_going moment {Preparing} {Also} keeps allows [] w trace timely g =
+      subst (λ (x : WorldOn S). IsGoing moment Also (seen x)) (sym trace) g
   trace_going moment keeps allows (s ∷ steps) w trace timely g =
       event_going keeps law s.event (of_session (was_wanted steps) allows s.before s.event timely.0) trace.0
       (trace_going moment keeps allows steps s.before trace.1 timely.1 g)

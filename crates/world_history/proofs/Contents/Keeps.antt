@@ -181,11 +181,12 @@ module _ (grow : HistoriesGrow) (b : Origin) (names : HaveOwnNames (volumes_of b
 
   -- ---- all of it
 
-  pub keeps_contents : KeepsAlso b.start (HasContents b)
+  pub keeps_contents : KeepsAlso b.start (λ line. HasContents b) (HasContents b)
   keeps_contents = record {
     goes = goes_holds;
     readies_line = prepares_holds;
     begins = begins_holds;
+    prepared = λ line o t awaits c. c;
     ends = ends_holds;
     grows = λ o grows c. grows_holds b o c _ grows;
     readies = λ now o may c. readies_holds b o c now may;
