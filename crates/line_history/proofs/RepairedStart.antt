@@ -1,17 +1,21 @@
 -- Where disks were looked at, and what was found there was repaired, a history starts with that: a scan finds its version, and the volumes
 -- show what they showed when the disks were handed in.
-use Rattle.std.proofs.Common.{◌≡◌, ℕ, ◌+◌, true, List, [], ◌∷◌, ◌++◌, length, Option, Some, None, refl, sym, ap, subst, ◌∙◌}
+use Rattle.std.proofs.Common.{◌≡◌, ◌≤◌, ◌⊎◌, ℕ, ◌+◌, ◌-◌, true, List, [], ◌∷◌, ◌++◌, length, take, Option, Some, None, inl, inr}
+use Rattle.std.proofs.Common.{⊎_elim, refl, sym, ap, subst, ◌∙◌, arith}
 use Rattle.std.specs.Prelude.{IfSome, option_map}
 use Rattle.sector_base.specs.declared.places.At.{At}
 use Rattle.command_table.specs.Options.{Word}
+use Rattle.disk_model.proofs.EveryMoment.{since_weaken}
 use Rattle.disk_model.proofs.NowStands.{now_has}
 use Rattle.disk_model.proofs.StepsSince.{steps_joined}
 use Rattle.disk_model.specs.CrashValues.{IsImage}
 use Rattle.disk_model.specs.Durability.{IsBase}
+use Rattle.disk_model.specs.Moments.{EveryImageSince, at_moment}
 use Rattle.disk_model.specs.Order.{WritesNothing}
 use Rattle.disk_model.specs.Record.{IsRecord}
-use Rattle.disk_model.specs.Steps.{Image, Step, Record, now_after, steps_on}
-use Rattle.disk_batch.specs.InTurn.{WritesInTurn, with_batches}
+use Rattle.disk_model.specs.Steps.{Image, IsSame, Step, Record, now_after, steps_on}
+use Rattle.disk_batch.proofs.InTurn.{of_submitted}
+use Rattle.disk_batch.specs.InTurn.{HasFirstBatches, WritesInTurn, with_batches}
 use Rattle.line_table.specs.Machine.{PlainVolume}
 use Rattle.meta_model.specs.Standing.{HasTree}
 use Rattle.meta_model.specs.declared.group.Group.{Group}
@@ -24,21 +28,28 @@ use Rattle.vg_repair.specs.Batches.{repair_batches}
 use Rattle.vg_repair.specs.Repaired.{repaired_of}
 use Rattle.image_scans.proofs.CommitLine.{all_written}
 use Rattle.image_scans.proofs.NewPlaces.{disks_differ}
-use Rattle.vg_scan.specs.Versions.{Version, version_in}
+use Rattle.image_scans.proofs.LineScans.{base_scans}
+use Rattle.image_scans.specs.Laws.{none_out}
+use Rattle.vg_scan.specs.Versions.{FindsVersion, Version, version_in}
 use Rattle.repair_scans.proofs.FoundGroup.{found_group}
 use Rattle.repair_scans.proofs.RepairFound.{repairs_scan}
 use Rattle.repair_scans.proofs.RepairPlaces.{place_kept}
 use Rattle.repair_scans.specs.Laws.{CanRepair}
+use Rattle.volume_history.proofs.Phases.{IsPhase, phase_before, told_at_end}
+use Rattle.volume_history.specs.Candidates.{IsConsistentMoment}
 use Rattle.volume_history.specs.Changing.{HaveOwnNames}
-use Rattle.volume_history.specs.Chronicles.{Origin}
+use Rattle.volume_history.specs.Chronicles.{Origin, origin_at}
+use Rattle.volume_history.specs.Laws.{PartsMakeConsistent}
 use Rattle.volume_history.specs.Placed.{Place, PlacedVolume, values_on, volumes_of}
 use Rattle.volume_history.specs.Quiet.{AllUntouched, AreUntouched}
 use Rattle.volume_history.specs.Replay.{opening_volumes}
+use Rattle.volume_history.specs.Single.{IsStill}
 use Rattle.volume_history.specs.Starting.{StartsWith}
-use Rattle.line_history.proofs.Finding.{image_of_base}
-use Rattle.line_history.proofs.Images.{quiet_base}
-use Rattle.line_history.proofs.Origins.{found_now, now_first, origin_of, starts_later}
+use Rattle.line_history.proofs.Finding.{one_image}
+use Rattle.line_history.proofs.Images.{joined, quiet_base, quiet_images}
+use Rattle.line_history.proofs.Origins.{found_now, now_first, origin_of, starts_later, still}
 use Rattle.line_history.proofs.RestoredVolumes.{own_names}
+use Rattle.line_history.proofs.Seen.{record_drop, steps_more}
 use Rattle.line_history.proofs.Untouched.{places_untouched}
 
 -- ---- the version that a scan found
@@ -104,19 +115,74 @@ module _ (handed look ready : Record) (since : List Step) (is_look : look ≡ st
   ready_base : IsBase ready ready_image
   ready_base = repair.lasting refl base (quiet_base handed look since is_look nothing base base_is)
 
+  look_base : IsBase look base
+  look_base = quiet_base handed look since is_look nothing base base_is
+
   is_ready : ready ≡ steps_on (repair.since ++ since) handed
   is_ready = steps_joined handed look ready since repair.since is_look repair.steps
 
   abbrev start : Origin
   start = start_of handed ready sizes found names clock
 
+  -- ---- its moments
+
+  -- an image on the way: the base, or one on the way of the repair
+  abbrev OnTheWay : Image → Type 0
+  OnTheWay image = IsSame image base ⊎ HasFirstBatches (repair_batches found) base image
+
+  on_the_way : EveryImageSince (length handed.steps) ready OnTheWay
+  on_the_way =
+      joined look ready repair.since repair.steps (length handed.steps) OnTheWay (steps_more handed look since is_look)
+      (since_weaken look (length handed.steps) (length handed.steps) (λ image. IsSame image base) OnTheWay (omega arith)
+      (λ image same. inl same) (quiet_images handed look since is_look nothing base base_is))
+      (since_weaken ready (length look.steps) (length look.steps)
+      (HasFirstBatches (take repair.submitted (repair_batches found)) base) OnTheWay (omega arith)
+      (λ image has. inr (of_submitted repair.submitted (repair_batches found) base image has)) (repair.every_image base look_base))
+
+  -- a scan of it finds the version, and its volumes have what they had
+  finds : (image : Image) → OnTheWay image → FindsVersion sizes image none_out version
+  finds image way =
+      ⊎_elim
+      (λ same. subst (λ (i : Image). FindsVersion sizes i none_out version) (sym (one_image image base same))
+      (base_scans base sizes found can.scan can.whole))
+      (λ (has : HasFirstBatches (repair_batches found) base image). (repairs_scan base sizes found can image has).finds) way
+
+  keeps : (image : Image) → OnTheWay image → (group : Group) → found.group ≡ Some group → (lv sector : ℕ) (at : At)
+      → primary group lv sector ≡ Some at
+      → at_place image found.disk_of at ≡ at_place base found.disk_of at
+  keeps image way group there lv sector at place =
+      ⊎_elim (λ same. ap (λ (i : Image). at_place i found.disk_of at) (one_image image base same))
+      (λ (has : HasFirstBatches (repair_batches found) base image). place_kept base sizes found can group there lv sector at place image has)
+      way
+
+  untouched_at : (m : ℕ) → length handed.steps ≤ m → m ≤ length ready.steps → AllUntouched base (volumes_of version) (at_moment m ready)
+  untouched_at m ge le =
+      places_untouched base sizes found (at_moment m ready) can.scan can.shape
+      (record_drop (length ready.steps - m) ready.steps record_is)
+      (λ (image : Image) (is : IsImage (at_moment m ready) image). keeps image (on_the_way m ge le image is))
+
+  -- until it starts every image shows its version, and no place of a volume is touched
+  pub still_so : IsStill (start_of handed ready sizes found names clock)
+  still_so =
+      still handed ready ready (repair.since ++ since) [] is_ready refl record_is base ready_image base_is ready_base sizes names clock
+      version (λ m ge le image is. finds image (on_the_way m ge le image is)) untouched_at
+      (finds ready_image (inr (all_written (repair_batches found) base)))
+
+  -- so each moment until then is consistent
+  pub consistent_until : PartsMakeConsistent → (m : ℕ) → length handed.steps ≤ m → m ≤ length ready.steps
+      → IsConsistentMoment (record { origin = start_of handed ready sizes found names clock; entries = [] }) m
+  consistent_until parts m ge le =
+      let p : IsPhase (start_of handed ready sizes found names clock) [] m =
+      phase_before (start_of handed ready sizes found names clock) still_so m ge le le in
+      parts (record { origin = origin_at m (start_of handed ready sizes found names clock); entries = [] }) p.scans
+      p.primaries p.name p.next
+
   untouched : AllUntouched base (volumes_of version) ready
   untouched =
-      places_untouched base sizes found ready can.scan can.shape record_is
-      (λ (image : Image) (is : IsImage ready image) (group : Group) (there : found.group ≡ Some group) (lv sector : ℕ) (at : At)
-      (place : primary group lv sector ≡ Some at).
-      ap (λ (i : Image). at_place i found.disk_of at) (image_of_base ready ready_image image ready_base is)
-      ∙ place_kept base sizes found can group there lv sector at place ready_image (all_written (repair_batches found) base))
+      subst (λ (t : Record). AllUntouched base (volumes_of version) t) (told_at_end (start_of handed ready sizes found names clock))
+      (untouched_at (length ready.steps) (steps_more handed ready (repair.since ++ since) is_ready) (omega arith))
+
+  -- ---- its start
 
   -- the disks of a group that was found
   abbrev disks : Group → List ℕ
