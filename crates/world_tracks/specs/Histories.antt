@@ -1,0 +1,32 @@
+-- What a run is whose shelf tells: its journal and its answers are those of one history, each moment of which is consistent.
+use Rattle.std.specs.Prelude.{◌≡◌, List, [], Option, Some}
+use Rattle.line_answers.specs.declared.answer.Answer.{Answer}
+use Rattle.line_table.specs.declared.journal.JournalEntry.{JournalEntry}
+use Rattle.lvm_script.specs.declared.line.Line.{Line}
+use Rattle.disk_model.specs.Durability.{IsBase}
+use Rattle.disk_model.specs.State.{State}
+use Rattle.disk_model.specs.Steps.{Image, Record}
+use Rattle.vg_found.specs.declared.found.Found.{Found}
+use Rattle.volume_history.specs.Chronicles.{Origin}
+use Rattle.volume_history.specs.Laws.{run_of}
+use Rattle.volume_history.specs.Replay.{plain_state}
+use Rattle.volume_history.specs.Runs.{HasHistory}
+use Rattle.volume_history.specs.Starting.{StartsWith}
+use Rattle.world_history.specs.Contents.{origin_with}
+use Rattle.world_history.specs.Shown.{now_of, shown_state}
+use Rattle.world_tracks.specs.Moments.{ArePast, HasBase}
+
+-- over a shelf that ends so, from this origin on; and at the end a read gives what the machine has
+pub record HasConsistentHistory (o : Origin) (ended : State) (journal : List JournalEntry) (lines : List (Line × Option Answer)) : Type 0
+  where
+    pub told : Record
+    pub is : ended.told ≡ Some told
+    pub history : HasHistory (run_of (origin_with o told)) journal lines
+    pub shown : plain_state history.chronicle.origin history.chronicle.entries ≡ shown_state o.version (now_of told)
+
+-- Such a run from the one state of the shelf to the other: each history that starts there with what was found, where each sector has one
+-- possible value and each moment so far is consistent, goes on so.
+abbrev pub KeepsHistory : Found → State → State → List JournalEntry → List (Line × Option Answer) → Type 0
+KeepsHistory found from ended journal lines =
+    (o : Origin) (base : Image) → from.told ≡ Some o.told → StartsWith o found → HasBase o base → IsBase o.told base → ArePast o o.told []
+    → HasConsistentHistory o ended journal lines
