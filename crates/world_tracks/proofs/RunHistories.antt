@@ -22,7 +22,7 @@ use Rattle.world_history.specs.Contents.{HasContents}
 use Rattle.world_history.specs.Ordered.{lines_with}
 use Rattle.world_history.specs.Told.{IsSessionLine}
 use Rattle.world_history.proofs.Contents.Opening.{opened_holds}
-use Rattle.world_tracks.specs.Histories.{KeepsHistory}
+use Rattle.world_tracks.specs.Histories.{RunsKeepHistories}
 use Rattle.world_tracks.specs.Kept.{HasTracks, HasTracksBut, HaveOneValue}
 use Rattle.world_tracks.specs.Tracks.{PlaceLaws}
 use Rattle.world_tracks.proofs.AnsweredTracked.{NumbersHold}
@@ -42,16 +42,7 @@ told_record : (s : State) → IsLawful s → (told : Record) → s.told ≡ Some
 told_record s lawful told is = told_at (λ (t : Record). IsRecord t.steps) s.told told lawful.follows is
 
 pub run_history : {S : Type 0} (state : S → State) → PiecesCoverRequest → HistoriesGrow → PlaceLaws → MomentLaws → NumbersHold
-    → (start : WorldOn S) (script : List Line) → All IsSessionLine script
-    → (found : Found) (disks : ℕ) (allows : WorldOn S → Line → Bool) (ended : WorldOn S) (wanted : Bool) (refused : Option Line)
-    → IsOpenedOn found disks start.core
-    → IsKept (world (state start.shelf) start.core)
-    → (state start.shelf).in_flight ≡ []
-    → HasTimelyTrace (λ (w : WorldOn S). w.core.lines.begun) allows
-    (λ (old : WorldOn S) (event : Event Line) (new : WorldOn S).
-    Makes (world (state old.shelf) old.core) event (world (state new.shelf) new.core)) start script ended wanted refused
-    → KeepsHistory found (state start.shelf) (state ended.shelf) ended.core.lines.journal
-    (lines_with 0 ended.core.lines.begun ended.core.lines.answers)
+    → RunsKeepHistories state
 run_history state law grow places moments numbers start script session found disks allows ended wanted refused opened kept flying run o base
     is starts has stands past =
     let w = world (state start.shelf) start.core in
