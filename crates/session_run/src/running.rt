@@ -14,7 +14,7 @@ use std::alloc::Global;
 use std::collections::VecDeque;
 use table_lock::Gate;
 use vg_found::Whole;
-use world_history::histories_stay;
+use world_tracks::runs_keep_histories;
 
 /// What the lines of a session came to: the disks, what was done, the answers of the lines that were begun, and the others, the first
 /// with want of memory, where it was wanted for that line, and the rest without an answer.
@@ -48,10 +48,10 @@ pub fn run_lines<S: Shelf, G: Gate>(
     let Ok(unbegun) = Vec::with_capacity(alloc, lines.len()) else {
         return Err(shelf);
     };
+    runs_keep_histories(&shelf);
     match World::open(alloc, whole, shelf) {
         Ok(world) => {
             pieces_cover_requests();
-            histories_stay();
             Ok(ran_of(run_alone(world, lines, gate), unbegun))
         }
         Err(refused) => Err(refused.shelf),

@@ -1,10 +1,9 @@
 use Rattle.std.proofs.Common.{◌≡◌, ℕ, List, Option, is_none, length, sym, ap, subst, ◌∙◌, arith}
 use Rattle.line_answers.specs.declared.answer.Answer.{Answer}
 use Rattle.line_table.specs.declared.journal.JournalEntry.{JournalEntry}
-use Rattle.world_history.specs.Legal.{KeepsLegal}
 use Rattle.world_history.specs.Ordered.{IsOrderedHistory}
-use Rattle.world_history.proofs.Contents.LegalRuns.{run_legal}
 use Rattle.world_history.proofs.Runs.{run_ordered}
+use Rattle.world_tracks.specs.Histories.{KeepsHistory}
 use Rattle.session_run.specs.Running.{said_in}
 use Rattle.session_run.proofs.Unbegun.{unbegun_fit}
 use Rattle.session_run.proofs.running.run_lines.Goals as goal
@@ -57,12 +56,12 @@ returns-in-Ok-open g c =
           (said_in run.world run.world.core.lines.answers)) opened.0
           (run_ordered state cover start c.args.lines.items c.requires.session c.args.whole disks (λ w line. is_none w.core.barrier)
           run.world run.wanted run.refused opened.1 kept e.continued));
-      legal =
-          given_back (λ s j a. KeepsLegal c.args.whole (state c.args.shelf) (state s) j (said_in run.world a)) ran.shelf
+      consistent =
+          given_back (λ s j a. KeepsHistory c.args.whole (state c.args.shelf) (state s) j (said_in run.world a)) ran.shelf
           ran.journal ran.answers
-          (subst (λ s. KeepsLegal c.args.whole (state s) (state run.world.shelf) run.world.core.lines.journal
+          (subst (λ s. KeepsHistory c.args.whole (state s) (state run.world.shelf) run.world.core.lines.journal
           (said_in run.world run.world.core.lines.answers)) opened.0
-          (run_legal state cover c.histories_stay.ensures.grow start c.args.lines.items c.requires.session c.args.whole disks
+          (c.runs_keep_histories.ensures start c.args.lines.items c.requires.session c.args.whole disks
           (λ w line. is_none w.core.barrier) run.world run.wanted run.refused opened.1 kept
           (ap (λ s. (state s).in_flight) opened.0 ∙ c.requires.idle) e.continued));
     }
