@@ -1,6 +1,6 @@
 -- Where disks were looked at, and what was found there was repaired, a history starts with that: a scan finds its version, and the volumes
--- show what they showed when the disks were handed in.
-use Rattle.std.proofs.Common.{◌≡◌, ◌≤◌, ◌⊎◌, ℕ, ◌+◌, ◌-◌, true, List, [], ◌∷◌, ◌++◌, length, take, Option, Some, None, inl, inr}
+-- show what they showed when the disks were handed in. A run that ended then, or as the repair failed, has its history.
+use Rattle.std.proofs.Common.{◌≡◌, ◌≤◌, ◌⊎◌, ℕ, ◌+◌, ◌-◌, Bool, true, List, [], ◌∷◌, ◌++◌, length, take, Option, Some, None, inl, inr}
 use Rattle.std.proofs.Common.{⊎_elim, refl, sym, ap, subst, ◌∙◌, arith}
 use Rattle.std.specs.Prelude.{IfSome, option_map}
 use Rattle.sector_base.specs.declared.places.At.{At}
@@ -36,6 +36,7 @@ use Rattle.repair_scans.proofs.RepairFound.{repairs_scan}
 use Rattle.repair_scans.proofs.RepairPlaces.{place_kept}
 use Rattle.repair_scans.specs.Laws.{CanRepair}
 use Rattle.volume_history.proofs.Phases.{IsPhase, phase_before, told_at_end}
+use Rattle.volume_history.proofs.SingleLines.{no_line}
 use Rattle.volume_history.specs.Candidates.{IsConsistentMoment}
 use Rattle.volume_history.specs.Changing.{HaveOwnNames}
 use Rattle.volume_history.specs.Chronicles.{Origin, origin_at}
@@ -43,14 +44,16 @@ use Rattle.volume_history.specs.Laws.{PartsMakeConsistent}
 use Rattle.volume_history.specs.Placed.{Place, PlacedVolume, values_on, volumes_of}
 use Rattle.volume_history.specs.Quiet.{AllUntouched, AreUntouched}
 use Rattle.volume_history.specs.Replay.{opening_volumes}
-use Rattle.volume_history.specs.Single.{IsStill}
+use Rattle.volume_history.specs.Single.{IsStill, StaysLaw}
 use Rattle.volume_history.specs.Starting.{StartsWith}
 use Rattle.line_history.proofs.Finding.{one_image}
 use Rattle.line_history.proofs.Images.{joined, quiet_base, quiet_images}
-use Rattle.line_history.proofs.Origins.{found_now, now_first, origin_of, starts_later, still}
+use Rattle.line_history.proofs.Origins.{found_now, now_first, origin, origin_of, starts_later, still}
 use Rattle.line_history.proofs.RestoredVolumes.{own_names}
 use Rattle.line_history.proofs.Seen.{record_drop, steps_more}
+use Rattle.line_history.proofs.Settled.{none_pending}
 use Rattle.line_history.proofs.Untouched.{places_untouched}
+use Rattle.line_history.specs.Histories.{HasRunHistory}
 
 -- ---- the version that a scan found
 
@@ -105,24 +108,16 @@ start_of handed ready sizes found names clock = origin_of handed (length ready.s
 
 module _ (handed look ready : Record) (since : List Step) (is_look : look ≡ steps_on since handed) (nothing : WritesNothing since)
     (base : Image) (base_is : IsBase handed base) (sizes : List ℕ) (found : Found) (can : CanRepair base sizes found)
-    (repair : WritesInTurn look (repair_batches found) true ready) (record_is : IsRecord ready.steps) (names : List Word) (clock : ℕ) where
+    (well : Bool) (repair : WritesInTurn look (repair_batches found) well ready) (record_is : IsRecord ready.steps) (names : List Word)
+    (clock : ℕ) where
   abbrev version : Option Version
   version = version_in found
-
-  abbrev ready_image : Image
-  ready_image = with_batches (repair_batches found) base
-
-  ready_base : IsBase ready ready_image
-  ready_base = repair.lasting refl base (quiet_base handed look since is_look nothing base base_is)
 
   look_base : IsBase look base
   look_base = quiet_base handed look since is_look nothing base base_is
 
   is_ready : ready ≡ steps_on (repair.since ++ since) handed
   is_ready = steps_joined handed look ready since repair.since is_look repair.steps
-
-  abbrev start : Origin
-  start = start_of handed ready sizes found names clock
 
   -- ---- its moments
 
@@ -161,60 +156,89 @@ module _ (handed look ready : Record) (since : List Step) (is_look : look ≡ st
       (record_drop (length ready.steps - m) ready.steps record_is)
       (λ (image : Image) (is : IsImage (at_moment m ready) image). keeps image (on_the_way m ge le image is))
 
-  -- until it starts every image shows its version, and no place of a volume is touched
-  pub still_so : IsStill (start_of handed ready sizes found names clock)
-  still_so =
-      still handed ready ready (repair.since ++ since) [] is_ready refl record_is base ready_image base_is ready_base sizes names clock
-      version (λ m ge le image is. finds image (on_the_way m ge le image is)) untouched_at
-      (finds ready_image (inr (all_written (repair_batches found) base)))
+  -- ---- the run ended then
 
-  -- so each moment until then is consistent
-  pub consistent_until : PartsMakeConsistent → (m : ℕ) → length handed.steps ≤ m → m ≤ length ready.steps
-      → IsConsistentMoment (record { origin = start_of handed ready sizes found names clock; entries = [] }) m
-  consistent_until parts m ge le =
-      let p : IsPhase (start_of handed ready sizes found names clock) [] m =
-      phase_before (start_of handed ready sizes found names clock) still_so m ge le le in
-      parts (record { origin = origin_at m (start_of handed ready sizes found names clock); entries = [] }) p.scans
-      p.primaries p.name p.next
+  -- with no line begun a history starts at the hand-in
+  abbrev handed_start : Origin
+  handed_start =
+      origin handed handed ready [] (repair.since ++ since) refl is_ready record_is base base base_is base_is sizes names clock version
 
-  untouched : AllUntouched base (volumes_of version) ready
-  untouched =
-      subst (λ (t : Record). AllUntouched base (volumes_of version) t) (told_at_end (start_of handed ready sizes found names clock))
-      (untouched_at (length ready.steps) (steps_more handed ready (repair.since ++ since) is_ready) (omega arith))
-
-  -- ---- its start
-
-  -- the disks of a group that was found
-  abbrev disks : Group → List ℕ
-  disks group = disks_of group found.disks
-
-  listed : (group : Group) → found.group ≡ Some group → disks group ≡ found.disk_of
-  listed group there =
-      sym (subst (λ (o : Option Group). IfSome o (λ g. found.disk_of ≡ disks_of g found.disks)) there can.shape.disk_of)
-
-  apart : (group : Group) → found.group ≡ Some group → DisksDiffer group (disks group)
-  apart group there =
-      let missing : found.missing ≡ missing_of (shapes found.disks) group.pvs =
-      subst (λ (o : Option Group). IfSome o (λ g. found.missing ≡ missing_of (shapes found.disks) g.pvs)) there can.shape.missing in
-      disks_differ group found.disks (found_group base sizes found can.scan group there).0 (sym missing ∙ can.whole.there)
-
-  -- it starts with what is found once that was repaired
-  pub starts : StartsWith (start_of handed ready sizes found names clock) (repaired_of found)
-  starts = record {
-    group = group_of disks found.group;
-    disks = of_group disks found.group (λ v. v.disk_of ≡ found.disk_of) listed;
-    differ = of_group disks found.group (λ v. DisksDiffer v.group v.disk_of) apart;
-    names = names_by disks found.group (λ group there. (found_group base sizes found can.scan group there).1);
-    from =
-        starts_later handed ready ready (repair.since ++ since) [] is_ready refl record_is base ready_image base_is ready_base sizes names
-        clock version;
-    start = refl;
-    opening =
-        found_now handed ready ready (repair.since ++ since) [] is_ready refl record_is base ready_image base_is ready_base sizes names
-        clock version (repairs_scan base sizes found can ready_image (all_written (repair_batches found) base)).finds;
-    shown =
-        ap (λ (i : Image). opening_volumes i 0 (volumes_of version))
-        (now_first handed ready ready (repair.since ++ since) [] is_ready refl record_is base ready_image base_is ready_base sizes names
-        clock version)
-        ∙ volumes_stay base ready record_is 0 (volumes_of version) untouched;
+  stays : StaysLaw handed_start
+  stays = record {
+    still =
+        still handed handed ready [] (repair.since ++ since) refl is_ready record_is base base base_is base_is sizes names clock version
+        (λ m ge le image is.
+        finds image (on_the_way m ge (omega (arith, le, steps_more handed ready (repair.since ++ since) is_ready)) image is))
+        untouched_at (base_scans base sizes found can.scan can.whole);
+    after = λ m ge le image is. finds image (on_the_way m ge le image is);
   }
+
+  pub ended_then : HasRunHistory handed base sizes names clock ready [] []
+  ended_then = none_pending handed base sizes names clock ready (length handed.steps) version [] (no_line handed_start stays) refl
+
+  -- ---- all was repaired
+  module _ (repaired : well ≡ true) where
+    abbrev pub ready_image : Image
+    ready_image = with_batches (repair_batches found) base
+
+    -- each sector has one possible value
+    pub ready_base : IsBase ready ready_image
+    ready_base = repair.lasting repaired base look_base
+
+    -- until it starts every image shows its version, and no place of a volume is touched
+    still_so : IsStill (start_of handed ready sizes found names clock)
+    still_so =
+        still handed ready ready (repair.since ++ since) [] is_ready refl record_is base ready_image base_is ready_base sizes names clock
+        version (λ m ge le image is. finds image (on_the_way m ge le image is)) untouched_at
+        (finds ready_image (inr (all_written (repair_batches found) base)))
+
+    -- so each moment until then is consistent
+    pub consistent_until : PartsMakeConsistent → (m : ℕ) → length handed.steps ≤ m → m ≤ length ready.steps
+        → IsConsistentMoment (record { origin = start_of handed ready sizes found names clock; entries = [] }) m
+    consistent_until parts m ge le =
+        let p : IsPhase (start_of handed ready sizes found names clock) [] m =
+        phase_before (start_of handed ready sizes found names clock) still_so m ge le le in
+        parts (record { origin = origin_at m (start_of handed ready sizes found names clock); entries = [] }) p.scans
+        p.primaries p.name p.next
+
+    untouched : AllUntouched base (volumes_of version) ready
+    untouched =
+        subst (λ (t : Record). AllUntouched base (volumes_of version) t) (told_at_end (start_of handed ready sizes found names clock))
+        (untouched_at (length ready.steps) (steps_more handed ready (repair.since ++ since) is_ready) (omega arith))
+
+    -- ---- its start
+
+    -- the disks of a group that was found
+    abbrev disks : Group → List ℕ
+    disks group = disks_of group found.disks
+
+    listed : (group : Group) → found.group ≡ Some group → disks group ≡ found.disk_of
+    listed group there =
+        sym (subst (λ (o : Option Group). IfSome o (λ g. found.disk_of ≡ disks_of g found.disks)) there can.shape.disk_of)
+
+    apart : (group : Group) → found.group ≡ Some group → DisksDiffer group (disks group)
+    apart group there =
+        let missing : found.missing ≡ missing_of (shapes found.disks) group.pvs =
+        subst (λ (o : Option Group). IfSome o (λ g. found.missing ≡ missing_of (shapes found.disks) g.pvs)) there can.shape.missing in
+        disks_differ group found.disks (found_group base sizes found can.scan group there).0 (sym missing ∙ can.whole.there)
+
+    -- it starts with what is found once that was repaired
+    pub starts : StartsWith (start_of handed ready sizes found names clock) (repaired_of found)
+    starts = record {
+      group = group_of disks found.group;
+      disks = of_group disks found.group (λ v. v.disk_of ≡ found.disk_of) listed;
+      differ = of_group disks found.group (λ v. DisksDiffer v.group v.disk_of) apart;
+      names = names_by disks found.group (λ group there. (found_group base sizes found can.scan group there).1);
+      from =
+          starts_later handed ready ready (repair.since ++ since) [] is_ready refl record_is base ready_image base_is ready_base sizes names
+          clock version;
+      start = refl;
+      opening =
+          found_now handed ready ready (repair.since ++ since) [] is_ready refl record_is base ready_image base_is ready_base sizes names
+          clock version (repairs_scan base sizes found can ready_image (all_written (repair_batches found) base)).finds;
+      shown =
+          ap (λ (i : Image). opening_volumes i 0 (volumes_of version))
+          (now_first handed ready ready (repair.since ++ since) [] is_ready refl record_is base ready_image base_is ready_base sizes names
+          clock version)
+          ∙ volumes_stay base ready record_is 0 (volumes_of version) untouched;
+    }

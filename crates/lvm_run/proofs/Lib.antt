@@ -20,6 +20,8 @@ mod Reporting
 mod ScannedEntries
 mod SessionCauses
 mod SessionHistory
+mod SessionStart
+mod SessionUnbegun
 mod SessionWords
 mod SourcedLines
 mod Statuses

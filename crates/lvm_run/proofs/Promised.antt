@@ -51,7 +51,6 @@ use Rattle.lvm_run.specs.Changing.{GoesOn, IsCarriedOut, IsChanged, IsWholeAgain
 use Rattle.lvm_run.specs.CommandSpec.{Inputs, no_inputs}
 use Rattle.lvm_run.specs.History.{AreInTime, IsEntered, KeepsPromise, Said, begun_from, journal_by, lines_by}
 use Rattle.lvm_run.specs.Scan.{IsOpened, OpensDisks}
-use Rattle.lvm_run.specs.declared.ending.Ending.{Ending}
 use Rattle.lvm_run.specs.declared.outcome.Outcome.{Outcome}
 use Rattle.lvm_run.specs.declared.outcome.Outcome.TheVariants.{Ended}
 use Rattle.lvm_run.proofs.ChangedDisks.{none_in_turn}
@@ -184,10 +183,9 @@ opening_wrote : (sizes : List ℕ) (passes : Bool) (old new : Record) → OpensD
 opening_wrote sizes passes old new o = (o.since, o.steps, o.nothing)
 
 -- the disks weren't taken
-pub kept_unopened : (names : List Word) (now : ℕ) (line : Line) (old new : State) (begun : ℕ) (ending : Ending) → old.steps ≤ new.steps
-    → IsTold new → BetweenRecords (λ a b. OpensDisks old.sizes a false b) old.told new.told
-    → IsEntered names now old (journal_by begun None new.steps (Ended ending)) (lines_by line (Ended ending)) new
-kept_unopened names now line old new begun ending later told opens =
+pub kept_unopened : (names : List Word) (now : ℕ) (old new : State) → old.steps ≤ new.steps → IsTold new
+    → BetweenRecords (λ a b. OpensDisks old.sizes a false b) old.told new.told → IsEntered names now old [] [] new
+kept_unopened names now old new later told opens =
     kept_unbegun names now old new later told
     (λ handed there. let o = opens handed there in (o.0, o.1, opening_wrote old.sizes false handed o.0 o.2))
 

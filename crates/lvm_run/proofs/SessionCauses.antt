@@ -1,5 +1,5 @@
 -- Why a session ended, and that it did as is said of it.
-use Rattle.std.proofs.Common.{◌≡◌, ◌<◌, ℕ, true, List, length, Option, IfSome, refl, sym, subst}
+use Rattle.std.proofs.Common.{◌≡◌, ◌<◌, ℕ, true, List, [], length, Option, IfSome, refl, sym, subst}
 use Rattle.std.specs.Prelude.{Result, Ok, Err, MatchResult}
 use Rattle.std.specs.Result.{IsErrOf}
 use Rattle.byte_streams.specs.Streams.{HasRisen}
@@ -15,12 +15,14 @@ use Rattle.vg_found.specs.declared.found.Found.{Found}
 use Rattle.vg_repair.specs.declared.fault.RepairFault.{RepairFault}
 use Rattle.session_run.specs.SessionScript.{session_commands}
 use Rattle.lvm_run.specs.Changing.{ending_of}
-use Rattle.lvm_run.specs.History.{IsNothing}
+use Rattle.lvm_run.specs.History.{IsNothing, KeepsPromise}
 use Rattle.lvm_run.specs.Sessions.{EndedBefore, IsEndedBefore, IsScriptCause, IsUnready, Opens, OpensAndRepairs, RepairsFound, RunsSession}
 use Rattle.lvm_run.specs.Sessions.{SessionEnds, Unrepaired, script_ending, source_ending}
 use Rattle.lvm_run.specs.Sourced.{GivesText, SourceState}
 use Rattle.lvm_run.specs.declared.ending.Ending.{Ending}
 use Rattle.lvm_run.specs.declared.entered.Entered.{Entered}
+use Rattle.lvm_run.proofs.Promised.{IsTold}
+use Rattle.lvm_run.proofs.SessionUnbegun.{promised_unbegun}
 
 -- the source gave no text
 pub unread_cause : (from to : SourceState) (fault : ReadFault)
@@ -50,16 +52,18 @@ opened_then old opened found opens new (Err ending) repairs =
 -- a session that ended before its lines
 pub ended : {S : Type 0} {session : Session} {names : List Word} {state : S → State} {from to : SourceState} {ids ids_after : ℕ → List ℕ}
     {old : State} {status : ℕ} {before : Option (List ℕ)} {faults_before : ℕ} {after : Option (List ℕ)} {faults_after : ℕ} {back : S}
-    (entered : Entered) (ending : Ending) (shelf : S) → IsEndedBefore session from to ids ids_after old (state shelf) ending → back ≡ shelf
-    → IsNothing entered → SessionEnds names (EndedBefore ending) status before faults_before after faults_after
+    (entered : Entered) (ending : Ending) (shelf : S) → IsEndedBefore session from to ids ids_after old (state shelf) ending → IsTold old
+    → IsTold (state shelf) → back ≡ shelf → IsNothing entered → SessionEnds names (EndedBefore ending) status before faults_before after faults_after
     → RunsSession session names state from to ids ids_after old status before faults_before after faults_after entered.journal.items
     entered.answers.items back
-ended {S} {session} {names} {state} {from} {to} {ids} {ids_after} {old} entered ending shelf why same nothing ends = record {
+ended {S} {session} {names} {state} {from} {to} {ids} {ids_after} {old} entered ending shelf why old_told told same nothing ends = record {
   outcome = EndedBefore ending;
   cause = (
     subst (λ (s : S). IsEndedBefore session from to ids ids_after old (state s) ending) (sym same) why,
     nothing.0,
     nothing.1,
+    subst (λ (s : S). (now : ℕ) → KeepsPromise names now old [] [] (state s)) (sym same)
+        (promised_unbegun names old (state shelf) old_told told why),
   );
   ends = ends;
 }

@@ -51,7 +51,12 @@ unread state words now from ids written faults shelf told disks journal answers 
       asked = asked.1;
       runs = record {
         outcome = EndedBefore NoMemory;
-        cause = (Unknown (record { wanting = refl; unread = refl; undrawn = refl; nothing = refl }), none_entered, none_answered);
+        cause = (
+          Unknown (record { wanting = refl; unread = refl; undrawn = refl; nothing = refl }),
+          none_entered,
+          none_answered,
+          λ at. (kept_undone (names_of words) at (state shelf) told).promise,
+        );
         ends = (true, refl, (with_nothing written, refl));
       };
     })

@@ -25,12 +25,10 @@ use Rattle.line_table.specs.declared.journal.JournalEntry.{JournalEntry}
 use Rattle.lvm_report.specs.AnswerLines.{answers_text}
 use Rattle.image_scans.specs.Laws.{none_out}
 use Rattle.vg_scan.specs.Versions.{FindsVersion, Version}
-use Rattle.volume_history.specs.Chronicles.{Chronicle}
 use Rattle.volume_history.specs.Commands.{commits}
-use Rattle.volume_history.specs.Legal.{IsLegalHistory}
 use Rattle.volume_history.specs.Placed.{volumes_of}
 use Rattle.volume_history.specs.Replay.{opening_volumes, plain_state}
-use Rattle.volume_history.specs.Runs.{IsOfRun, Run}
+use Rattle.volume_history.specs.Runs.{HasHistory, Run}
 use Rattle.line_history.specs.EachSet.{MembersAgree, SetsAgree}
 use Rattle.line_history.specs.Histories.{HasRunHistory, journal_of_line, run_from}
 use Rattle.lvm_run.specs.Outcomes.{output_of}
@@ -103,21 +101,21 @@ KeepsPromise names now old journal lines new =
     → (ended : Record) → new.told ≡ Some ended
     → HasRunHistory handed base old.sizes names now ended journal lines × NoneOlder journal lines old.sizes ended
 
--- the journal and the lines of a run are those of one legal history of plain volumes, and at its end a read gives what these have
-pub record HasLegalRun (run : Run) (journal : List JournalEntry) (lines : List Said) : Type 0 where
-  pub chronicle : Chronicle
-  pub of_run : IsOfRun chronicle run journal lines
-  pub legal : IsLegalHistory chronicle
+-- the run has its history, and at its end a read gives what the volumes of that have
+pub record HasShownHistory (run : Run) (journal : List JournalEntry) (lines : List Said) : Type 0 where
+  pub history : HasHistory run journal lines
   pub shown :
-      (plain_state chronicle.origin chronicle.entries).volumes
-      ≡ opening_volumes (now_after run.told.opened run.told.steps) 0 (volumes_of chronicle.origin.version)
+      (plain_state history.chronicle.origin history.chronicle.entries).volumes
+      ≡ opening_volumes (now_after run.told.opened run.told.steps) 0 (volumes_of history.chronicle.origin.version)
 
--- What is promised of a session's journal and answers: where the disks tell their record, and each of their sectors has one possible
--- value when they are handed in, they are those of one legal history of plain volumes, at whatever time.
-abbrev pub KeepsLegalRun : List Word → State → List JournalEntry → List Said → State → Type 0
-KeepsLegalRun names old journal lines new =
+-- The promise of a session: where the disks tell their record, and each of their sectors has one possible value when they are handed in,
+-- the journal and the answers of its lines are those of one legal history of plain volumes, and stopped at any moment since then, scanning
+-- the disks finds the version in force, where every sector of every volume is its last acknowledged write or a later one; and at its end
+-- a read gives what the volumes have. That is so at whatever time.
+abbrev pub KeepsLines : List Word → State → List JournalEntry → List Said → State → Type 0
+KeepsLines names old journal lines new =
     (handed : Record) → old.told ≡ Some handed → (base : Image) → IsBase handed base → (clock : ℕ) → (ended : Record)
-    → new.told ≡ Some ended → HasLegalRun (run_from handed old.sizes names clock ended) journal lines
+    → new.told ≡ Some ended → HasShownHistory (run_from handed old.sizes names clock ended) journal lines
 
 -- each moment of the journal lies between these two, none before that of an earlier entry
 abbrev pub AreInTime : ℕ → List JournalEntry → ℕ → Type 0

@@ -37,7 +37,7 @@ use Rattle.lvm_run.specs.declared.ending.Ending.TheVariants.{NoMemory, ScriptRef
 use Rattle.lvm_run.specs.declared.outcome.Outcome.{Outcome}
 use Rattle.lvm_run.specs.Changing.{ending_of}
 use Rattle.lvm_run.specs.Endings.{ending_text, status_of_ending}
-use Rattle.lvm_run.specs.History.{HasEntered, KeepsLegalRun}
+use Rattle.lvm_run.specs.History.{HasEntered, KeepsLines, KeepsPromise}
 use Rattle.lvm_run.specs.Outcomes.{Ends}
 use Rattle.lvm_run.specs.Runs.{RunsWords, names_of}
 use Rattle.lvm_run.specs.Scan.{IsOpenCause, IsOpened, OpensDisks}
@@ -202,7 +202,7 @@ pub data IsEndedBefore (session : Session) (from to : SourceState) (ids ids_afte
     Unbegun : is_built_session session ≡ true → (lines : List Line) → ReadsLines from to ids lines ids_after → IsUnbegun old new ending
         → IsEndedBefore session from to ids ids_after old new ending
 
--- its lines were run, on what was found once that was repaired, and what they came to is one legal history
+-- its lines were run, on what was found once that was repaired, and what they came to keeps the promise
 pub record RunsScript {S : Type 0} (session : Session) (names : List Word) (state : S → State) (from to : SourceState)
     (ids ids_after : ℕ → List ℕ) (old : State) (begun unbegun : List (ℕ × Option Answer)) (journal : List JournalEntry)
     (answers : List (ℕ × Option Answer)) (shelf : S) : Type 0 where
@@ -214,18 +214,19 @@ pub record RunsScript {S : Type 0} (session : Session) (names : List Word) (stat
   pub opened : OpensAndRepairs old (Ok repaired) (state ready)
   pub ran : RanLines S
   pub runs : RunsLines state repaired ready lines ran
-  pub history : KeepsLegalRun names old ran.journal.items (said_in runs.run.world ran.answers.items) (state ran.shelf)
+  pub promise : KeepsLines names old ran.journal.items (said_in runs.run.world ran.answers.items) (state ran.shelf)
   pub begun_is : begun ≡ ran.answers.items
   pub unbegun_is : unbegun ≡ ran.unbegun.items
   pub journal_is : journal ≡ ran.journal.items
   pub answers_is : answers ≡ ran.answers.items
   pub shelf_is : shelf ≡ ran.shelf
 
--- the cause of each outcome; nothing is entered where it ended before its lines
+-- the cause of each outcome; where it ended before its lines nothing is entered, and that keeps the promise at whatever time
 abbrev pub IsSessionCause : {S : Type 0} → Session → List Word → (S → State) → SourceState → SourceState → (ℕ → List ℕ) → (ℕ → List ℕ)
     → State → SessionOutcome → List JournalEntry → List (ℕ × Option Answer) → S → Type 0
 IsSessionCause session names state from to ids ids_after old (EndedBefore ending) journal answers shelf =
     IsEndedBefore session from to ids ids_after old (state shelf) ending × (journal ≡ []) × (answers ≡ [])
+    × ((now : ℕ) → KeepsPromise names now old [] [] (state shelf))
 IsSessionCause session names state from to ids ids_after old (Ran begun unbegun) journal answers shelf =
     RunsScript session names state from to ids ids_after old begun unbegun journal answers shelf
 

@@ -2,6 +2,8 @@
 ghost use Rattle.std.specs.Prelude.{◌≡◌, ◌≤◌, ◌++◌, [], All, length, is_ok, IfOk, IfSome, MatchResult, Ok, Err};
 ghost use Rattle.disk_model.specs.Idle.{IsIdleAgain};
 ghost use Rattle.change_batches.specs.Sound.{sizes_of};
+ghost use Rattle.vg_found.specs.Shape.{HasShape};
+ghost use Rattle.vg_found.specs.Whole.{IsWhole};
 ghost use Rattle.volume_rules.specs.Rules.{IsAccepted};
 ghost use Rattle.vg_repair.specs.declared.fault.RepairFault.{RepairFault as FaultRecord};
 ghost use Rattle.io_core.specs.Rest.{LiesOn};
@@ -29,6 +31,7 @@ use line_answers::DiskNames;
 use line_table::Answers;
 use lvm_id::Words64;
 use lvm_script::ScriptRefusal;
+use repair_scans::repair_scans;
 use session_run::{RanLines, run_lines, session_script, status_of_lines, write_lines};
 use std::alloc::Global;
 use std::collections::VecDeque;
@@ -36,6 +39,7 @@ use table_lock::Gate;
 use vg_check::Checked;
 use vg_found::Whole;
 use vg_repair::repair;
+use volume_history::parts_make_consistent;
 
 /// Runs the session on these disks: reads the source to its end and the script in it, flushes and scans the disks, repairs what is
 /// stale, old or a stray, runs the lines on what is found then, and writes what they answer. All memory for a repair, and then for each
@@ -57,6 +61,9 @@ pub fn run_session<S: Shelf, R: Source, W: Sink, N: Words64, G: Gate>(
         (N.upcoming ids.old) (N.upcoming ids.new) (S.state shelf) result.status (W.written out.old) (W.fault_count out.old) (W.written out.new) (W.fault_count out.new)
         result.entered.journal.items result.entered.answers.items result.shelf }
 {
+    // (what is proved of such runs)
+    repair_scans();
+    parts_make_consistent();
     if !is_built_session(session) {
         return end_before(alloc, out, names, shelf, Ending::WordsRefused);
     }
@@ -137,6 +144,8 @@ fn open_whole<S: Shelf>(alloc: Global, shelf: &mut S) -> Result<Whole, Ending>
         (λ whole. OpensAndRepairs (S.state shelf.old) (Ok whole) (S.state shelf.new))
         (λ ending. IsUnready (S.state shelf.old) ending (S.state shelf.new)) }
     ensures lies { IfOk result (LiesOn (S.state shelf.new).sizes) }
+    ensures shape { IfOk result HasShape }
+    ensures whole { IfOk result IsWhole }
 {
     match open_disks(alloc, shelf) {
         Ok(whole) => repair_whole(alloc, whole, shelf),
@@ -153,6 +162,8 @@ fn repair_whole<S: Shelf>(alloc: Global, whole: Whole, shelf: &mut S) -> Result<
         (λ repaired. RepairsFound (S.state shelf.old) whole (Ok repaired) (S.state shelf.new))
         (λ ending. (fault : FaultRecord) × (ending ≡ ending_of fault) × RepairsFound (S.state shelf.old) whole (Err fault) (S.state shelf.new)) }
     ensures lies { IfOk result (LiesOn (S.state shelf.new).sizes) }
+    ensures shape { IfOk result HasShape }
+    ensures whole { IfOk result IsWhole }
 {
     match repair(alloc, whole, shelf) {
         Ok(repaired) => {

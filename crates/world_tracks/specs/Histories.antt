@@ -30,7 +30,8 @@ pub record HasConsistentHistory (o : Origin) (ended : State) (journal : List Jou
     pub told : Record
     pub is : ended.told ≡ Some told
     pub history : HasHistory (run_of (origin_with o told)) journal lines
-    pub shown : plain_state history.chronicle.origin history.chronicle.entries ≡ shown_state o.version (now_of told)
+    pub shown :
+      plain_state history.chronicle.origin history.chronicle.entries ≡ shown_state history.chronicle.origin.version (now_of told)
 
 -- Such a run from the one state of the shelf to the other: each history that starts there with what was found, where each sector has one
 -- possible value and each moment so far is consistent, goes on so.

@@ -28,8 +28,8 @@ returns-in-Err-clause-meets g c =
 pub returns-in-Err-clause-entered : goal.returns-in-Err-clause-entered
 returns-in-Err-clause-entered g c =
     let s1 = g.S.Shelf.state c.open_disks.new.shelf in
-    kept_unopened c.args.names.now c.args.now c.args.line.now (g.S.Shelf.state c.args.shelf.now) s1 c.steps.result c.in-Err.ending
-    c.in-Err.ensures.again.later (told_of s1 (g.met.S.Shelf.lawful c.open_disks.new.shelf)) c.in-Err.ensures.told
+    kept_unopened c.args.names.now c.args.now (g.S.Shelf.state c.args.shelf.now) s1 c.in-Err.ensures.again.later
+    (told_of s1 (g.met.S.Shelf.lawful c.open_disks.new.shelf)) c.in-Err.ensures.told
 
 pub returns-in-Ok-clause-meets : goal.returns-in-Ok-clause-meets
 returns-in-Ok-clause-meets g c =

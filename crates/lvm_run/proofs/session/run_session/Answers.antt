@@ -19,7 +19,9 @@ returns-then-not-is_built_session g c =
       unread = refl;
       undrawn = refl;
       nothing = refl;
-    })) e.shelf e.nothing e.ends
+    }))
+    (told_of (g.S.Shelf.state c.args.shelf) (g.met.S.Shelf.lawful c.args.shelf)) (told_of (g.S.Shelf.state c.args.shelf) (g.met.S.Shelf.lawful c.args.shelf))
+    e.shelf e.nothing e.ends
 
 pub returns-in-Err : goal.returns-in-Err
 returns-in-Err g c =
@@ -27,7 +29,9 @@ returns-in-Err g c =
     let from = source (g.R.Source.left c.args.script.now) (g.R.Source.fault_count c.args.script.now) in
     let to = source (g.R.Source.left c.read_lines.new.script) (g.R.Source.fault_count c.read_lines.new.script) in
     ended {from = from} {to = to} c.end_before-in-Err.result.entered c.in-Err.ending c.args.shelf
-    (NoLines (sym c.is_built_session.ensures ∙ c.if-not-is_built_session.false) c.in-Err.ensures.read refl) e.shelf e.nothing e.ends
+    (NoLines (sym c.is_built_session.ensures ∙ c.if-not-is_built_session.false) c.in-Err.ensures.read refl)
+    (told_of (g.S.Shelf.state c.args.shelf) (g.met.S.Shelf.lawful c.args.shelf)) (told_of (g.S.Shelf.state c.args.shelf) (g.met.S.Shelf.lawful c.args.shelf))
+    e.shelf e.nothing e.ends
 
 pub open_whole-requires-clause-disks : goal.open_whole-requires-clause-disks
 open_whole-requires-clause-disks g c =
@@ -46,7 +50,9 @@ returns-in-Err-open_whole g c =
     let to = source (g.R.Source.left c.read_lines.new.script) (g.R.Source.fault_count c.read_lines.new.script) in
     ended {from = from} {to = to} c.end_before-in-Err-open_whole.result.entered c.in-Err-open_whole.ending c.open_whole.new.shelf
     (Unready (sym c.is_built_session.ensures ∙ c.if-not-is_built_session.false) c.in-Ok.lines.items c.in-Ok.ensures.read
-    c.in-Err-open_whole.ensures.ready) e.shelf e.nothing e.ends
+    c.in-Err-open_whole.ensures.ready)
+    (told_of (g.S.Shelf.state c.args.shelf) (g.met.S.Shelf.lawful c.args.shelf))
+    (told_of (g.S.Shelf.state c.open_whole.new.shelf) (g.met.S.Shelf.lawful c.open_whole.new.shelf)) e.shelf e.nothing e.ends
 
 pub run_lines-requires-clause-few : goal.run_lines-requires-clause-few
 run_lines-requires-clause-few g c =
@@ -68,9 +74,10 @@ returns-in-Ok-run_lines g c =
         opened = c.in-Ok-open_whole.ensures.ready;
         ran = ran;
         runs = c.in-Ok-run_lines.ensures;
-        history =
-            session_history c.args.names.now state (state c.args.shelf)
-            (told_of (state c.args.shelf) (g.met.S.Shelf.lawful c.args.shelf)) c.in-Ok-open_whole.whole c.open_whole.new.shelf
+        promise =
+            session_history c.repair_scans.ensures.at_the_end c.parts_make_consistent.ensures c.args.names.now state (state c.args.shelf)
+            (told_of (state c.args.shelf) (g.met.S.Shelf.lawful c.args.shelf)) c.in-Ok-open_whole.whole c.in-Ok-open_whole.ensures.shape
+            c.in-Ok-open_whole.ensures.whole c.open_whole.new.shelf
             (told_of (state c.open_whole.new.shelf) (g.met.S.Shelf.lawful c.open_whole.new.shelf)) c.in-Ok-open_whole.ensures.ready
             c.in-Ok.lines.items ran c.in-Ok-run_lines.ensures;
         begun_is = refl;
@@ -90,4 +97,6 @@ returns-in-Err-run_lines g c =
     ended {from = from} {to = to} c.end_before-in-Err-run_lines.result.entered NoMemory c.open_whole.new.shelf
     (Unbegun (sym c.is_built_session.ensures ∙ c.if-not-is_built_session.false) c.in-Ok.lines.items c.in-Ok.ensures.read
     (record { wanting = refl; repaired = c.in-Ok-open_whole.whole; ready = c.in-Ok-open_whole.ensures.ready }))
+    (told_of (g.S.Shelf.state c.args.shelf) (g.met.S.Shelf.lawful c.args.shelf))
+    (told_of (g.S.Shelf.state c.open_whole.new.shelf) (g.met.S.Shelf.lawful c.open_whole.new.shelf))
     (e.shelf ∙ c.in-Err-run_lines.ensures) e.nothing e.ends
