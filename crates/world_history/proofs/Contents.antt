@@ -34,4 +34,3 @@ pub mod Failing
 pub mod ShortActs
 pub mod Opening
 pub mod Keeps
-pub mod LegalRuns

@@ -5,4 +5,3 @@ pub mod Shown
 pub mod Alone
 pub mod Apart
 pub mod Contents
-pub mod Legal

@@ -5,9 +5,6 @@
 //! makes of a run. Each act keeps it, file by file, and so do events.
 //!
 //! Where the shelf tells its record, the machine of that history has, between events, what a read of the disks gives
-//! (`specs/Contents`): so reads gave what it had, a write that failed has left of each sector what it held or what was to be written,
-//! and `specs/Legal` says of a run that its journal and its answers are those of one legal history. `proofs/Contents` has its proof.
-//! `histories_stay` is passed on to those that run a world: its law is what the proof goes on from, entry by entry.
+//! (`specs/Contents`): so reads gave what it had, and a write that failed has left of each sector what it held or what was to be written.
+//! `proofs/Contents` has its proof. What a crash may leave at each of these moments is told by `world_tracks`.
 #![tactic(auto)]
-
-pub use volume_history::histories_stay;
