@@ -54,8 +54,10 @@ fn number_sector(number: u64) -> Bytes512
 {
     let mut bytes = [0u8; 512];
     let word = number.to_le_bytes();
-    for k in 0..512usize {
-        bytes[k] = word[k % 8];
+    for k in 0..64usize {
+        for j in 0..8usize {
+            bytes[8 * k + j] = word[j];
+        }
     }
     Bytes512::new(bytes)
 }
