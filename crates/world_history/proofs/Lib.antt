@@ -17,3 +17,5 @@ pub mod Lines
 pub mod Events
 pub mod Runs
 pub mod Contents
+mod OpenFlushes
+pub mod FlushesKept

@@ -5,3 +5,4 @@ pub mod Shown
 pub mod Alone
 pub mod Apart
 pub mod Contents
+pub mod Flushing
