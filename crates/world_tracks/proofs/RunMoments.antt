@@ -28,6 +28,7 @@ use Rattle.world_history.specs.Ordered.{lines_with}
 use Rattle.world_history.specs.Told.{IsSessionLine}
 use Rattle.world_history.proofs.Acts.{KeepsAlso}
 use Rattle.world_history.proofs.Contents.Keeps.{told_steps}
+use Rattle.world_history.proofs.FlushesKept.{run_flushes}
 use Rattle.world_history.proofs.Lines.{lines_told}
 use Rattle.world_history.proofs.Runs.{opened_told, trace_going}
 use Rattle.world_tracks.specs.Histories.{HasConsistentHistory}
@@ -154,4 +155,7 @@ run_consistent state law start script session found disks allows ended wanted re
         consistent = all_consistent laws o base has g.has.orderly t k g.has.also.1 beside;
       };
       shown = k.contents.holds.shows.machine;
+      flushes =
+          run_flushes o state law start script session found disks allows ended wanted refused opened kept run is starts k.contents.told
+          k.contents.is;
     }

@@ -19,12 +19,14 @@ use Rattle.io_core.specs.Events.{Makes}
 use Rattle.io_core.specs.Rest.{IsKept}
 use Rattle.io_core.specs.Worlds.{IsOpenedOn, WorldOn}
 use Rattle.world_history.specs.Contents.{origin_with}
+use Rattle.world_history.specs.Flushing.{FlushesOneByOne}
 use Rattle.world_history.specs.Ordered.{lines_with}
 use Rattle.world_history.specs.Shown.{now_of, shown_state}
 use Rattle.world_history.specs.Told.{IsSessionLine}
 use Rattle.world_tracks.specs.Moments.{ArePast, HasBase}
 
--- over a shelf that ends so, from this origin on; and at the end a read gives what the machine has
+-- over a shelf that ends so, from this origin on; at the end a read gives what the machine has, and at each moment at most one flush of
+-- each disk is in flight
 pub record HasConsistentHistory (o : Origin) (ended : State) (journal : List JournalEntry) (lines : List (Line × Option Answer)) : Type 0
   where
     pub told : Record
@@ -32,6 +34,7 @@ pub record HasConsistentHistory (o : Origin) (ended : State) (journal : List Jou
     pub history : HasHistory (run_of (origin_with o told)) journal lines
     pub shown :
       plain_state history.chronicle.origin history.chronicle.entries ≡ shown_state history.chronicle.origin.version (now_of told)
+    pub flushes : FlushesOneByOne history.chronicle.origin
 
 -- Such a run from the one state of the shelf to the other: each history that starts there with what was found, where each sector has one
 -- possible value and each moment so far is consistent, goes on so.
