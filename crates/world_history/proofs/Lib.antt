@@ -18,4 +18,5 @@ pub mod Events
 pub mod Runs
 pub mod Contents
 mod OpenFlushes
+mod FlushRows
 pub mod FlushesKept
