@@ -111,7 +111,7 @@ pub run_consistent : {S : Type 0} (state : S → State) → PiecesCoverRequest �
     → ((w : World) (es : List ChronicleEntry) → T w es → IsTracked o w es) → KeepsAlso o.start P T
     → (state start.shelf).told ≡ Some o.told → o.start ≡ length o.told.steps → T (world (state start.shelf) start.core) []
     → IsBase o.told base → ArePast o o.told []
-    → HasConsistentHistory o (state ended.shelf) ended.core.lines.journal
+    → HasConsistentHistory o base (state ended.shelf) ended.core.lines.journal
     (lines_with 0 ended.core.lines.begun ended.core.lines.answers)
 run_consistent state law start script session found disks allows ended wanted refused opened kept run laws o base has P T preparing gives keeps
     is starts tracked stands past =
@@ -158,4 +158,5 @@ run_consistent state law start script session found disks allows ended wanted re
       flushes =
           run_flushes o state law start script session found disks allows ended wanted refused opened kept run is starts k.contents.told
           k.contents.is;
+      beside = (g.has.also.1 beside k.contents.told k.contents.is).beside;
     }

@@ -23,25 +23,26 @@ use Rattle.world_history.specs.Flushing.{FlushesOneByOne}
 use Rattle.world_history.specs.Ordered.{lines_with}
 use Rattle.world_history.specs.Shown.{now_of, shown_state}
 use Rattle.world_history.specs.Told.{IsSessionLine}
-use Rattle.world_tracks.specs.Moments.{ArePast, HasBase}
+use Rattle.world_tracks.specs.Moments.{ArePast, BesideStays, HasBase}
 
--- over a shelf that ends so, from this origin on; at the end a read gives what the machine has, and at each moment at most one flush of
--- each disk is in flight
-pub record HasConsistentHistory (o : Origin) (ended : State) (journal : List JournalEntry) (lines : List (Line × Option Answer)) : Type 0
-  where
-    pub told : Record
-    pub is : ended.told ≡ Some told
-    pub history : HasHistory (run_of (origin_with o told)) journal lines
-    pub shown :
+-- over a shelf that ends so, from this origin on, where each sector had one possible value: at the end a read gives what the machine has,
+-- at each moment at most one flush of each disk is in flight, and sectors beside all places of volumes keep what they had
+pub record HasConsistentHistory (o : Origin) (base : Image) (ended : State) (journal : List JournalEntry)
+    (lines : List (Line × Option Answer)) : Type 0 where
+  pub told : Record
+  pub is : ended.told ≡ Some told
+  pub history : HasHistory (run_of (origin_with o told)) journal lines
+  pub shown :
       plain_state history.chronicle.origin history.chronicle.entries ≡ shown_state history.chronicle.origin.version (now_of told)
-    pub flushes : FlushesOneByOne history.chronicle.origin
+  pub flushes : FlushesOneByOne history.chronicle.origin
+  pub beside : BesideStays o.version base told
 
 -- Such a run from the one state of the shelf to the other: each history that starts there with what was found, where each sector has one
 -- possible value and each moment so far is consistent, goes on so.
 abbrev pub KeepsHistory : Found → State → State → List JournalEntry → List (Line × Option Answer) → Type 0
 KeepsHistory found from ended journal lines =
     (o : Origin) (base : Image) → from.told ≡ Some o.told → StartsWith o found → HasBase o base → IsBase o.told base → ArePast o o.told []
-    → HasConsistentHistory o ended journal lines
+    → HasConsistentHistory o base ended journal lines
 
 -- so does every run of a session's script from a world that was opened on what was found, over shelves whose records are told so
 abbrev pub RunsKeepHistories : {S : Type 0} → (S → State) → Type 0
