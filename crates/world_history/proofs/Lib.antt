@@ -20,3 +20,5 @@ pub mod Contents
 mod OpenFlushes
 mod FlushRows
 pub mod FlushesKept
+pub mod EndedFlush
+pub mod Faults

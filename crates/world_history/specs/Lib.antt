@@ -6,3 +6,4 @@ pub mod Alone
 pub mod Apart
 pub mod Contents
 pub mod Flushing
+pub mod Faults

@@ -7,4 +7,7 @@
 //! Where the shelf tells its record, the machine of that history has, between events, what a read of the disks gives
 //! (`specs/Contents`): so reads gave what it had, and a write that failed has left of each sector what it held or what was to be written.
 //! `proofs/Contents` has its proof. What a crash may leave at each of these moments is told by `world_tracks`.
+//!
+//! Over any shelf, an answer names a disk only where that disk's count of faults rose in the run (`specs/Faults`, `proofs/Faults`).
+//! Where it tells, at most one flush of each disk is in flight at any moment (`specs/Flushing`, `proofs/FlushesKept`).
 #![tactic(auto)]

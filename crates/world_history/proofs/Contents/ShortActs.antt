@@ -1,34 +1,29 @@
 -- Acts that add no entry and tell nothing, and the end of a flush.
-use Rattle.std.proofs.Common.{◌≡◌, ℕ, List, Option, None, Some, option_map, refl, sym, ap, ◌∙◌}
-use Rattle.std.proofs.lemmas.Option.{none-some, same_Some}
+use Rattle.std.proofs.Common.{ℕ, List, Option, refl, ap}
 use Rattle.sector_base.specs.declared.places.Piece.{Piece}
 use Rattle.line_answers.specs.declared.answer.Answer.{Answer}
 use Rattle.disk_model.specs.Operations.{work_of}
 use Rattle.disk_model.specs.State.{State}
-use Rattle.disk_model.specs.Steps.{Completed, Flushing, Step, Work as DiskWork, step_on}
+use Rattle.disk_model.specs.Steps.{Completed, Step, Work as DiskWork, step_on}
 use Rattle.disk_model.specs.declared.ops.Done.{Done}
 use Rattle.claim_table.specs.declared.claim.Entry.{Entry}
-use Rattle.flush_plan.specs.declared.records.Flush.{Flush}
-use Rattle.list_laws.proofs.Members.{in_list}
-use Rattle.piece_table.specs.declared.live.Owner.{Owner}
 use Rattle.volume_history.specs.Chronicles.{ChronicleEntry, Origin}
 use Rattle.volume_history.specs.Laws.{HistoriesGrow}
 use Rattle.world_acts.specs.Acts.{Allowed, Awaits, EndsFlush, Enters, Grows, Holds, LineFails, Marks, Readies, Releases, Starts, Wakes}
 use Rattle.world_acts.specs.Acts.{World, after}
 use Rattle.world_acts.specs.Orderly.{IsOrderly}
 use Rattle.world_acts.specs.declared.state.Core.{Core}
-use Rattle.world_acts.specs.Owners.{flush_at, owned_work, piece_work}
 use Rattle.world_acts.proofs.Lasting.{lasts_act}
 use Rattle.io_core.specs.Rest.{kind_at}
 use Rattle.io_core.proofs.LineKinds.{same_added, same_lines}
 use Rattle.world_history.specs.Told.{IsTold}
 use Rattle.world_history.specs.Contents.{HasContents}
 use Rattle.world_history.specs.Shown.{now_of}
+use Rattle.world_history.proofs.EndedFlush.{was_flush}
 use Rattle.world_history.proofs.Contents.ActsHold.{fails_lines, released_lines}
 use Rattle.world_history.proofs.Contents.AloneSteps.{alone_ends}
 use Rattle.world_history.proofs.Contents.ClaimsApart.{apart_act}
 use Rattle.world_history.proofs.Contents.Quiet.{quiet_holds, stepped_holds}
-use Rattle.world_history.proofs.Contents.Tagged.{tagged}
 
 module _ {w : World} {es : List ChronicleEntry} (b : Origin) (o : IsOrderly w) (c : HasContents b w es) where
   pub line_fails_holds : (line : ℕ) (why : Answer) → Allowed w (LineFails line why) → HasContents b (after w (LineFails line why)) es
@@ -89,23 +84,10 @@ module _ {w : World} {es : List ChronicleEntry} (b : Origin) (o : IsOrderly w) (
     abbrev step : Step
     step = Completed done.tag (work_of done.op) done.well may.0.told.0
 
-    -- it was one
-    was_flush : (pv : ℕ) × (work_of done.op ≡ Flushing pv)
-    was_flush =
-        by (flush_at w.core.waits.plan done.tag)
-        (sym (ap (λ (x : Option Owner). owned_work w.core.pieces.lives (piece_work w.core) (flush_at w.core.waits.plan done.tag) x) may.2)
-        ∙ sym (o.backed.known.owned done.tag)
-        ∙ tagged w.shelf.in_flight (record { tag = done.tag; work = work_of done.op }) o.backed.lawful.order
-        (in_list w.shelf.in_flight _ may.0.was))
-      where
-        by : (f : Option Flush) → option_map (λ (x : Flush). Flushing x.pv) f ≡ Some (work_of done.op)
-            → (pv : ℕ) × (work_of done.op ≡ Flushing pv)
-        by None is = absurd (none-some (work_of done.op) is)
-        by (Some f) is = (f.pv, sym (same_Some (Flushing f.pv) (work_of done.op) is))
-
     pub ends_flush_holds : HasContents b (after w (EndsFlush done now)) es
     ends_flush_holds =
         stepped_holds grow b w (after w (EndsFlush done now)) es step may.0.told.1
-        (λ told. ap (λ (x : DiskWork). now_of (step_on (Completed done.tag x done.well may.0.told.0) told)) was_flush.1) refl
+        (λ told. ap (λ (x : DiskWork). now_of (step_on (Completed done.tag x done.well may.0.told.0) told))
+        (was_flush w done now o may).does) refl
         (same_lines w.core.opens) (apart_act w (EndsFlush done now) o may c.holds.apart)
         (λ told is alone. alone_ends w.shelf now done told may.0.told.0 may.0 alone) c
