@@ -12,6 +12,7 @@ use Rattle.io_session.specs.declared.session.Run.{Run}
 use Rattle.world_acts.specs.Acts.{world}
 use Rattle.io_core.specs.Events.{Makes}
 use Rattle.io_core.specs.Worlds.{IsOpenedOn, WorldOn}
+use Rattle.world_history.specs.Faults.{NameFaults}
 use Rattle.world_history.specs.Ordered.{IsOrderedHistory, lines_with}
 use Rattle.world_tracks.specs.Histories.{KeepsHistory}
 use Rattle.session_run.specs.declared.running.RanLines.{RanLines}
@@ -41,7 +42,8 @@ abbrev pub said_in : {S : Type 0} → WorldOn S → List (ℕ × Option Answer) 
 said_in world answers = lines_with 0 world.core.lines.begun answers
 
 -- The lines were run on this shelf, in a world of what was found there, and that is what they came to: the journal and the answers are
--- those of one history in order, and, where the shelf tells its record, of one legal history, each moment of which is consistent.
+-- those of one history in order, and, where the shelf tells its record, of one legal history, each moment of which is consistent. An
+-- answer names a disk only where an operation of that disk failed in the run.
 pub record RunsLines {S : Type 0} (state : S → State) (found : Found) (shelf : S) (lines : List Line) (ran : RanLines S) : Type 0 where
   pub start : WorldOn S
   pub run : Run (WorldOn S) Line
@@ -53,4 +55,5 @@ pub record RunsLines {S : Type 0} (state : S → State) (found : Found) (shelf :
   pub answers : ran.answers.items ≡ run.world.core.lines.answers
   pub unbegun : ran.unbegun.items ≡ unbegun_answers run.refused run.rest.items
   pub history : IsOrderedHistory (state shelf).steps ran.journal.items (said_in run.world ran.answers.items)
+  pub faults : NameFaults (state shelf) (state ran.shelf) ran.answers.items
   pub consistent : KeepsHistory found (state shelf) (state ran.shelf) ran.journal.items (said_in run.world ran.answers.items)

@@ -1,7 +1,9 @@
 use Rattle.std.proofs.Common.{◌≡◌, ℕ, List, Option, is_none, length, sym, ap, subst, ◌∙◌, arith}
 use Rattle.line_answers.specs.declared.answer.Answer.{Answer}
 use Rattle.line_table.specs.declared.journal.JournalEntry.{JournalEntry}
+use Rattle.world_history.specs.Faults.{NameFaults}
 use Rattle.world_history.specs.Ordered.{IsOrderedHistory}
+use Rattle.world_history.proofs.Faults.Runs.{run_faults}
 use Rattle.world_history.proofs.Runs.{run_ordered}
 use Rattle.world_tracks.specs.Histories.{KeepsHistory}
 use Rattle.session_run.specs.Running.{said_in}
@@ -55,6 +57,11 @@ returns-in-Ok-open g c =
           (subst (λ s. IsOrderedHistory (state s).steps run.world.core.lines.journal
           (said_in run.world run.world.core.lines.answers)) opened.0
           (run_ordered state cover start c.args.lines.items c.requires.session c.args.whole disks (λ w line. is_none w.core.barrier)
+          run.world run.wanted run.refused opened.1 kept e.continued));
+      faults =
+          given_back (λ s j a. NameFaults (state c.args.shelf) (state s) a) ran.shelf ran.journal ran.answers
+          (subst (λ s. NameFaults (state s) (state run.world.shelf) run.world.core.lines.answers) opened.0
+          (run_faults state cover start c.args.lines.items c.requires.session c.args.whole disks (λ w line. is_none w.core.barrier)
           run.world run.wanted run.refused opened.1 kept e.continued));
       consistent =
           given_back (λ s j a. KeepsHistory c.args.whole (state c.args.shelf) (state s) j (said_in run.world a)) ran.shelf
