@@ -1,4 +1,5 @@
-//! Tests of what sessions are to stand on: pieces of requests, their claims, regions of mirrors, flushes, and counted comparisons.
+//! Tests of what sessions are to stand on: pieces of requests, their claims, regions and legs of mirrors, flushes, and counted
+//! comparisons.
 //!
 //! A crate with tests is proved twice, with them and without. So the tests of what several crates offer stand in one above them.
 #![tactic(auto)]
@@ -9,6 +10,8 @@ mod claims;
 mod comparisons;
 #[cfg(test)]
 mod flushes;
+#[cfg(test)]
+mod legs;
 #[cfg(test)]
 mod pieces;
 #[cfg(test)]
