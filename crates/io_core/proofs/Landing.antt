@@ -22,7 +22,7 @@ use Rattle.disk_model.specs.State.{IsLawful, State}
 use Rattle.disk_model.specs.Steps.{Flushing, disk_of_work}
 use Rattle.flush_plan.specs.declared.records.Flush.{Flush}
 use Rattle.flush_plan.specs.Plans as plan
-use Rattle.flush_plan.specs.Plans.{flight_of, is_in_flight, marks_of}
+use Rattle.flush_plan.specs.Plans.{flight_of, is_in_flight}
 use Rattle.flush_waits.specs.Steps as waits
 use Rattle.flush_waits.specs.Waits.{Waits}
 use Rattle.piece_table.specs.declared.live.LivePiece.{LivePiece}
@@ -267,16 +267,11 @@ none_before p (f ∷ fs) (suc at) d fails none =
       | false ↦ λ h. none_before p fs at d fails h
     ] none
 
--- all that has ended on the disk lasts
-abbrev IsAllStable : Waits → ℕ → Type 0
-IsAllStable ws pv = (marks_of ws.plan pv).stable ≡ (marks_of ws.plan pv).ended
-
 -- what is asked as what the flush served waits no more
-pub record EndsFlushOf (now : State) (c : Core) (pv : ℕ) (well : Bool) : Type 0 where
+pub record EndsFlushOf (now : State) (c : Core) (pv : ℕ) : Type 0 where
   pub orderly : IsOrderly (world now c)
   pub disk : pv < length c.waits.disks
   pub ended : flight_of c.waits.plan pv ≡ None
-  pub lasts : well ≡ true → IsAllStable c.waits pv
   pub calm : IsCalm no_one no_one c
   pub released : AreReleasedBut pv c
 
@@ -294,9 +289,8 @@ flushed_from : (before now : State) (c : Core) (done : Done) (pv : ℕ) → IsKe
     → owner_at c.pieces.owners done.tag ≡ None
     → done.op ≡ FlushOp pv
     → flight_of (waits.after_ended c.waits done.tag done.well).plan (plan.flush_of c.waits.plan done.tag).pv ≡ None
-    → (done.well ≡ true → IsAllStable (waits.after_ended c.waits done.tag done.well) (plan.flush_of c.waits.plan done.tag).pv)
-    → EndsFlushOf now (after_flushed c done.tag done.well) pv done.well
-flushed_from before now c done pv kept completes lawful none op ended lasts =
+    → EndsFlushOf now (after_flushed c done.tag done.well) pv
+flushed_from before now c done pv kept completes lawful none op ended =
     let o = kept.orderly in
     let d : Core = after_flushed c done.tag done.well in
     let f : IsFlushOf c done = flush_of_done before now c done kept completes none in
@@ -310,7 +304,6 @@ flushed_from before now c done pv kept completes lawful none op ended lasts =
           let lies : pv < length before.sizes = subst (λ (x : Op). Lies before.sizes x) op completes.lies in
           omega (arith, lies, o.backed.places.many);
       ended = subst (λ (n : ℕ). flight_of d.waits.plan n ≡ None) its ended;
-      lasts = λ well. subst (λ (n : ℕ). IsAllStable d.waits n) its (lasts well);
       calm = record {
         quiet = record {
           asked = asked_same no_one no_one c d refl (λ q not deferred. deferred) (λ q not. not) calm.quiet.asked;
@@ -339,14 +332,12 @@ pub ends_flush : (before now : State) (c : Core) (done : Done) (pv : ℕ) (p : P
     → p ≡ c.pieces
     → ws ≡ waits.after_ended c.waits done.tag done.well
     → flight_of ws.plan (plan.flush_of c.waits.plan done.tag).pv ≡ None
-    → (done.well ≡ true → IsAllStable ws (plan.flush_of c.waits.plan done.tag).pv)
-    → EndsFlushOf now (record c { pieces = p; waits = ws }) pv done.well
-ends_flush before now c done pv p ws kept completes lawful none op same is ended lasts =
-    subst (λ (x : Pieces). EndsFlushOf now (record c { pieces = x; waits = ws }) pv done.well) (sym same)
-    (subst (λ (x : Waits). EndsFlushOf now (record c { waits = x }) pv done.well) (sym is)
+    → EndsFlushOf now (record c { pieces = p; waits = ws }) pv
+ends_flush before now c done pv p ws kept completes lawful none op same is ended =
+    subst (λ (x : Pieces). EndsFlushOf now (record c { pieces = x; waits = ws }) pv) (sym same)
+    (subst (λ (x : Waits). EndsFlushOf now (record c { waits = x }) pv) (sym is)
     (flushed_from before now c done pv kept completes lawful none op
-    (subst (λ (x : Waits). flight_of x.plan (plan.flush_of c.waits.plan done.tag).pv ≡ None) is ended)
-    (subst (λ (x : Waits). done.well ≡ true → IsAllStable x (plan.flush_of c.waits.plan done.tag).pv) is lasts)))
+    (subst (λ (x : Waits). flight_of x.plan (plan.flush_of c.waits.plan done.tag).pv ≡ None) is ended)))
 
 pub follows_flush : (before now : State) (c : Core) (done : Done) (pv : ℕ) (p : Pieces) (ws : Waits) (v : World)
     → Completes before done now

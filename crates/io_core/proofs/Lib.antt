@@ -7,6 +7,7 @@ mod PieceAsks
 mod CalmActs
 mod Started
 mod Settled
+mod FirstReleased
 mod Released
 mod Tickets
 mod Waking

@@ -72,6 +72,7 @@ first_waits w line pieces tickets m = record {
       borne_less w (more w.core.owed (more (flushes_room tickets) (pieces_room pieces))) (more w.core.owed (flushes_room tickets))
       (covers_first w.core.owed (flushes_room tickets) (pieces_room pieces)) m.room;
   few = let most = m.room.counted.ops in omega (arith, most, m.none);
+  newest = m.newest;
 }
 
 -- one that takes place as a whole has no pieces
@@ -302,6 +303,7 @@ module _ (w : World) (line : Line) (plan : Plan) (m : MayBeginBy w line plan) wh
         opened = ap is_some own_open;
         none = own_left;
         free = m.free;
+        newest = record { older = w.core.lines.journal; volume = plan.opened.key; moment = w.shelf.steps; is = refl };
         each =
             may_be_still plan.pieces.items
             (record {

@@ -12,6 +12,7 @@ use Rattle.line_answers.specs.declared.answer.Answer.{Answer}
 use Rattle.line_answers.specs.declared.answer.Answer.TheVariants.{PvFailed}
 use Rattle.lvm_script.specs.declared.line.Line.{Line}
 use Rattle.data_lines.specs.DataLines.{is_flush}
+use Rattle.line_table.specs.Steps.{Lines}
 use Rattle.flush_plan.specs.Plans.{flight_of, marks_of}
 use Rattle.flush_plan.specs.declared.records.Flush.{Flush}
 use Rattle.flush_waits.specs.declared.ticket.Waiter.TheVariants as waiter
@@ -23,7 +24,8 @@ use Rattle.flush_waits.specs.Waits.{DiskWaits, awaited, dirty_at, disk_waits, no
 use Rattle.world_acts.specs.declared.state.Core.{Core}
 use Rattle.world_acts.specs.declared.open_line.OpenLine.{OpenLine}
 use Rattle.world_acts.specs.declared.room.Room.{Room}
-use Rattle.world_acts.specs.Acts.{Awaits, IsBorne, IsLost, LineFails, MayAwait, Prepares, Reaches, TellsDisk, World, after, carries_on}
+use Rattle.world_acts.specs.Acts.{Awaits, FlushMayFail, IsBorne, IsLost, IsNewest, LineFails, MayAwait, Prepares, Reaches, TellsDisk, World}
+use Rattle.world_acts.specs.Acts.{after, carries_on}
 use Rattle.world_acts.specs.Acts.{world}
 use Rattle.world_acts.specs.OpenLines.{Opens, after_failure, is_pv_failed, is_whole, left_of, no_open, open_at, open_of, with_open}
 use Rattle.world_acts.specs.Orderly.{AreReleased, IsOrderly}
@@ -77,6 +79,7 @@ pub record WaitsOn (line pv : ℕ) (w v : World) : Type 0 where
   pub opens : SameLines w.core.opens v.core.opens
   pub pieces : v.core.pieces ≡ w.core.pieces
   pub barrier : v.core.barrier ≡ w.core.barrier
+  pub lines : v.core.lines ≡ w.core.lines
   pub left : left_of v.core.opens line ≤ left_of w.core.opens line + 1
   pub here : AwaitsOn v.core line pv
   pub others : (other : ℕ) → nat_eq pv other ≡ false → AwaitsOn w.core line other → AwaitsOn v.core line other
@@ -95,6 +98,7 @@ waits_none line pv w well lasts = record {
   opens = same_lines w.core.opens;
   pieces = refl;
   barrier = refl;
+  lines = refl;
   left = omega arith;
   here = inl lasts;
   others = λ q apart is. is;
@@ -117,19 +121,18 @@ failed_well opens line o pv at well =
     ]
 
 waits_failed : (line pv : ℕ) (w : World) → is_some (open_at w.core.opens line) ≡ true
-    → option_map_or (λ (l : Line). is_flush l.command) (slice_get w.core.lines.begun line) false ≡ true
-    → IfSome (open_of w.core.opens line).failure TellsDisk
     → IsLost w.core pv
+    → FlushMayFail w.core line pv
     → WaitsOn line pv w (after w (LineFails line (PvFailed pv)))
-waits_failed line pv w opened flushes well lost =
+waits_failed line pv w opened lost may =
     let c : Core = w.core in
     let d : Core = after_line_fails c line (PvFailed pv) in
     let found : (x : OpenLine) × (open_at c.opens line ≡ Some x) = some_of (open_at c.opens line) opened in
     record {
       prepares =
           prepares_act w line (LineFails line (PvFailed pv)) (eq-eqb line line refl) refl refl
-          (opened, (pv, refl, lost), inl (flushes, well));
-      well = failed_well c.opens line found.0 pv found.1 well;
+          (opened, record { pv = pv; is = refl; lost = lost; may = inl may });
+      well = failed_well c.opens line found.0 pv found.1 may.well;
       room = λ r b. borne_same w (after w (LineFails line (PvFailed pv))) (more c.owed (more (flushes_room 1) r)) (more c.owed r)
           (covers_last c.owed (flushes_room 1) r) refl refl refl refl b;
       calm = λ k. record {
@@ -145,6 +148,7 @@ waits_failed line pv w opened flushes well lost =
       opens = same_failed c.opens line found.0 (PvFailed pv) found.1;
       pieces = refl;
       barrier = refl;
+      lines = refl;
       left = let e = (line_failed c.opens line found.0 (PvFailed pv) found.1).left line in omega (arith, e);
       here = inr (inl (failed_some c.opens line found.0 (PvFailed pv) found.1));
       others = λ q apart. awaits_still line q c d (record {
@@ -238,6 +242,7 @@ waits_on w line pv o m well =
       opens = same_added c.opens line m.opened m.is_open;
       pieces = refl;
       barrier = refl;
+      lines = refl;
       left =
           let e = (line_added c.opens line m.opened m.is_open).left line in
           omega (arith, e, hit_most (nat_eq line line));
@@ -267,6 +272,7 @@ pub record MayAwaitFlush (w : World) (line pv : ℕ) : Type 0 where
   pub other : w.core.barrier ≡ None
   pub room : IsBorne w (more w.core.owed (flushes_room 1))
   pub few : left_of w.core.opens line + 1 < 2 ^ 64
+  pub newest : IsNewest w.core line
 
 -- the volume's last write on a disk has its place
 pub last_within : (w : World) (line pv : ℕ) (o : OpenLine) → MayAwaitFlush w line pv → open_at w.core.opens line ≡ Some o
@@ -282,15 +288,17 @@ last_within w line pv o m at =
 pub awaits_so : (w : World) (line pv place : ℕ) (d : Core) → MayAwaitFlush w line pv
     → place ≡ dirty_at w.core.waits (open_of w.core.opens line).key pv
     → ((place ≤ (marks_of w.core.waits.plan pv).stable) × (d ≡ w.core))
-    ⊎ ((IsLost w.core pv × (d ≡ after_line_fails w.core line (PvFailed pv)))
+    ⊎ ((((marks_of w.core.waits.plan pv).stable < place) × IsLost w.core pv × (d ≡ after_line_fails w.core line (PvFailed pv)))
     ⊎ (((marks_of w.core.waits.plan pv).ended < place) × (d ≡ after_awaits w.core line pv place)))
     → WaitsOn line pv w (world w.shelf d)
 awaits_so w line pv place d m at (inl same) =
     let lasts : place ≤ (marks_of w.core.waits.plan pv).stable = same.0 in
     subst (λ (x : Core). WaitsOn line pv w (world w.shelf x)) (sym same.1) (waits_none line pv w m.well (omega (arith, lasts, at)))
 awaits_so w line pv place d m at (inr (inl fails)) =
-    subst (λ (x : Core). WaitsOn line pv w (world w.shelf x)) (sym fails.1)
-    (waits_failed line pv w m.opened m.flushes m.well fails.0)
+    let behind : (marks_of w.core.waits.plan pv).stable < place = fails.0 in
+    subst (λ (x : Core). WaitsOn line pv w (world w.shelf x)) (sym fails.2)
+    (waits_failed line pv w m.opened fails.1
+    (record { flushes = m.flushes; well = m.well; newest = m.newest; disk = m.disk; unstable = omega (arith, behind, at) }))
 awaits_so w line pv place d m at (inr (inr waits)) =
     let found : (x : OpenLine) × (open_at w.core.opens line ≡ Some x) = some_of (open_at w.core.opens line) m.opened in
     let is : open_of w.core.opens line ≡ found.0 = open_is w.core.opens line found.0 found.1 in
@@ -325,6 +333,7 @@ pub record MayAwaitFlushes (w : World) (line many : ℕ) : Type 0 where
   pub other : w.core.barrier ≡ None
   pub room : IsBorne w (more w.core.owed (flushes_room many))
   pub few : left_of w.core.opens line + many < 2 ^ 64
+  pub newest : IsNewest w.core line
 
 below_apart : (pv q : ℕ) → q < pv + 1 → (pv ≡ q → ⊥) → q < pv
 below_apart pv q below apart =
@@ -347,6 +356,7 @@ pub record Waited (line : ℕ) (w v : World) (pv rest many : ℕ) : Type 0 where
   pub count : pv + rest ≡ many
   pub well : (rest ≡ 0 → ⊥) → IfSome (open_of v.core.opens line).failure TellsDisk
   pub room : IsBorne v (more v.core.owed (flushes_room rest))
+  pub lines : v.core.lines ≡ w.core.lines
   pub has : HasWaited line w v pv many
 
 for_disks : (w : World) (line many : ℕ) → (many ≡ 0 → ⊥)
@@ -360,6 +370,7 @@ waited_none line many w m = record {
   count = omega arith;
   well = λ some. subst (λ (x : Option Answer). IfSome x TellsDisk) (sym (for_disks w line many some m.tickets).well) tt;
   room = m.room;
+  lines = refl;
   has = record {
     prepares = prepares_none line w;
     none = λ is. refl;
@@ -372,6 +383,11 @@ waited_none line many w m = record {
     awaits = λ pv below. absurd (omega (arith, below));
   };
 }
+
+-- nothing was entered meanwhile
+newest_same : (c d : Core) (line : ℕ) → d.lines ≡ c.lines → IsNewest c line → IsNewest d line
+newest_same c d line same is =
+    record { older = is.older; volume = is.volume; moment = is.moment; is = ap (λ (l : Lines). l.journal) same ∙ is.is }
 
 -- the next one may be awaited
 pub waited_next : (line : ℕ) (w v : World) (pv rest more_rest many : ℕ) → MayAwaitFlushes w line many → more_rest ≡ rest + 1
@@ -406,6 +422,7 @@ waited_next line w v pv rest more_rest many m next k =
             entries = omega arith;
           }) k.room;
       few = omega (arith, m.few, k.has.left, k.count, next);
+      newest = newest_same w.core v.core line k.lines m.newest;
     }
 
 -- and was
@@ -425,6 +442,7 @@ waited_more line w v u pv rest more_rest many next k s = record {
         waits = omega (arith, next);
         entries = omega arith;
       }) k.room);
+  lines = s.lines ∙ k.lines;
   has = record {
     prepares = prepares_both line [] [] [] None None w v u refl k.has.prepares s.prepares;
     none = λ is. absurd (omega (arith, is, next, k.count));

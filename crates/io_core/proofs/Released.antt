@@ -1,10 +1,9 @@
 -- What a disk's last flush served is released, one by one.
 use Rattle.std.proofs.Common.{◌≡◌, ◌≢◌, ◌≤◌, ◌<◌, ℕ, ◌+◌, Bool, true, false, cond, nat_eq, List, [], ◌∷◌, length, get_or, set, drop}
 use Rattle.std.proofs.Common.{◌-◌, Option, None, Some, IfSome, count_by, inl, inr, is_some, unwrap_or, option_map, slice_get, refl, sym, ap}
-use Rattle.std.proofs.Common.{subst, ◌∙◌, arith, true≢false}
-use Rattle.std.specs.FinSet as sets
+use Rattle.std.proofs.Common.{subst, ◌∙◌, arith}
 use Rattle.std.specs.Option.{option_map_or}
-use Rattle.std.proofs.lemmas.Bool.{cond_both, eq-eqb, eqb-false, eqb-true}
+use Rattle.std.proofs.lemmas.Bool.{cond_both, eq-eqb, eqb-false, eqb-true, leb-true}
 use Rattle.std.proofs.lemmas.List.{get_or-set_other, get_or-set_same, length-drop, length-set, set-get_or, set-set}
 use Rattle.std.proofs.lemmas.List.Sums.{get_or-le-sum_by}
 use Rattle.std.proofs.lemmas.Option.{none-some, same_Some}
@@ -36,10 +35,11 @@ use Rattle.world_acts.proofs.Orderly.{orderly_after}
 use Rattle.world_acts.proofs.Reaching.{reaches_act, reaches_both}
 use Rattle.world_acts.proofs.Tables.{some_of}
 use Rattle.world_acts.proofs.WaitsKept.{count_first, waiting_on}
-use Rattle.io_core.specs.Rest.{AreReleasedBut, IsCalm, just, no_one}
+use Rattle.io_core.specs.Rest.{AreReleasedBut, IsCalm, first_released, just, no_one}
 use Rattle.io_core.proofs.CalmActs.{calm_weaker, line_fails_calm, released_calm, same_calm}
+use Rattle.io_core.proofs.FirstReleased.{IsLostWait, IsUpTo, StandsTo, first_line, first_stands, lost_wait}
 use Rattle.io_core.proofs.LiveLines.{failed_some, finished_open, left_other, set_open}
-use Rattle.io_core.proofs.Settled.{OfLine, insert_has, of_line_at}
+use Rattle.io_core.proofs.Settled.{OfLine, of_line_at}
 
 -- ---- who is the first
 
@@ -216,29 +216,24 @@ some_served : (c : Core) (line : ℕ) (x : Option Waiting) → Some line ≡ opt
 some_served c line None is = absurd (none-some line (sym is))
 some_served c line (Some it) is = refl
 
--- up to this place at the most
-abbrev pub IsUpTo : ℕ → Waiting → Type 0
-IsUpTo to it = it.place ≤ to
-
--- it lasts, where the flush went well
+-- it lasts
 lasts_first : (w : World) (pv line : ℕ) (c : Core) → flight_of w.core.waits.plan pv ≡ None → Some line ≡ line_released w.core pv
     → c ≡ core_released w.core pv (released_at w.core pv)
-    → IfSome (released_at w.core pv) (IsUpTo (marks_of w.core.waits.plan pv).ended)
-    → (marks_of w.core.waits.plan pv).stable ≡ (marks_of w.core.waits.plan pv).ended
+    → IfSome (released_at w.core pv) (StandsTo w.core pv true)
     → Reaches follows w (world w.shelf c)
-lasts_first w pv line c ended served is behind lasts =
+lasts_first w pv line c ended served is lasts =
     subst (λ (d : Core). Reaches follows w (world w.shelf d)) (sym is)
     (reaches_act follows w (Releases pv) refl
-    (ended, some_served w.core line (released_at w.core pv) served, settled (released_at w.core pv) behind))
+    (ended, some_served w.core line (released_at w.core pv) served, settled (released_at w.core pv) lasts))
   where
-    settled : (x : Option Waiting) → IfSome x (IsUpTo (marks_of w.core.waits.plan pv).ended) → IfSome x (IsSettledWait w.core pv)
-    settled None behind = tt
-    settled (Some it) behind = inl (omega (arith, behind, lasts))
+    settled : (x : Option Waiting) → IfSome x (StandsTo w.core pv true) → IfSome x (IsSettledWait w.core pv)
+    settled None lasts = tt
+    settled (Some it) lasts = inl (leb-true it.place (marks_of w.core.waits.plan pv).stable lasts)
 
 -- that it fails, and that it waits no more, may come in any order
 fails_first : (w : World) (pv line : ℕ) (c : Core) → IsOrderly w → pv < length w.core.waits.disks → flight_of w.core.waits.plan pv ≡ None
     → Some line ≡ line_released w.core pv
-    → sets.contains w.core.failed pv ≡ true
+    → IsLostWait w.core pv
     → c ≡ core_released w.core pv (released_at w.core pv)
     → Reaches follows w (world w.shelf (after_line_fails c line (PvFailed pv)))
 fails_first w pv line c o within ended served lost is =
@@ -249,7 +244,15 @@ fails_first w pv line c o within ended served lost is =
     subst (λ (d : Core). Reaches follows w (world w.shelf d))
     (swapped own.0 own.1 (released_at w.core pv) served ∙ ap (λ (d : Core). after_line_fails d line why) (sym is))
     (reaches_both follows w v (after v (Releases pv))
-    (reaches_act follows w (LineFails line why) refl (ap is_some own.1, (pv, refl, inl lost), inr (pv, ended, sym served)))
+    (reaches_act follows w (LineFails line why) refl (
+      ap is_some own.1,
+      record {
+        pv = pv;
+        is = refl;
+        lost = lost.lost;
+        may = inr (record { ended = ended; first = sym served; lost = lost.waited });
+      },
+    ))
     (reaches_act follows v (Releases pv) refl (ended, there, settled own.0 own.1 (released_at w.core pv) served)))
   where
     same_line : (who : Waiter) → line_of_waiter (after_line_fails w.core line (PvFailed pv)) who ≡ line_of_waiter w.core who
@@ -286,27 +289,26 @@ fails_first w pv line c o within ended served lost is =
     swapped x at None is = absurd (none-some line (sym is))
     swapped x at (Some it) is = of x at it.waiter (same_Some line (line_of_waiter w.core it.waiter) is)
 
--- what is known as the flush that has ended is released: where it went well all that ended lasts, else the disk has failed
-pub record MayRelease (w : World) (pv : ℕ) (well : Bool) : Type 0 where
+-- what is known as what the flush served that has ended is released
+pub record MayRelease (w : World) (pv : ℕ) : Type 0 where
   pub orderly : IsOrderly w
   pub calm : IsCalm no_one no_one w.core
   pub disk : pv < length w.core.waits.disks
   pub ended : flight_of w.core.waits.plan pv ≡ None
-  pub lasts : well ≡ true → (marks_of w.core.waits.plan pv).stable ≡ (marks_of w.core.waits.plan pv).ended
-  pub lost : well ≡ false → sets.contains w.core.failed pv ≡ true
 
--- the first waits no more, and its line fails too, where the flush did
+-- the first waits no more, and its line fails too, unless what that waited for lasts
 pub record WarnsOne (w : World) (pv line : ℕ) (v : World) : Type 0 where
   pub reaches : Reaches follows w v
   pub one : ReleasesOne w pv line v
 
-pub warned : (w : World) (pv line : ℕ) (c : Core) (well : Bool) → MayRelease w pv well
-    → Some line ≡ line_released w.core pv
+pub warned : (w : World) (pv line : ℕ) (c : Core) (lasts : Bool) → MayRelease w pv → Some (line, lasts) ≡ first_released w.core pv
     → IfSome (released_at w.core pv) (IsUpTo (marks_of w.core.waits.plan pv).ended)
     → c ≡ core_released w.core pv (released_at w.core pv)
-    → WarnsOne w pv line (world w.shelf (cond well c (after_line_fails c line (PvFailed pv))))
-warned w pv line c well m served behind is =
+    → WarnsOne w pv line (world w.shelf (cond lasts c (after_line_fails c line (PvFailed pv))))
+warned w pv line c lasts m first behind is =
     let why : Answer = PvFailed pv in
+    let served : Some line ≡ line_released w.core pv = first_line w.core pv line lasts first in
+    let stands : IfSome (released_at w.core pv) (StandsTo w.core pv lasts) = first_stands w.core pv line lasts first in
     let r : ReleasesOne w pv line (world w.shelf c) =
     subst (λ (x : Core). ReleasesOne w pv line (world w.shelf x)) (sym is)
     (releases_one w pv line m.orderly m.disk served m.calm) in
@@ -314,10 +316,18 @@ warned w pv line c well m served behind is =
     let d : Core = after_line_fails c line why in
     let p = some_of (open_at c.opens line) r.opened in
     let q = (line_failed c.opens line p.0 why p.1).lines line p.0 p.1 in
-    cond_both well c d (λ (x : Core). WarnsOne w pv line (world w.shelf x))
-    (λ t. record { reaches = lasts_first w pv line c m.ended served is behind (m.lasts t); one = r })
+    cond_both lasts c d (λ (x : Core). WarnsOne w pv line (world w.shelf x))
     (λ t. record {
-      reaches = fails_first w pv line c m.orderly m.disk m.ended served (m.lost t) is;
+      reaches =
+          lasts_first w pv line c m.ended served is
+          (subst (λ (b : Bool). IfSome (released_at w.core pv) (StandsTo w.core pv b)) t stands);
+      one = r;
+    })
+    (λ t. record {
+      reaches =
+          fails_first w pv line c m.orderly m.disk m.ended served
+          (lost_wait w.core pv line served (subst (λ (b : Bool). IfSome (released_at w.core pv) (StandsTo w.core pv b)) t stands) behind)
+          is;
       one = record {
         calm = line_fails_calm c line why no_one (just line) (eq-eqb line line refl) r.calm;
         opened = ap is_some q.1;
@@ -341,20 +351,18 @@ pub marked_orderly : (w : World) (pv : ℕ) (well : Bool) → pv < length w.shel
 marked_orderly w pv true disk o = o
 marked_orderly w pv false disk o = orderly_after w (Marks pv) o disk
 
--- what waits on the disks, and what is calm, is the same; where the flush failed the disk has
-pub record IsMarked (pv : ℕ) (well : Bool) (c d : Core) : Type 0 where
+-- what waits on the disks, and what is calm, is the same
+pub record IsMarked (c d : Core) : Type 0 where
   pub waits : d.waits ≡ c.waits
   pub calm : IsCalm no_one no_one c → IsCalm no_one no_one d
-  pub lost : well ≡ false → sets.contains d.failed pv ≡ true
 
-pub is_marked : (c : Core) (pv : ℕ) (well : Bool) → IsMarked pv well c (cond well c (after_marks c pv))
+pub is_marked : (c : Core) (pv : ℕ) (well : Bool) → IsMarked c (cond well c (after_marks c pv))
 is_marked c pv well =
-    cond_both well c (after_marks c pv) (λ (x : Core). IsMarked pv well c x)
-    (λ t. record { waits = refl; calm = λ is. is; lost = λ f. absurd (true≢false (sym t ∙ f)) })
+    cond_both well c (after_marks c pv) (λ (x : Core). IsMarked c x)
+    (λ t. record { waits = refl; calm = λ is. is })
     (λ t. record {
       waits = refl;
       calm = λ is. same_calm c (after_marks c pv) no_one no_one refl refl refl refl is;
-      lost = λ f. insert_has c.failed pv;
     })
 
 -- ---- all are released

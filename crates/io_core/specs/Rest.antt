@@ -1,6 +1,6 @@
 -- What holds at the end of each event: nothing is left to do until an operation completes or a line is begun.
 use Rattle.std.specs.Prelude.{◌≡◌, ◌≤◌, ◌<◌, ◌⊎◌, All, ℕ, Bool, true, false, ◌==◌, IfSome, List, [], filter, length, Option, None, Some}
-use Rattle.std.specs.Prelude.{is_some, option_map, slice_index_or}
+use Rattle.std.specs.Prelude.{is_some, nat_le, option_map, slice_index_or}
 use Rattle.std.specs.List.{list_any}
 use Rattle.sector_base.specs.declared.places.At.{At}
 use Rattle.line_table.specs.Steps.{is_open}
@@ -8,7 +8,8 @@ use Rattle.meta_model.specs.declared.group.Group.{Group}
 use Rattle.volume_view.specs.Places.{primary}
 use Rattle.claim_table.specs.Claims.{ready_at}
 use Rattle.claim_table.specs.Steps.{has_number}
-use Rattle.flush_plan.specs.Plans.{flight_of}
+use Rattle.flush_plan.specs.Plans.{flight_of, marks_of}
+use Rattle.flush_waits.specs.declared.ticket.Waiting.{Waiting}
 use Rattle.flush_waits.specs.Waits.{disk_waits, is_wanted}
 use Rattle.piece_table.specs.declared.live.LivePiece.{LivePiece}
 use Rattle.piece_table.specs.Pieces.{flying_of, is_started_stage, is_waiting_stage}
@@ -17,7 +18,7 @@ use Rattle.vg_found.specs.declared.found.Found.{Found}
 use Rattle.world_acts.specs.declared.open_line.OpenLine.{OpenLine}
 use Rattle.world_acts.specs.declared.open_line.Work.{Work}
 use Rattle.world_acts.specs.declared.state.Core.{Core}
-use Rattle.world_acts.specs.Acts.{Act, Runs, World}
+use Rattle.world_acts.specs.Acts.{Act, Runs, World, line_of_waiter, released_at}
 use Rattle.world_acts.specs.Counts.{awaited_of, is_taken}
 use Rattle.world_acts.specs.OpenLines.{Opens, left_of, open_at}
 use Rattle.world_acts.specs.Orderly.{AreReleased, IsOrderly}
@@ -72,6 +73,11 @@ NoneReady c = ready_at c.pieces.claims ≡ length c.pieces.claims.deferred
 abbrev pub AreReleasedBut : ℕ → Core → Type 0
 AreReleasedBut pv c =
     (other : ℕ) → (other == pv) ≡ false → flight_of c.waits.plan other ≡ None → (disk_waits c.waits other).served ≡ []
+
+-- the line of the first that the last flush of a disk served, and whether what that waits for lasts
+abbrev pub first_released : Core → ℕ → Option (ℕ × Bool)
+first_released c pv =
+    option_map (λ (w : Waiting). (line_of_waiter c w.waiter, nat_le w.place (marks_of c.waits.plan pv).stable)) (released_at c pv)
 
 -- nothing is left to do but to submit flushes
 pub record IsSettled (c : Core) : Type 0 where

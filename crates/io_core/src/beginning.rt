@@ -13,7 +13,7 @@ ghost use Rattle.flush_plan.specs.Plans.{marks_of};
 ghost use Rattle.line_answers.specs.declared.answer.Answer.TheVariants.{PvFailed};
 ghost use Rattle.piece_table.specs.Pieces.{claim_of, may_start};
 ghost use Rattle.world_acts.specs.declared.room.Room.{Room as RoomRecord};
-ghost use Rattle.world_acts.specs.Acts.{IsBorne, IsLost, MayBegin, Prepares, TellsDisk, world};
+ghost use Rattle.world_acts.specs.Acts.{IsBorne, IsLost, IsNewest, MayBegin, Prepares, TellsDisk, world};
 ghost use Rattle.world_acts.specs.OpenLines.{is_whole, left_of, open_at, open_of};
 ghost use Rattle.world_acts.specs.Orderly.{AreReleased, IsOrderly};
 ghost use Rattle.world_acts.specs.Rooms.{IsCounted, more, piece_room};
@@ -129,6 +129,7 @@ fn await_flushes<S: Shelf>(shelf: &S, core: &mut Core, line: u32, tickets: Vec<T
     requires other { core.old.barrier ≡ None }
     requires room { IsBorne (world (S.state shelf.now) core.old) (more core.old.owed (flushes_room (length tickets.items))) }
     requires few { left_of core.old.opens line + length tickets.items < 2 ^ 64 }
+    requires newest { IsNewest core.old line }
     ensures prepares { Prepares line [] None (world (S.state shelf.now) core.old) (world (S.state shelf.now) core.new) }
     ensures none { length tickets.items ≡ 0 → core.new ≡ core.old }
     ensures calm { IsCalm no_one (just line) core.old → IsCalm no_one (just line) core.new }
@@ -160,6 +161,7 @@ fn await_flush<S: Shelf>(shelf: &S, core: &mut Core, line: u32, pv: u32, ticket:
     requires other { core.old.barrier ≡ None }
     requires room { IsBorne (world (S.state shelf.now) core.old) (more core.old.owed (flushes_room 1)) }
     requires few { left_of core.old.opens line + 1 < 2 ^ 64 }
+    requires newest { IsNewest core.old line }
     ensures prepares { Prepares line [] None (world (S.state shelf.now) core.old) (world (S.state shelf.now) core.new) }
     ensures well { IfSome (open_of core.new.opens line).failure TellsDisk }
     ensures room { (r : RoomRecord) → IsBorne (world (S.state shelf.now) core.old) (more core.old.owed (more (flushes_room 1) r)) → IsBorne (world (S.state shelf.now) core.new) (more core.new.owed r) }
@@ -169,6 +171,7 @@ fn await_flush<S: Shelf>(shelf: &S, core: &mut Core, line: u32, pv: u32, ticket:
     ensures pieces { core.new.pieces ≡ core.old.pieces }
     ensures barrier { core.new.barrier ≡ None }
     ensures left { left_of core.new.opens line ≤ left_of core.old.opens line + 1 }
+    ensures lines { core.new.lines ≡ core.old.lines }
     ensures here { AwaitsOn core.new line pv }
     ensures others { (other : ℕ) → (pv == other) ≡ false → AwaitsOn core.old line other → AwaitsOn core.new line other }
 {
@@ -185,7 +188,7 @@ fn await_write(core: &mut Core, line: u32, pv: u32, place: u64, ticket: Ticket)
     requires owed { core.old.owed.ops + 1 < 2 ^ 64 }
     requires few { left_of core.old.opens line + 1 < 2 ^ 64 }
     ensures { ((place ≤ (marks_of core.old.waits.plan pv).stable) × (core.new ≡ core.old))
-        ⊎ ((IsLost core.old pv × (core.new ≡ after_line_fails core.old line (PvFailed pv)))
+        ⊎ ((((marks_of core.old.waits.plan pv).stable < place) × IsLost core.old pv × (core.new ≡ after_line_fails core.old line (PvFailed pv)))
         ⊎ (((marks_of core.old.waits.plan pv).ended < place) × (core.new ≡ after_awaits core.old line pv place))) }
 {
     match core.waits.awaited(pv, place) {

@@ -1,23 +1,23 @@
 //! What becomes of operations that complete.
-ghost use Rattle.std.specs.Prelude.{◌≡◌, ◌≤◌, ◌<◌, IfSome, IsTrue, None, false, if◌then◌else◌, is_some, length, true};
+ghost use Rattle.std.specs.Prelude.{◌≡◌, ◌≤◌, ◌<◌, IfSome, IsTrue, None, false, if◌then◌else◌, is_some, length, nat_le, true};
 ghost use Rattle.line_answers.specs.declared.answer.Answer.TheVariants.{PvFailed};
 ghost use Rattle.disk_model.specs.Operations.{Lies, work_of};
 ghost use Rattle.flush_plan.specs.Plans.{flight_of, marks_of};
 ghost use Rattle.flush_waits.specs.declared.ticket.Waiting.{Waiting as WaitingRecord};
 ghost use Rattle.piece_table.specs.Pieces.{flying_at, is_among, is_started};
 ghost use Rattle.piece_table.specs.Steps.{live_of};
-ghost use Rattle.world_acts.specs.Acts.{SettlesAndGoes, core_released, flushed_acts, line_released, read_acts, released_at, settling, world, written_acts};
+ghost use Rattle.world_acts.specs.Acts.{SettlesAndGoes, core_released, flushed_acts, read_acts, released_at, settling, world, written_acts};
 ghost use Rattle.world_acts.specs.OpenLines.{left_of, open_at};
 ghost use Rattle.world_acts.specs.Orderly.{AreReleased, IsOrderly, IsTidy};
 ghost use Rattle.world_acts.specs.Owners.{piece_work};
 ghost use Rattle.world_acts.specs.Volumes.{span_of};
 ghost use Rattle.world_acts.specs.Steps.{after_leaves, after_line_fails, after_marks, after_reads, after_wrote};
-ghost use Rattle.io_core.specs.Rest.{AreReleasedBut, IsCalm, Settles, just, no_one};
+ghost use Rattle.io_core.specs.Rest.{AreReleasedBut, IsCalm, Settles, first_released, just, no_one};
 
 use crate::answering::close_line;
 use crate::starting::fail;
 use disk_model::{Op, Shelf};
-use flush_waits::Waiter;
+use flush_waits::{Awaited, Waiter};
 use line_answers::Answer;
 use piece_table::Stage;
 use sector_base::Sectors;
@@ -154,21 +154,20 @@ fn leave(core: &mut Core, number: u64, pv: u32)
     core.opens.finish(line);
 }
 
-/// What the ended flush of the disk served waits no more, and where it failed so do the lines. Those of which nothing is left are
-/// answered.
+/// What the ended flush of the disk served waits no more, and lines fail that waited for what doesn't last. Those of which nothing is left
+/// are answered.
 pub(crate) fn release_all<S: Shelf>(shelf: &S, core: &mut Core, pv: u32, well: bool)
     requires orderly { IsOrderly (world (S.state shelf.now) core.old) }
     requires disk { pv < length core.old.waits.disks }
     requires ended { flight_of core.old.waits.plan pv ≡ None }
-    requires lasts { well ≡ true → (marks_of core.old.waits.plan pv).stable ≡ (marks_of core.old.waits.plan pv).ended }
     requires calm { IsCalm no_one no_one core.old }
     ensures ends { SettlesAndGoes (flushed_acts pv well) (world (S.state shelf.now) core.old) (world (S.state shelf.now) core.new) }
     ensures calm { IsCalm no_one no_one core.new }
     ensures released { AreReleasedBut pv core.old → AreReleased core.new }
 {
     note(core, pv, well);
-    while let Some(line) = release(core, pv) {
-        warn(core, line, pv, well);
+    while let Some((line, lasts)) = release(core, pv) {
+        warn(core, line, pv, lasts);
         close_line(shelf, core, line);
     }
 }
@@ -183,35 +182,44 @@ fn note(core: &mut Core, pv: u32, well: bool)
     }
 }
 
-// The line is to answer so, too.
-fn warn(core: &mut Core, line: u32, pv: u32, well: bool)
+// The line is to answer so, too, unless what it waited for lasts.
+fn warn(core: &mut Core, line: u32, pv: u32, lasts: bool)
     requires { IsTrue (is_some (open_at core.old.opens line)) }
-    ensures { core.new ≡ (if well then core.old else after_line_fails core.old line (PvFailed pv)) }
+    ensures { core.new ≡ (if lasts then core.old else after_line_fails core.old line (PvFailed pv)) }
 {
-    if !well {
+    if !lasts {
         core.opens.fail(line, Answer::PvFailed(pv));
     }
 }
 
-// The first that the disk's last flush served waits no more, if one is left. Its line comes back.
-fn release(core: &mut Core, pv: u32) -> Option<u32>
+// Whether the write at this place of the disk's lasts.
+fn is_stable(core: &Core, pv: u32, place: u64) -> bool
+    requires { pv < length core.now.waits.disks }
+    ensures { result ≡ nat_le place (marks_of core.now.waits.plan pv).stable }
+{
+    matches!(core.waits.awaited(pv, place), Awaited::Stable)
+}
+
+// The first that the disk's last flush served waits no more, if one is left. Its line comes back, and whether what it waited for lasts.
+fn release(core: &mut Core, pv: u32) -> Option<(u32, bool)>
     requires tidy { IsTidy core.old }
     requires disk { pv < length core.old.waits.disks }
     requires ended { flight_of core.old.waits.plan pv ≡ None }
-    ensures line { result ≡ line_released core.old pv }
+    ensures first { result ≡ first_released core.old pv }
     ensures behind { IfSome (released_at core.old pv) (λ (w : WaitingRecord). w.place ≤ (marks_of core.old.waits.plan pv).ended) }
     ensures after { core.new ≡ core_released core.old pv (released_at core.old pv) }
 {
     let first = core.waits.release(pv)?;
+    let lasts = is_stable(core, pv, first.place);
     match first.waiter {
         Waiter::Piece(number) => {
             let line = core.pieces.get(number).line;
             leave(core, number, pv);
-            Some(line)
+            Some((line, lasts))
         }
         Waiter::Line(line) => {
             core.opens.finish(line);
-            Some(line)
+            Some((line, lasts))
         }
     }
 }

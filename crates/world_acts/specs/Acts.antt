@@ -1,7 +1,6 @@
 -- Acts: an event is a list of them, and each adds one step of the shelf or one entry at the most.
-use Rattle.std.specs.Prelude.{◌≡◌, ◌≤◌, ◌<◌, ◌≢◌, ◌⊎◌, All, ℕ, ◌+◌, ◌==◌, Bool, true, false, not, ◌&&◌, IsTrue, List, [], ◌∷◌, length}
-use Rattle.std.specs.Prelude.{Option}
-use Rattle.std.specs.Prelude.{IfSome, None, Some, filter, is_some, option_map, slice_get}
+use Rattle.std.specs.Prelude.{◌≡◌, ◌≤◌, ◌<◌, ◌≢◌, ◌⊎◌, All, ℕ, ◌+◌, ◌==◌, Bool, true, false, not, ◌&&◌, IsTrue, List, [], ◌∷◌, ◌++◌, length}
+use Rattle.std.specs.Prelude.{IfSome, None, Option, Some, filter, is_some, option_map, slice_get}
 use Rattle.std.specs.FinSet as set
 use Rattle.std.specs.Option.{option_map_or}
 use Rattle.sector_base.specs.declared.places.Piece.{Piece}
@@ -15,7 +14,9 @@ use Rattle.disk_model.specs.State.{IsLawful, State}
 use Rattle.disk_model.specs.declared.ops.Done.{Done}
 use Rattle.disk_model.specs.declared.ops.Op.{Op}
 use Rattle.disk_model.specs.declared.ops.Op.TheVariants.{Flush, Read as ReadOp, Write as WriteOp}
-use Rattle.line_table.specs.Steps.{is_open}
+use Rattle.line_table.specs.Steps.{is_open, no_piece}
+use Rattle.line_table.specs.declared.journal.EntryKind.TheVariants as kind
+use Rattle.line_table.specs.declared.journal.JournalEntry.{JournalEntry}
 use Rattle.claim_table.specs.Claims.{IsEntry, ready_at}
 use Rattle.claim_table.specs.declared.claim.By.{By}
 use Rattle.claim_table.specs.declared.claim.Entry.{Entry}
@@ -24,7 +25,8 @@ use Rattle.flush_plan.specs.Plans.{flight_of, marks_of}
 use Rattle.flush_waits.specs.declared.ticket.Waiter.{Waiter}
 use Rattle.flush_waits.specs.declared.ticket.Waiter.TheVariants as waiter
 use Rattle.flush_waits.specs.declared.ticket.Waiting.{Waiting}
-use Rattle.flush_waits.specs.Waits.{dirty_at, disk_waits, is_wanted}
+use Rattle.flush_waits.specs.declared.waits.Awaited.TheVariants.{Lost}
+use Rattle.flush_waits.specs.Waits.{awaited, dirty_at, disk_waits, is_wanted}
 use Rattle.piece_table.specs.declared.live.Owner.{Owner}
 use Rattle.piece_table.specs.Pieces.{claim_of, flying_at, is_started, may_start, owner_at}
 use Rattle.piece_table.specs.Steps.{live_of}
@@ -178,10 +180,6 @@ TellsDisk why = (pv : ℕ) × (why ≡ PvFailed pv)
 abbrev pub IsLost : Core → ℕ → Type 0
 IsLost c pv = (set.contains c.failed pv ≡ true) ⊎ ((marks_of c.waits.plan pv).stable < (marks_of c.waits.plan pv).ended)
 
--- the answer says so of a disk that has
-abbrev pub TellsLost : Core → Answer → Type 0
-TellsLost c why = (pv : ℕ) × (why ≡ PvFailed pv) × IsLost c pv
-
 -- a line that isn't refused waits on a disk for the last write of its volume there, where no flush that has ended serves that
 pub record MayAwait (w : World) (line pv : ℕ) : Type 0 where
   pub opened : OpenLine
@@ -215,13 +213,37 @@ abbrev pub IsSettledWait : Core → ℕ → Waiting → Type 0
 IsSettledWait c pv it =
     (it.place ≤ (marks_of c.waits.plan pv).stable) ⊎ (is_some (open_of c.opens (line_of_waiter c it.waiter)).failure ≡ true)
 
--- a line may fail as a whole: it flushes its volume and isn't refused, or is the first that the last flush of a disk served, which has
--- ended
-abbrev pub MayLineFail : Core → ℕ → Type 0
-MayLineFail c line =
-    ((option_map_or (λ (l : Line). is_flush l.command) (slice_get c.lines.begun line) false ≡ true)
-    × IfSome (open_of c.opens line).failure TellsDisk)
-    ⊎ ((pv : ℕ) × (flight_of c.waits.plan pv ≡ None) × (line_released c pv ≡ Some line))
+-- nothing was entered since the line was begun
+pub record IsNewest (c : Core) (line : ℕ) : Type 0 where
+  pub older : List JournalEntry
+  pub volume : ℕ
+  pub moment : ℕ
+  pub is : c.lines.journal ≡ older ++ record { kind = kind.Begun; line = line; piece = no_piece volume; moment = moment } ∷ []
+
+-- a line that was just begun, flushes its volume and isn't refused may fail by a disk: the volume's last write there doesn't last
+pub record FlushMayFail (c : Core) (line pv : ℕ) : Type 0 where
+  pub flushes : option_map_or (λ (l : Line). is_flush l.command) (slice_get c.lines.begun line) false ≡ true
+  pub well : IfSome (open_of c.opens line).failure TellsDisk
+  pub newest : IsNewest c line
+  pub disk : pv < length c.waits.disks
+  pub unstable : (marks_of c.waits.plan pv).stable < dirty_at c.waits (open_of c.opens line).key pv
+
+-- a line may fail by the disk whose last flush, which has ended, served it first: what it waits for is behind no flush that did well
+pub record WaitMayFail (c : Core) (line pv : ℕ) : Type 0 where
+  pub ended : flight_of c.waits.plan pv ≡ None
+  pub first : line_released c pv ≡ Some line
+  pub lost : IfSome (released_at c pv) (λ w. awaited c.waits pv w.place ≡ Lost)
+
+-- a line may fail as a whole by a disk
+abbrev pub MayLineFail : Core → ℕ → ℕ → Type 0
+MayLineFail c line pv = FlushMayFail c line pv ⊎ WaitMayFail c line pv
+
+-- it fails for a disk that has failed
+pub record FailsBy (c : Core) (line : ℕ) (why : Answer) : Type 0 where
+  pub pv : ℕ
+  pub is : why ≡ PvFailed pv
+  pub lost : IsLost c pv
+  pub may : MayLineFail c line pv
 
 -- when an act may be
 abbrev pub Allowed : World → Act → Type 0
@@ -229,7 +251,7 @@ Allowed w (Begins line opened) = MayBegin w opened
 Allowed w (Enters line piece sectors ticket entry) =
     MayEnter w line piece sectors ticket × IsEntry w.core.pieces.claims (claim_of w.core.pieces.next piece None) entry
 Allowed w (Awaits line pv) = MayAwait w line pv
-Allowed w (LineFails line why) = IsTrue (is_some (open_at w.core.opens line)) × TellsLost w.core why × MayLineFail w.core line
+Allowed w (LineFails line why) = IsTrue (is_some (open_at w.core.opens line)) × FailsBy w.core line why
 Allowed w (Answers line) = IsTrue (is_some (open_at w.core.opens line)) × (left_of w.core.opens line ≡ 0) × (w.core.barrier ≢ Some line)
 Allowed w (Holds line) = (w.core.barrier ≡ None) × IsBarrier w.core.opens line
 Allowed w (Passes line) = (w.core.barrier ≡ Some line) × (length (filter is_open w.core.lines.answers) ≤ 1)

@@ -254,26 +254,27 @@ module _ {start : ℕ} {coming : ℕ → ℕ → ℕ} {w : World} {es : List Chr
 
   may_lose : (o : IsOrderly w) (n : ℕ) (x : OpenLine) (at : open_at c.opens n ≡ Some x)
       (l : LineTold (coming n) c.pieces.lives c.waits.disks es n x)
-      → MayLineFail c n
+      → (pv : ℕ)
+      → MayLineFail c n pv
       → MayLose l.0.0.command x.failure
-  may_lose o n x at l (inl may) =
+  may_lose o n x at l pv (inl may) =
       let flushes : is_flush l.0.0.command ≡ true =
-      sym (ap (λ (y : Option Line). option_map_or (λ z. is_flush z.command) y false) (line_begun n l.0 l.1)) ∙ may.0 in
-      let well : IfSome x.failure TellsDisk = subst (λ (y : OpenLine). IfSome y.failure TellsDisk) (open_is c.opens n x at) may.1 in
+      sym (ap (λ (y : Option Line). option_map_or (λ z. is_flush z.command) y false) (line_begun n l.0 l.1)) ∙ may.flushes in
+      let well : IfSome x.failure TellsDisk = subst (λ (y : OpenLine). IfSome y.failure TellsDisk) (open_is c.opens n x at) may.well in
       flush_loses l.0.0.command x.failure flushes (not_still l.0.0.command x.failure flushes well)
-  may_lose o n x at l (inr may) = by (served_first may.0 (some_released (released_at c may.0) may.2))
+  may_lose o n x at l pv (inr may) = by (served_first pv (some_released (released_at c pv) may.first))
     where
       some_released : (r : Option Waiting) → option_map (λ (it : Waiting). line_of_waiter c it.waiter) r ≡ Some n → is_some r ≡ true
       some_released None is = absurd (none-some n is)
       some_released (Some it) is = refl
 
-      of : (it : Waiting) → IsServed may.0 it → (who : Waiter) → it.waiter ≡ who → line_of_waiter c who ≡ n
+      of : (it : Waiting) → IsServed pv it → (who : Waiter) → it.waiter ≡ who → line_of_waiter c who ≡ n
           → MayLose l.0.0.command x.failure
       of it served (waiter.Line k) who same =
-          let some = waiting_line may.0 n it served (who ∙ ap waiter.Line same) in
+          let some = waiting_line pv n it served (who ∙ ap waiter.Line same) in
           let waits : IsStill l.0.0.command x.failure → ⊥ = λ still. (let none = l.2.still still in omega (arith, some, none)) in
           flush_loses l.0.0.command x.failure (waits_flushes l.0.0.command x.failure waits) waits
-      of it served (waiter.Piece number) who same = taken (taken_piece o may.0 number it served who)
+      of it served (waiter.Piece number) who same = taken (taken_piece o pv number it served who)
         where
           taken : (awaited : ℕ) × PieceAt c.pieces.lives number (Taken awaited) → MayLose l.0.0.command x.failure
           taken p =
@@ -305,11 +306,11 @@ module _ {start : ℕ} {coming : ℕ → ℕ → ℕ} {w : World} {es : List Chr
               loss_of Write failure piece does part = does.2
               loss_of (Whole a) failure piece does part = absurd part
 
-      by : (it : Waiting) × IsServed may.0 it → MayLose l.0.0.command x.failure
+      by : (it : Waiting) × IsServed pv it → MayLose l.0.0.command x.failure
       by s =
           of s.0 s.1 s.0.waiter refl
           (same_Some (line_of_waiter c s.0.waiter) n
-          (sym (ap (λ (y : Option Waiting). option_map (λ (it : Waiting). line_of_waiter c it.waiter) y) s.1.first) ∙ may.2))
+          (sym (ap (λ (y : Option Waiting). option_map (λ (it : Waiting). line_of_waiter c it.waiter) y) s.1.first) ∙ may.first))
 
   -- it still does what it did
   lost_does : (command : Command) (key : Option ℕ) (work : Work) (failure : Option Answer) (b : Bool) (pv : ℕ) → MayLose command failure
@@ -377,8 +378,8 @@ module _ {start : ℕ} {coming : ℕ → ℕ → ℕ} {w : World} {es : List Chr
       → IsTold start coming (after w (LineFails line why)) es
   line_fail_told o line why allowed =
       let found : (x : OpenLine) × (open_at c.opens line ≡ Some x) = some_of (open_at c.opens line) allowed.0 in
-      subst (λ (a : Answer). IsTold start coming (after w (LineFails line a)) es) (sym allowed.1.1)
-      (fails found.0 found.1 allowed.1.0)
+      subst (λ (a : Answer). IsTold start coming (after w (LineFails line a)) es) (sym allowed.1.is)
+      (fails found.0 found.1 allowed.1.pv)
     where
       line_of : (x : OpenLine) → open_at c.opens line ≡ Some x → (pv n : ℕ) (y : OpenLine)
           → Standing line n (Some (record x { failure = cond (is_pv_failed x.failure) x.failure (Some (answer.PvFailed pv)) })) c.opens y
@@ -387,7 +388,7 @@ module _ {start : ℕ} {coming : ℕ → ℕ → ℕ} {w : World} {es : List Chr
           subst (λ (z : OpenLine). LineTold (coming n) c.pieces.lives c.waits.disks es n z) (same_Some _ y is)
           (subst (λ (k : ℕ). LineTold (coming k) c.pieces.lives c.waits.disks es k
           (record x { failure = cond (is_pv_failed x.failure) x.failure (Some (answer.PvFailed pv)) })) same
-          (lost_told line x pv (t.lines line x at) (may_lose o line x at (t.lines line x at) allowed.2)))
+          (lost_told line x pv (t.lines line x at) (may_lose o line x at (t.lines line x at) allowed.1.pv allowed.1.may)))
       line_of x at pv n y (elsewhere apart is) = t.lines n y is
 
       fails : (x : OpenLine) → open_at c.opens line ≡ Some x → (pv : ℕ)

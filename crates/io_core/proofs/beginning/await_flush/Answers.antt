@@ -21,6 +21,7 @@ dirty-last-requires g c = record {
         other = c.requires.other;
         room = c.requires.room;
         few = c.requires.few;
+        newest = c.requires.newest;
       }) c.get.ensures;
 }
 
@@ -51,6 +52,7 @@ returns g c =
       other = c.requires.other;
       room = c.requires.room;
       few = c.requires.few;
+      newest = c.requires.newest;
     })
     (key ∙ ap (λ (o : OpenLine). dirty_at w.core.waits o.key c.args.pv)
     (sym (open_is w.core.opens c.args.line c.get.result.now c.get.ensures))) c.await_write.ensures in
@@ -63,6 +65,7 @@ returns g c =
       opens = is.opens;
       pieces = is.pieces;
       barrier = is.barrier ∙ c.requires.other;
+      lines = is.lines;
       left = is.left;
       here = is.here;
       others = is.others;

@@ -15,6 +15,7 @@ loop-ticket-init g c =
       other = c.requires.other;
       room = c.requires.room;
       few = c.requires.few;
+      newest = c.requires.newest;
     })
 
 pub await_flush-requires : goal.await_flush-requires
@@ -33,6 +34,7 @@ await_flush-requires g c =
       other = c.requires.other;
       room = c.requires.room;
       few = c.requires.few;
+      newest = c.requires.newest;
     }) next c.loop-ticket.invariant in
     record {
       orderly = is.orderly;
@@ -45,6 +47,7 @@ await_flush-requires g c =
       other = is.other;
       room = is.room;
       few = is.few;
+      newest = is.newest;
     }
 
 pub loop-ticket-preserved : goal.loop-ticket-preserved
@@ -66,6 +69,7 @@ loop-ticket-preserved g c =
       opens = is.opens;
       pieces = is.pieces;
       barrier = is.barrier ∙ sym c.loop-ticket.invariant.has.barrier;
+      lines = is.lines;
       left = is.left;
       here = is.here;
       others = is.others;

@@ -10,7 +10,15 @@ await_flushes-requires g c =
     let w : World = world (g.S.Shelf.state c.args.shelf.now) c.args.core.now in
     let is : MayAwaitFlushes w c.args.line (length c.args.tickets.items) =
     first_waits w c.args.line c.args.pieces.items (length c.args.tickets.items) c.requires.may in
-    record { orderly = is.orderly; opened = is.opened; tickets = is.tickets; other = is.other; room = is.room; few = is.few }
+    record {
+      orderly = is.orderly;
+      opened = is.opened;
+      tickets = is.tickets;
+      other = is.other;
+      room = is.room;
+      few = is.few;
+      newest = is.newest;
+    }
 
 pub enter_pieces-first-requires : goal.enter_pieces-first-requires
 enter_pieces-first-requires g c =

@@ -1,4 +1,4 @@
-use Rattle.std.proofs.Common.{◌≡◌, ◌<◌, Option, Some, IfSome, is_some, sym, ap, subst, ◌∙◌}
+use Rattle.std.proofs.Common.{◌≡◌, ◌<◌, nat_le, Option, Some, IfSome, is_some, sym, ap, subst, ◌∙◌}
 use Rattle.std.specs.Option.{option_map_or}
 use Rattle.flush_plan.specs.Plans.{marks_of}
 use Rattle.flush_waits.specs.declared.ticket.Waiter.TheVariants.{Line, Piece}
@@ -12,7 +12,8 @@ use Rattle.world_acts.specs.OpenLines.{left_of}
 use Rattle.world_acts.specs.Steps.{after_leaves}
 use Rattle.io_core.proofs.LiveLines.{left_tidy}
 use Rattle.io_core.proofs.PieceAsks.{live_is}
-use Rattle.io_core.proofs.Released.{IsUpTo, released_as, released_line, released_piece, unserved_release}
+use Rattle.io_core.proofs.FirstReleased.{IsUpTo, released_first}
+use Rattle.io_core.proofs.Released.{released_as, released_line, released_piece, unserved_release}
 use Rattle.io_core.proofs.ending.release.Goals as goal
 
 pub get-requires : goal.get-requires
@@ -48,8 +49,13 @@ returns-in-Piece c =
     let core : Core = c.args.core.now in
     let p = released_as core c.args.pv c.in_ok-first.first (Piece c.in-Piece.number) c.in_ok-first.ensures.first c.in-Piece.is in
     record {
-      line =
-          ap (λ (l : LivePiece). Some l.line) (sym (live_is core.pieces c.in-Piece.number c.get.result.now c.get.ensures)) ∙ p.1;
+      first =
+          ap (λ (l : LivePiece). Some (l.line, c.is_stable-lasts.result))
+          (sym (live_is core.pieces c.in-Piece.number c.get.result.now c.get.ensures))
+          ∙ released_first core c.args.pv c.in_ok-first.first (Piece c.in-Piece.number) c.is_stable-lasts.result c.in_ok-first.ensures.first
+          c.in-Piece.is
+          (c.is_stable-lasts.ensures
+          ∙ ap (λ (x : Waits). nat_le c.in_ok-first.first.place (marks_of x.plan c.args.pv).stable) c.release.ensures.after);
       behind =
           subst (λ (x : Option Waiting). IfSome x (IsUpTo (marks_of core.waits.plan c.args.pv).ended)) c.in_ok-first.ensures.first
           c.in_ok-first.ensures.behind;
@@ -63,7 +69,11 @@ returns-in-Line c =
     let core : Core = c.args.core.now in
     let p = released_as core c.args.pv c.in_ok-first.first (Line c.in-Line.line) c.in_ok-first.ensures.first c.in-Line.is in
     record {
-      line = p.1;
+      first =
+          released_first core c.args.pv c.in_ok-first.first (Line c.in-Line.line) c.is_stable-lasts.result c.in_ok-first.ensures.first
+          c.in-Line.is
+          (c.is_stable-lasts.ensures
+          ∙ ap (λ (x : Waits). nat_le c.in_ok-first.first.place (marks_of x.plan c.args.pv).stable) c.release.ensures.after);
       behind =
           subst (λ (x : Option Waiting). IfSome x (IsUpTo (marks_of core.waits.plan c.args.pv).ended)) c.in_ok-first.ensures.first
           c.in_ok-first.ensures.behind;

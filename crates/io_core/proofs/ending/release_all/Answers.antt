@@ -1,8 +1,5 @@
-use Rattle.std.proofs.Common.{◌≡◌, ◌≤◌, ◌<◌, ℕ, List, None, [], false, nat_eq, length, get_or, sym, ap, subst, ◌∙◌, arith}
-use Rattle.std.specs.FinSet as set
-use Rattle.std.specs.Ordering.{nat_cmp}
-use Rattle.flush_plan.specs.declared.records.Marks.{Marks}
-use Rattle.flush_plan.specs.Plans.{flight_of, marks_of, no_marks}
+use Rattle.std.proofs.Common.{◌≡◌, ◌≤◌, ◌<◌, ℕ, List, None, [], false, nat_eq, length, sym, subst, ◌∙◌, arith}
+use Rattle.flush_plan.specs.Plans.{flight_of}
 use Rattle.flush_waits.specs.Waits.{Waits, disk_waits}
 use Rattle.world_acts.specs.declared.state.Core.{Core}
 use Rattle.world_acts.specs.Acts.{Act, SettlesAndGoes, World, flushed_acts, follows, world}
@@ -10,6 +7,7 @@ use Rattle.world_acts.specs.Orderly.{AreReleased, IsOrderly}
 use Rattle.world_acts.proofs.Orderly.{orderly_reaches}
 use Rattle.world_acts.proofs.Reaching.{reaches_both, reaches_none, settled_further}
 use Rattle.io_core.specs.Rest.{IsCalm, no_one}
+use Rattle.io_core.proofs.FirstReleased.{first_line, none_first}
 use Rattle.io_core.proofs.Released.{IsMarked, ReleasesOne, WaitsLess, WarnsOne, all_released, is_marked, marked_orderly, marked_runs}
 use Rattle.io_core.proofs.Released.{released_none, releases_one, served_none, served_some, stays_but, waits_less, warned}
 use Rattle.io_core.proofs.ending.release_all.Goals as goal
@@ -26,8 +24,8 @@ loop-line-init g c =
     let s = g.S.Shelf.state c.args.shelf.now in
     let core : Core = c.args.core.now in
     let pv : ℕ = c.args.pv in
-    let m : IsMarked pv c.args.well core c.note.new.core =
-    subst (λ (x : Core). IsMarked pv c.args.well core x) (sym c.note.ensures) (is_marked core pv c.args.well) in
+    let m : IsMarked core c.note.new.core =
+    subst (λ (x : Core). IsMarked core x) (sym c.note.ensures) (is_marked core pv c.args.well) in
     let many : length core.waits.disks ≡ length s.sizes = c.requires.orderly.backed.places.many in
     let disk : pv < length s.sizes = omega (arith, c.requires.disk, many) in
     let acts : List Act = flushed_acts pv c.args.well in
@@ -39,9 +37,6 @@ loop-line-init g c =
         calm = m.calm c.requires.calm;
         disk = subst (λ (x : Waits). pv < length x.disks) (sym m.waits) c.requires.disk;
         ended = subst (λ (x : Waits). flight_of x.plan pv ≡ None) (sym m.waits) c.requires.ended;
-        lasts =
-            λ t. subst (λ (x : Waits). (marks_of x.plan pv).stable ≡ (marks_of x.plan pv).ended) (sym m.waits) (c.requires.lasts t);
-        lost = m.lost;
       };
       ends =
           subst (λ (x : Core). SettlesAndGoes acts (world s core) (world s x)) (sym c.note.ensures)
@@ -60,7 +55,8 @@ warn-requires g c =
     let kept = c.loop-line.invariant in
     let r : ReleasesOne w c.args.pv c.in-Some.line (world w.shelf c.release.new.core) =
     subst (λ (x : Core). ReleasesOne w c.args.pv c.in-Some.line (world w.shelf x)) (sym c.in-Some.ensures.after)
-    (releases_one w c.args.pv c.in-Some.line kept.may.orderly kept.may.disk c.in-Some.ensures.line kept.may.calm) in
+    (releases_one w c.args.pv c.in-Some.line kept.may.orderly kept.may.disk
+    (first_line w.core c.args.pv c.in-Some.line c.in-Some.lasts c.in-Some.ensures.first) kept.may.calm) in
     r.opened
 
 pub close_line-requires-clause-orderly : goal.close_line-requires-clause-orderly
@@ -69,7 +65,7 @@ close_line-requires-clause-orderly g c =
     let kept = c.loop-line.invariant in
     let q : WarnsOne w c.args.pv c.in-Some.line (world w.shelf c.warn.new.core) =
     subst (λ (x : Core). WarnsOne w c.args.pv c.in-Some.line (world w.shelf x)) (sym c.warn.ensures)
-    (warned w c.args.pv c.in-Some.line c.release.new.core c.args.well kept.may c.in-Some.ensures.line c.in-Some.ensures.behind
+    (warned w c.args.pv c.in-Some.line c.release.new.core c.in-Some.lasts kept.may c.in-Some.ensures.first c.in-Some.ensures.behind
     c.in-Some.ensures.after) in
     orderly_reaches q.reaches kept.may.orderly
 
@@ -79,7 +75,7 @@ close_line-requires-clause-opened g c =
     let kept = c.loop-line.invariant in
     let q : WarnsOne w c.args.pv c.in-Some.line (world w.shelf c.warn.new.core) =
     subst (λ (x : Core). WarnsOne w c.args.pv c.in-Some.line (world w.shelf x)) (sym c.warn.ensures)
-    (warned w c.args.pv c.in-Some.line c.release.new.core c.args.well kept.may c.in-Some.ensures.line c.in-Some.ensures.behind
+    (warned w c.args.pv c.in-Some.line c.release.new.core c.in-Some.lasts kept.may c.in-Some.ensures.first c.in-Some.ensures.behind
     c.in-Some.ensures.after) in
     q.one.opened
 
@@ -89,7 +85,7 @@ close_line-requires-clause-other g c =
     let kept = c.loop-line.invariant in
     let q : WarnsOne w c.args.pv c.in-Some.line (world w.shelf c.warn.new.core) =
     subst (λ (x : Core). WarnsOne w c.args.pv c.in-Some.line (world w.shelf x)) (sym c.warn.ensures)
-    (warned w c.args.pv c.in-Some.line c.release.new.core c.args.well kept.may c.in-Some.ensures.line c.in-Some.ensures.behind
+    (warned w c.args.pv c.in-Some.line c.release.new.core c.in-Some.lasts kept.may c.in-Some.ensures.first c.in-Some.ensures.behind
     c.in-Some.ensures.after) in
     q.one.other
 
@@ -99,27 +95,21 @@ loop-line-preserved g c =
     let kept = c.loop-line.invariant in
     let q : WarnsOne w c.args.pv c.in-Some.line (world w.shelf c.warn.new.core) =
     subst (λ (x : Core). WarnsOne w c.args.pv c.in-Some.line (world w.shelf x)) (sym c.warn.ensures)
-    (warned w c.args.pv c.in-Some.line c.release.new.core c.args.well kept.may c.in-Some.ensures.line c.in-Some.ensures.behind
+    (warned w c.args.pv c.in-Some.line c.release.new.core c.in-Some.lasts kept.may c.in-Some.ensures.first c.in-Some.ensures.behind
     c.in-Some.ensures.after) in
     let first : World = world w.shelf c.args.core.now in
     let z : World = world w.shelf c.close_line.new.core in
     let less : WaitsLess w.core.waits z.core.waits c.args.pv =
     subst (λ (x : Waits). WaitsLess w.core.waits x c.args.pv) (sym c.close_line.ensures.waits)
     (waits_less w.core.waits c.warn.new.core.waits c.args.pv kept.may.disk kept.may.ended
-    (served_some w.core c.args.pv c.in-Some.line c.in-Some.ensures.line) q.one.flights q.one.disks) in
-    let marks : z.core.waits.plan.marks ≡ w.core.waits.plan.marks =
-    ap (λ (x : Waits). x.plan.marks) c.close_line.ensures.waits ∙ q.one.marks in
+    (served_some w.core c.args.pv c.in-Some.line
+    (first_line w.core c.args.pv c.in-Some.line c.in-Some.lasts c.in-Some.ensures.first)) q.one.flights q.one.disks) in
     record {
       may = record {
         orderly = orderly_reaches c.close_line.ensures.reaches (orderly_reaches q.reaches kept.may.orderly);
         calm = c.close_line.ensures.calm q.one.calm;
         disk = less.disk;
         ended = less.ended;
-        lasts =
-            λ t. subst (λ (l : List Marks). (get_or l c.args.pv no_marks).stable ≡ (get_or l c.args.pv no_marks).ended) (sym marks)
-            (kept.may.lasts t);
-        lost =
-            λ f. ap (λ (x : set.FinSet nat_cmp). set.contains x c.args.pv) (c.close_line.ensures.failed ∙ q.one.failed) ∙ kept.may.lost f;
       };
       ends =
           settled_further first w z kept.ends
@@ -133,12 +123,13 @@ loop-line-smaller g c =
     let kept = c.loop-line.invariant in
     let q : WarnsOne w c.args.pv c.in-Some.line (world w.shelf c.warn.new.core) =
     subst (λ (x : Core). WarnsOne w c.args.pv c.in-Some.line (world w.shelf x)) (sym c.warn.ensures)
-    (warned w c.args.pv c.in-Some.line c.release.new.core c.args.well kept.may c.in-Some.ensures.line c.in-Some.ensures.behind
+    (warned w c.args.pv c.in-Some.line c.release.new.core c.in-Some.lasts kept.may c.in-Some.ensures.first c.in-Some.ensures.behind
     c.in-Some.ensures.after) in
     let less : WaitsLess w.core.waits c.close_line.new.core.waits c.args.pv =
     subst (λ (x : Waits). WaitsLess w.core.waits x c.args.pv) (sym c.close_line.ensures.waits)
     (waits_less w.core.waits c.warn.new.core.waits c.args.pv kept.may.disk kept.may.ended
-    (served_some w.core c.args.pv c.in-Some.line c.in-Some.ensures.line) q.one.flights q.one.disks) in
+    (served_some w.core c.args.pv c.in-Some.line
+    (first_line w.core c.args.pv c.in-Some.line c.in-Some.lasts c.in-Some.ensures.first)) q.one.flights q.one.disks) in
     less.fewer
 
 pub returns : goal.returns
@@ -146,11 +137,14 @@ returns g c =
     let s = g.S.Shelf.state c.args.shelf.now in
     let core : Core = c.loop-line.core in
     let kept = c.loop-line.invariant in
-    let same : c.release.new.core ≡ core = c.in_default.ensures.after ∙ released_none core c.args.pv c.in_default.ensures.line in
+    let same : c.release.new.core ≡ core =
+    c.in_default.ensures.after
+    ∙ released_none core c.args.pv (none_first core c.args.pv c.in_default.ensures.first) in
     record {
       ends = subst (λ (x : Core). SettlesAndGoes (flushed_acts c.args.pv c.args.well) (world s c.args.core.now) (world s x)) (sym same) kept.ends;
       calm = subst (λ (x : Core). IsCalm no_one no_one x) (sym same) kept.may.calm;
       released =
           λ are. subst (λ (x : Core). AreReleased x) (sym same)
-          (all_released core c.args.pv (served_none core c.args.pv c.in_default.ensures.line) (kept.released are));
+          (all_released core c.args.pv
+          (served_none core c.args.pv (none_first core c.args.pv c.in_default.ensures.first)) (kept.released are));
     }

@@ -7,7 +7,7 @@ use Rattle.io_core.proofs.ending.release_all.Given as goal
 
 abbrev pub invariant-loop-line : goal.invariant-loop-line
 invariant-loop-line g l = record {
-  may : MayRelease (world (g.S.Shelf.state l.shelf) l.core) l.pv l.well;
+  may : MayRelease (world (g.S.Shelf.state l.shelf) l.core) l.pv;
   ends : SettlesAndGoes (flushed_acts l.pv l.well) (world (g.S.Shelf.state l.shelf) l.fn.core) (world (g.S.Shelf.state l.shelf) l.core);
   released : AreReleasedBut l.pv l.fn.core → AreReleasedBut l.pv l.core;
 }

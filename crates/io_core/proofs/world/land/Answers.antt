@@ -18,8 +18,8 @@ pub release_all-requires : goal.release_all-requires
 release_all-requires g c =
     let r = ends_flush c.requires.0 (g.S.Shelf.state c.args.shelf.now) c.args.core.now c.args.done c.in-Flush.pv c.lands.new.self
     c.ended.new.self c.requires.1 c.requires.2 (g.met.S.Shelf.lawful c.args.shelf.now) (sym c.in-None.ensures.owner) c.in-Flush.is
-    c.in-None.ensures.after c.ended.ensures.after c.ended.ensures.none c.ended.ensures.stable in
-    record { orderly = r.orderly; disk = r.disk; ended = r.ended; lasts = r.lasts; calm = r.calm }
+    c.in-None.ensures.after c.ended.ensures.after c.ended.ensures.none in
+    record { orderly = r.orderly; disk = r.disk; ended = r.ended; calm = r.calm }
 
 pub unreachable-requires : goal.unreachable-requires
 unreachable-requires g c =
@@ -50,4 +50,4 @@ returns-in-Flush-clause-released g c =
     c.release_all.ensures.released
     (ends_flush c.requires.0 (g.S.Shelf.state c.args.shelf.now) c.args.core.now c.args.done c.in-Flush.pv c.lands.new.self c.ended.new.self
     c.requires.1 c.requires.2 (g.met.S.Shelf.lawful c.args.shelf.now) (sym c.in-None.ensures.owner) c.in-Flush.is c.in-None.ensures.after
-    c.ended.ensures.after c.ended.ensures.none c.ended.ensures.stable).released
+    c.ended.ensures.after c.ended.ensures.none).released
