@@ -3,7 +3,7 @@ pub mod OneLine
 mod OpenTold
 mod PieceSettles
 mod Quiet
-mod Stages
+pub mod Stages
 pub mod ShortActs
 pub mod PieceActs
 pub mod LineActs
@@ -13,6 +13,7 @@ mod Passed
 mod Covering
 pub mod LineBegun
 pub mod Acts
+pub mod Both
 pub mod Lines
 pub mod Events
 pub mod Runs

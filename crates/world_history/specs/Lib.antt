@@ -7,3 +7,4 @@ pub mod Apart
 pub mod Contents
 pub mod Flushing
 pub mod Faults
+pub mod Causes
