@@ -114,7 +114,7 @@ started w number o is =
     let it = started_at w.core.pieces.lives number is in at_stage w number (Started it.0 it.1) o it.2 refl
 
 -- one of which an operation is in flight
-flying : (w : World) (tag : ℕ) → IsOrderly w → is_some (owner_at w.core.pieces.owners tag) ≡ true → HasFree w (piece_at w.core tag)
+pub flying : (w : World) (tag : ℕ) → IsOrderly w → is_some (owner_at w.core.pieces.owners tag) ≡ true → HasFree w (piece_at w.core tag)
 flying w tag o some =
     let c : Core = w.core in
     let owns : (x : Owner) × (owner_at c.pieces.owners tag ≡ Some x) = some_of (owner_at c.pieces.owners tag) some in

@@ -38,11 +38,11 @@ begun_before begun line n lt =
 
 module _ (w : World) (line : Line) (opened : OpenLine) (barrier : Option ℕ) (o : IsOrderly w) where
   -- with another line that waits for all others, or none
-  abbrev begins : Core
+  abbrev pub begins : Core
   begins = record (after_begins w.core line opened w.shelf.steps) { barrier = barrier }
 
   -- as many were begun as are known
-  many : length w.core.opens.list ≡ length w.core.lines.begun
+  pub many : length w.core.opens.list ≡ length w.core.lines.begun
   many =
       let c : Core = w.core in
       let here : length (map is_some c.opens.list) ≡ length c.opens.list = length-map c.opens.list is_some in
@@ -64,12 +64,12 @@ module _ (w : World) (line : Line) (opened : OpenLine) (barrier : Option ℕ) (o
   flushes_before n lt =
       ap (λ (x : Option Line). option_map_or (λ (l : Line). is_flush l.command) x false) (begun_before w.core.lines.begun line n lt)
 
-  open_before : (n : ℕ) → n < length w.core.lines.begun → open_at begins.opens n ≡ open_at w.core.opens n
+  pub open_before : (n : ℕ) → n < length w.core.lines.begun → open_at begins.opens n ≡ open_at w.core.opens n
   open_before n lt =
       let long = many in get_or_append_left w.core.opens.list (Some opened ∷ []) None n (omega (arith, lt, long))
 
   -- an open line is the new one, or was begun before
-  was_begun : (n : ℕ) (p : OpenLine) → open_at begins.opens n ≡ Some p → nat_eq n (length w.core.lines.begun) ≡ false
+  pub was_begun : (n : ℕ) (p : OpenLine) → open_at begins.opens n ≡ Some p → nat_eq n (length w.core.lines.begun) ≡ false
       → n < length w.core.lines.begun
   was_begun n p at other =
       let lt : n < length begins.opens.list = open_within begins.opens n p at in

@@ -1,6 +1,6 @@
 -- An operation of a piece has completed, and what it came to is settled: each sector is tracked then.
 use Rattle.std.proofs.Common.{◌++◌, ◌+◌, ◌∙◌, ◌∷◌, ◌≡◌, ℕ, [], Bool, IfSome, List, Option, Some, ap, false, is_some, length, option_map}
-use Rattle.std.proofs.Common.{refl, subst, sym, true, true≢false}
+use Rattle.std.proofs.Common.{refl, subst, sym, true}
 use Rattle.std.proofs.lemmas.Bool.{cond_both}
 use Rattle.std.proofs.lemmas.Option.{same_Some}
 use Rattle.sector_base.specs.declared.places.Piece.{Piece}
@@ -9,7 +9,7 @@ use Rattle.line_answers.specs.declared.answer.Answer.{Answer}
 use Rattle.line_answers.specs.declared.answer.Answer.TheVariants.{PvFailed, ReadFailed}
 use Rattle.disk_model.specs.Operations.{work_of}
 use Rattle.disk_model.specs.State.{State}
-use Rattle.disk_model.specs.Steps.{Completed, Flushing, Reading, Record, Step, Work as DiskWork, Writing, step_on}
+use Rattle.disk_model.specs.Steps.{Completed, Record, Step, step_on}
 use Rattle.disk_model.specs.declared.ops.Done.{Done}
 use Rattle.disk_model.specs.declared.ops.Op.{Op}
 use Rattle.disk_model.specs.declared.ops.Op.TheVariants.{Flush as FlushOp, Read as ReadOp, Write as WriteOp}
@@ -25,7 +25,6 @@ use Rattle.volume_history.specs.Legal.{AllOrdered, IsOrdered}
 use Rattle.world_places.specs.Lives.{Written}
 use Rattle.world_acts.specs.Acts.{Act, Allowed, Ends, Fails, Marks, Reads, Runs, World, Writes, after, settling}
 use Rattle.world_acts.specs.Orderly.{IsOrderly}
-use Rattle.world_acts.specs.Owners.{line_of, values_of}
 use Rattle.world_acts.specs.Steps.{after_leaves, after_stays, after_written}
 use Rattle.world_acts.specs.Volumes.{IsPlaced, span_of}
 use Rattle.world_acts.specs.declared.state.Core.{Core}
@@ -41,7 +40,7 @@ use Rattle.world_history.proofs.Contents.Keyed.{places_differ}
 use Rattle.world_history.proofs.Contents.Standing.{stands_in}
 use Rattle.world_tracks.specs.Tracks.{AreTracked, PlaceLaws}
 use Rattle.world_tracks.proofs.EndedBadly.{lost_tracked}
-use Rattle.world_tracks.proofs.EndedFacts.{EndedBy, ended_by, keeps_fails, keeps_reads, keeps_writes, live_ended, lives_settled}
+use Rattle.world_tracks.proofs.EndedFacts.{EndedBy, ended_by, keeps_fails, keeps_reads, keeps_writes, live_ended, lives_settled, no_flush}
 use Rattle.world_tracks.proofs.EndedRead.{read_tracked, unread_tracked}
 use Rattle.world_tracks.proofs.EndedWell.{well_tracked}
 use Rattle.world_tracks.proofs.NewNote.{note_of}
@@ -189,16 +188,6 @@ module _ (laws : PlaceLaws) (grow : HistoriesGrow) (b : Origin) {w : World} {es 
 
   -- ---- whatever it came to
 
-  no_flush : (pv : ℕ) → done.op ≡ FlushOp pv → ⊥
-  no_flush pv op =
-      cond_both live.piece.write (Writing (span_of w.core.volumes live.piece) (values_of (line_of w.core live) live.piece))
-      (Reading (span_of w.core.volumes live.piece)) (λ (k : DiskWork). Flushing pv ≡ k → ⊥)
-      (λ writes same. true≢false (ap flushes same)) (λ reads same. true≢false (ap flushes same)) (sym (ap work_of op) ∙ x.piece.did)
-    where
-      flushes : DiskWork → Bool
-      flushes (Flushing pv) = true
-      flushes k = false
-
   pub ended_tracked : (mid : World) → Runs (after w (Ends done now)) (settling number done.op done.well) mid
       → AllOrdered b.start (entries_by (after w (Ends done now)) (settling number done.op done.well) es)
       → AreTracked b (step_on (Completed done.tag (work_of done.op) done.well may.0.told.0) c.told) mid.core
@@ -222,7 +211,7 @@ module _ (laws : PlaceLaws) (grow : HistoriesGrow) (b : Origin) {w : World} {es 
       by (ReadOp span sectors) false is bad run ordered =
           subst (λ (v : World). AreTracked b told v.core (entries_by w1 (Fails number (ReadFailed span.pv) ∷ []) es) notes) (sym run.1)
           (unread span sectors is (ReadFailed span.pv) run.0)
-      by (FlushOp pv) well is done run ordered = absurd (no_flush pv is)
+      by (FlushOp pv) well is done run ordered = absurd (no_flush o may x pv is)
 
   -- the same of what the shelf has told then
   pub ended_keeps : (mid : World) → Runs (after w (Ends done now)) (settling number done.op done.well) mid

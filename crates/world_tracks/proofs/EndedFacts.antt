@@ -9,8 +9,9 @@ use Rattle.line_answers.specs.declared.answer.Answer.{Answer}
 use Rattle.lvm_script.specs.declared.line.Line.{Line}
 use Rattle.disk_model.specs.Operations.{work_of}
 use Rattle.disk_model.specs.State.{State}
-use Rattle.disk_model.specs.Steps.{Record}
+use Rattle.disk_model.specs.Steps.{Flushing, Reading, Record, Work as DiskWork, Writing}
 use Rattle.disk_model.specs.declared.ops.Done.{Done}
+use Rattle.disk_model.specs.declared.ops.Op.TheVariants.{Flush as FlushOp}
 use Rattle.flush_plan.specs.Plans.{marks_of}
 use Rattle.piece_table.specs.Pieces.{flying_at, live_at, owner_at}
 use Rattle.piece_table.specs.Steps.{live_of, no_live, with_flying, without_ticket}
@@ -20,7 +21,9 @@ use Rattle.piece_table.specs.declared.live.Stage.TheVariants.{Taken}
 use Rattle.volume_history.specs.Chronicles.{ChronicleEntry, is_answered}
 use Rattle.world_acts.specs.Acts.{Allowed, Ends, Fails, Reads, World, Writes, after, piece_at}
 use Rattle.world_acts.specs.Orderly.{IsOrderly}
+use Rattle.world_acts.specs.Owners.{line_of, values_of}
 use Rattle.world_acts.specs.Steps.{after_leaves, after_stays, after_written}
+use Rattle.world_acts.specs.Volumes.{span_of}
 use Rattle.world_acts.specs.declared.state.Core.{Core}
 use Rattle.world_acts.proofs.Orderly.{orderly_after}
 use Rattle.world_acts.proofs.Tables.{AreSingle, Changes, none_counted, own_at, removed}
@@ -169,6 +172,18 @@ module _ {w : World} {es : List ChronicleEntry} {told : Record} {done : Done} {n
       ∙ ap (λ (l : Option LivePiece). unwrap_or l no_live)
       (own_at (stage_change w.core.pieces n x.piece.live (with_flying (live_of w.core.pieces n).stage (λ f. f - 1)) o.tidy.pieces.single
       (ap (λ (m : ℕ). live_at w.core.pieces.lives m) its_number ∙ x.piece.at)))
+
+  -- it was no flush
+  pub no_flush : (pv : ℕ) → done.op ≡ FlushOp pv → ⊥
+  no_flush pv op =
+      let live : LivePiece = x.piece.live in
+      cond_both live.piece.write (Writing (span_of w.core.volumes live.piece) (values_of (line_of w.core live) live.piece))
+      (Reading (span_of w.core.volumes live.piece)) (λ (k : DiskWork). Flushing pv ≡ k → ⊥)
+      (λ writes same. true≢false (ap flushes same)) (λ reads same. true≢false (ap flushes same)) (sym (ap work_of op) ∙ x.piece.did)
+    where
+      flushes : DiskWork → Bool
+      flushes (Flushing pv) = true
+      flushes k = false
 
   -- no operation that is left is of the piece
   none_left : flying_at w1.core.pieces number ≡ 0 → (tag : ℕ) (owner : Owner)

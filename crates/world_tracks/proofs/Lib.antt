@@ -40,4 +40,5 @@ pub mod RunMoments
 pub mod StartBases
 pub mod Kept
 pub mod Opened
+pub mod Causes
 pub mod RunHistories

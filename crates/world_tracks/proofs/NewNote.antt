@@ -108,26 +108,26 @@ waits_there d it false = Contains-append_right d.served (d.next ++ it ∷ []) it
 
 -- what the write makes of the places
 module _ (w : World) (number pv : ℕ) (o : IsOrderly w) (may : Allowed w (Writes number pv)) where
-  abbrev its_core : Core
+  abbrev pub its_core : Core
   its_core = after_written w.core number pv w.shelf.steps
 
-  abbrev its_place : ℕ
+  abbrev pub its_place : ℕ
   its_place = (marks_of its_core.waits.plan pv).written
 
-  abbrev its_marks : Marks
+  abbrev pub its_marks : Marks
   its_marks = record (marks_of w.core.waits.plan pv) { written = w.core.waits.plan.held + 1 }
 
   -- the disk is one
-  within : pv < length w.core.waits.disks
+  pub within : pv < length w.core.waits.disks
   within = let disk = may.2 in omega (arith, disk, o.backed.places.many)
 
   -- its marks, and the place, are those of the write
-  marked : marks_of its_core.waits.plan pv ≡ its_marks
+  pub marked : marks_of its_core.waits.plan pv ≡ its_marks
   marked =
       get_or-set_same w.core.waits.plan.marks pv its_marks no_marks
       (let lt = within in omega (arith, lt, o.tidy.flushes.marks))
 
-  placed : its_place ≡ w.core.waits.plan.held + 1
+  pub placed : its_place ≡ w.core.waits.plan.held + 1
   placed = ap (λ (m : Marks). m.written) marked
 
   -- the volume's place on the disk is that of the write

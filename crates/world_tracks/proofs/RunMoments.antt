@@ -23,6 +23,7 @@ use Rattle.io_core.specs.Events.{IsBegun, IsCompleted, Makes, ending}
 use Rattle.io_core.specs.Rest.{IsKept}
 use Rattle.io_core.specs.Worlds.{IsOpenedOn, WorldOn}
 use Rattle.io_core.proofs.Continued.{carried_reaches, follows_going}
+use Rattle.world_history.specs.Causes.{AreCaused}
 use Rattle.world_history.specs.Contents.{origin_with}
 use Rattle.world_history.specs.Ordered.{lines_with}
 use Rattle.world_history.specs.Told.{IsSessionLine}
@@ -108,13 +109,15 @@ pub run_consistent : {S : Type 0} (state : S → State) → PiecesCoverRequest �
     Makes (world (state old.shelf) old.core) event (world (state new.shelf) new.core)) start script ended wanted refused
     → MomentLaws → (o : Origin) (base : Image) → HasBase o base → (P : ℕ → World → List ChronicleEntry → Type 0) (T : World → List ChronicleEntry → Type 0)
     → ((line : ℕ) (w : World) (es : List ChronicleEntry) → P line w es → IsTracked o w es)
-    → ((w : World) (es : List ChronicleEntry) → T w es → IsTracked o w es) → KeepsAlso o.start P T
+    → ((w : World) (es : List ChronicleEntry) → T w es → IsTracked o w es)
+    → ((w : World) (es : List ChronicleEntry) → T w es → (told : Record) → w.shelf.told ≡ Some told → AreCaused (origin_with o told) es)
+    → KeepsAlso o.start P T
     → (state start.shelf).told ≡ Some o.told → o.start ≡ length o.told.steps → T (world (state start.shelf) start.core) []
     → IsBase o.told base → ArePast o o.told []
     → HasConsistentHistory o base (state ended.shelf) ended.core.lines.journal
     (lines_with 0 ended.core.lines.begun ended.core.lines.answers)
-run_consistent state law start script session found disks allows ended wanted refused opened kept run laws o base has P T preparing gives keeps
-    is starts tracked stands past =
+run_consistent state law start script session found disks allows ended wanted refused opened kept run laws o base has P T preparing gives
+    caused keeps is starts tracked stands past =
     let w = world (state start.shelf) start.core in
     let at_start : Moments o base w [] = λ beside told' is'.
     subst (λ (r : Record). HasMoments o base r []) (same_Some o.told told' (sym is ∙ is')) (opening_moments o base o.told stands past) in
@@ -159,4 +162,6 @@ run_consistent state law start script session found disks allows ended wanted re
           run_flushes o state law start script session found disks allows ended wanted refused opened kept run is starts k.contents.told
           k.contents.is;
       beside = (g.has.also.1 beside k.contents.told k.contents.is).beside;
+      causes =
+          caused (world (state ended.shelf) ended.core) g.has.entries g.has.also.0 k.contents.told k.contents.is;
     }

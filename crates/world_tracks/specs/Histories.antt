@@ -1,4 +1,5 @@
--- What a run is whose shelf tells: its journal and its answers are those of one history, each moment of which is consistent.
+-- What a run is whose shelf tells: its journal and its answers are those of one history, each moment of which is consistent, and in which
+-- each failed answer has its cause.
 use Rattle.std.specs.Prelude.{◌≡◌, All, Bool, ℕ, List, [], Option, Some}
 use Rattle.line_answers.specs.declared.answer.Answer.{Answer}
 use Rattle.line_table.specs.declared.journal.JournalEntry.{JournalEntry}
@@ -18,6 +19,7 @@ use Rattle.world_acts.specs.Acts.{world}
 use Rattle.io_core.specs.Events.{Makes}
 use Rattle.io_core.specs.Rest.{IsKept}
 use Rattle.io_core.specs.Worlds.{IsOpenedOn, WorldOn}
+use Rattle.world_history.specs.Causes.{AreCaused}
 use Rattle.world_history.specs.Contents.{origin_with}
 use Rattle.world_history.specs.Flushing.{FlushesOneByOne}
 use Rattle.world_history.specs.Ordered.{lines_with}
@@ -26,7 +28,7 @@ use Rattle.world_history.specs.Told.{IsSessionLine}
 use Rattle.world_tracks.specs.Moments.{ArePast, BesideStays, HasBase}
 
 -- over a shelf that ends so, from this origin on, where each sector had one possible value: at the end a read gives what the machine has,
--- at each moment at most one flush of each disk is in flight, and sectors beside all places of volumes keep what they had
+-- at each moment at most one flush of each disk is in flight, each answer that names a disk has its cause, and sectors beside all places of volumes keep what they had
 pub record HasConsistentHistory (o : Origin) (base : Image) (ended : State) (journal : List JournalEntry)
     (lines : List (Line × Option Answer)) : Type 0 where
   pub told : Record
@@ -35,6 +37,7 @@ pub record HasConsistentHistory (o : Origin) (base : Image) (ended : State) (jou
   pub shown :
       plain_state history.chronicle.origin history.chronicle.entries ≡ shown_state history.chronicle.origin.version (now_of told)
   pub flushes : FlushesOneByOne history.chronicle.origin
+  pub causes : AreCaused history.chronicle.origin history.chronicle.entries
   pub beside : BesideStays o.version base told
 
 -- Such a run from the one state of the shelf to the other: each history that starts there with what was found, where each sector has one
