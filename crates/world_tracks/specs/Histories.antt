@@ -28,7 +28,8 @@ use Rattle.world_history.specs.Told.{IsSessionLine}
 use Rattle.world_tracks.specs.Moments.{ArePast, BesideStays, HasBase}
 
 -- over a shelf that ends so, from this origin on, where each sector had one possible value: at the end a read gives what the machine has,
--- at each moment at most one flush of each disk is in flight, each answer that names a disk has its cause, and sectors beside all places of volumes keep what they had
+-- at each moment at most one flush of each disk is in flight, each answer that names a disk has its cause, and sectors beside all places
+-- of volumes keep what they had
 pub record HasConsistentHistory (o : Origin) (base : Image) (ended : State) (journal : List JournalEntry)
     (lines : List (Line × Option Answer)) : Type 0 where
   pub told : Record
