@@ -120,7 +120,7 @@ module _ (old : State) where
     line_fails_risen : (line : ℕ) (why : Answer) → Allowed w (LineFails line why) → HasRisen old (after w (LineFails line why))
     line_fails_risen line why may =
         let tells = may.1 in
-        onward h _ (line_fails_names R h.names line why (names_lost R w.core why tells.0 tells.1 tells.2 h.names))
+        onward h _ (line_fails_names R h.names line why (names_lost R w.core why tells.pv tells.is tells.lost h.names))
 
     asks_risen : (number : ℕ) (op : Op) (tag : ℕ) (now : State) → Allowed w (Asks number op tag now)
         → HasRisen old (after w (Asks number op tag now))
