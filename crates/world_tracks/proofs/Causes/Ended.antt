@@ -28,7 +28,7 @@ use Rattle.world_history.proofs.ShortActs.{end_flush_told, end_told, mark_told}
 use Rattle.world_history.proofs.Contents.EndedWorld.{is_written, was_read}
 use Rattle.world_tracks.proofs.EndedFacts.{EndedBy, ended_by, live_ended, no_flush}
 use Rattle.world_tracks.proofs.ActWaits.{HasFree, started}
-use Rattle.world_tracks.proofs.FlushTracked.{WasFlush, was_flush}
+use Rattle.world_history.proofs.EndedFlush.{WasFlush, was_flush}
 use Rattle.world_tracks.proofs.Causes.Acts.{ends_go, reads_go}
 use Rattle.world_tracks.proofs.Causes.Ending.{ends_flush_go, flush_lost, marks_go}
 use Rattle.world_tracks.proofs.Causes.PieceFailing.{WasBadRead, place_in, span_counts, started_placed}

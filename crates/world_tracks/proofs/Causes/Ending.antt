@@ -16,7 +16,7 @@ use Rattle.world_acts.specs.declared.state.Core.{Core}
 use Rattle.world_acts.specs.Acts.{Allowed, EndsFlush, IsLost, World, after}
 use Rattle.world_acts.specs.Orderly.{IsOrderly}
 use Rattle.world_acts.specs.Steps.{after_flushed, after_marks}
-use Rattle.world_tracks.proofs.FlushTracked.{WasFlush, was_flush}
+use Rattle.world_history.proofs.EndedFlush.{WasFlush, was_flush}
 use Rattle.world_tracks.proofs.WaitSteps.{set_keeps}
 use Rattle.world_tracks.proofs.Causes.Growing.{extends_none}
 use Rattle.world_tracks.proofs.Causes.Known.{CausesGo}
