@@ -9,6 +9,7 @@ mod Passing
 mod TableKept
 mod FreePieces
 mod Watched
+mod Beside
 pub mod Apart
 mod Reached
 pub mod Rows

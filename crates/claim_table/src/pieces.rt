@@ -1,13 +1,14 @@
 //! Pieces by number, with their places sorted beside them.
-ghost use Rattle.std.specs.Prelude.{◌≡◌, ◌<◌, ◌≤◌, ◌-◌, ◌&&◌, ◌==◌, [], IfNone, IfSome, IsFalse, IsTrue, OnErr, OnOk, length, max, position, remove, slice_index_or, slice_set};
+ghost use Rattle.std.specs.Prelude.{◌≡◌, ◌<◌, ◌≤◌, ◌-◌, ◌&&◌, ◌==◌, ℕ, [], IfNone, IfSome, IsFalse, IsTrue, OnErr, OnOk, length, max, nat_lt, position, remove, slice_index_or, slice_set, true};
 ghost use Rattle.std.specs.List.{insert, list_any};
+ghost use Rattle.claim_table.specs.declared.claim.Claim.{Claim as ClaimRecord};
 ghost use Rattle.claim_table.specs.Conflict.{clash};
 ghost use Rattle.claim_table.specs.Places.{is_below};
 ghost use Rattle.claim_table.specs.Steps.{has_number, no_claim, number_at, place_by_number};
 
 use crate::Claim;
 use crate::numbers::{find_number, first_from};
-use crate::placed::{Placed, claim_place};
+use crate::placed::{Placed, claim_place, is_over};
 use crate::places::{first_met, is_of_volume};
 use crate::sorted::{put_in, take_at, take_out};
 use std::alloc::{AllocError, Global};
@@ -108,6 +109,36 @@ impl Pieces {
         ensures none { IfNone result (IsFalse (list_any (λ d. is_below limit d.number && clash d claim.now) self.now.claims)) }
     {
         first_met(&self.places, self.longest, &claim.piece, limit)
+    }
+
+    // A number below which none clashes with the piece, or none where none does.
+    pub(crate) fn least_clash(&self, claim: &Claim) -> Option<u64>
+        ensures { IsFalse (list_any (λ d. is_below result d.number && clash d claim.now) self.now.claims) }
+    {
+        let mut least = self.clash(claim, None)?;
+        while let Some(lower) = self.clash(claim, Some(least)) {
+            least = lower;
+        }
+        Some(least)
+    }
+
+    // How many have numbers below this one.
+    pub(crate) fn below(&self, number: u64) -> usize
+        ensures within { result ≤ length self.now.claims }
+        ensures below { (k : ℕ) (d : ClaimRecord) → k < result → nat_lt (slice_index_or self.now.claims k d).number number ≡ true }
+    {
+        first_from(&self.claims, number)
+    }
+
+    // Whether one writes all sectors of the piece, as far as one that clashes with it shows: then what clashes with the piece clashes with
+    // that one.
+    pub(crate) fn covers(&self, claim: &Claim) -> bool
+        ensures { IsTrue result → (d : ClaimRecord) → clash claim.now d ≡ true → list_any (λ c. clash c d) self.now.claims ≡ true }
+    {
+        match self.clash(claim, None) {
+            Some(number) => is_over(&self.at(self.place_of(number)), claim),
+            None => false,
+        }
     }
 
     // Whether one is of the volume.

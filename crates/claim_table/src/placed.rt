@@ -1,5 +1,7 @@
 //! The place of a piece in its volume.
-ghost use Rattle.std.specs.Prelude.{◌≡◌};
+ghost use Rattle.std.specs.Prelude.{◌≡◌, IsTrue, true};
+ghost use Rattle.claim_table.specs.declared.claim.Claim.{Claim as ClaimRecord};
+ghost use Rattle.claim_table.specs.Conflict.{clash};
 ghost use Rattle.claim_table.specs.Places.{placed};
 
 use crate::Claim;
@@ -25,4 +27,19 @@ pub(crate) fn claim_place(claim: &Claim) -> Placed
         count: claim.piece.count,
         write: claim.piece.write,
     }
+}
+
+// Whether one writes all sectors of the other: then what clashes with the other clashes with it.
+pub(crate) fn is_over(one: &Claim, other: &Claim) -> bool
+    ensures { IsTrue result → (d : ClaimRecord) → clash other.now d ≡ true → clash one.now d ≡ true }
+{
+    if !one.piece.write || one.piece.volume != other.piece.volume {
+        return false;
+    }
+    if one.piece.first > other.piece.first {
+        return false;
+    }
+    let skipped = other.piece.first - one.piece.first;
+    let size = u64::from(one.piece.count);
+    skipped <= size && u64::from(other.piece.count) <= size - skipped
 }

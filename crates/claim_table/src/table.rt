@@ -323,7 +323,9 @@ impl ClaimTable {
         first
     }
 
-    // The place of the first deferred piece before this one that clashes with the claim and conflicts with nothing, or this place.
+    // The place of the first deferred piece before this one that clashes with the claim and conflicts with nothing, or this place. None
+    // does where a started piece writes all that the claim covers, and none has a number below the least of those that clash. Mostly it
+    // is the first of all.
     fn first_beside(&self, claim: &Claim, end: usize) -> usize
         requires { end ≤ length self.now.deferred }
         ensures within { result ≤ end }
@@ -331,7 +333,28 @@ impl ClaimTable {
             → is_free self.now (take k self.now.deferred) (slice_index_or self.now.deferred k d) ≡ false }
         ensures here { (result ≡ end) ⊎ ((result < end) × (is_free self.now (take result self.now.deferred) (slice_index_or self.now.deferred result no_claim) ≡ true)) }
     {
-        let mut at = 0;
+        if self.started.covers(claim) {
+            return end;
+        }
+        if end > 0 && self.is_freed(claim, 0) {
+            return 0;
+        }
+        match self.deferred.least_clash(claim) {
+            Some(number) => self.first_freed(claim, self.deferred.below(number), end),
+            None => end,
+        }
+    }
+
+    // The same, where none before the place `from` clashes with the claim.
+    fn first_freed(&self, claim: &Claim, from: usize, end: usize) -> usize
+        requires within { end ≤ length self.now.deferred }
+        requires before { (k : ℕ) (d : ClaimRecord) → k < from → clash claim.now (slice_index_or self.now.deferred k d) ≡ false }
+        ensures within { result ≤ end }
+        ensures before { (k : ℕ) (d : ClaimRecord) → k < result → clash claim.now (slice_index_or self.now.deferred k d) ≡ true
+            → is_free self.now (take k self.now.deferred) (slice_index_or self.now.deferred k d) ≡ false }
+        ensures here { (result ≡ end) ⊎ ((result < end) × (is_free self.now (take result self.now.deferred) (slice_index_or self.now.deferred result no_claim) ≡ true)) }
+    {
+        let mut at = from.min(end);
         while at < end && !self.is_freed(claim, at) {
             at += 1;
         }

@@ -3,7 +3,7 @@ use Rattle.std.proofs.Common.{◌≡◌, ◌≤◌, ◌<◌, ◌-◌, ℕ, true,
 use Rattle.claim_table.specs.declared.claim.Claim.{Claim}
 use Rattle.claim_table.specs.Conflict.{clash}
 use Rattle.claim_table.specs.Claims.{is_free}
-use Rattle.claim_table.proofs.table.ClaimTable.first_beside.Given as goal
+use Rattle.claim_table.proofs.table.ClaimTable.first_freed.Given as goal
 
 abbrev pub invariant-loop-at : goal.invariant-loop-at
 invariant-loop-at l = record {
