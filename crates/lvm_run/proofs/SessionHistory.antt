@@ -107,7 +107,7 @@ module _ {S : Type 0} (scans : RepairedScans) (parts : PartsMakeConsistent) (nam
         let journal = ran.journal.items in
         let said : List Said = said_in runs.run.world ran.answers.items in
         subst (λ (t : Record). HasShownHistory (run_from handed old.sizes names clock t) journal said) is
-        (record { history = h.history; shown = ap (λ (s : PlainState). s.volumes) h.shown })
+        (record { history = h.history; shown = ap (λ (s : PlainState). s.volumes) h.shown; causes = h.causes })
 
   pub session_history : KeepsLines names old ran.journal.items (said_in runs.run.world ran.answers.items) (state ran.shelf)
   session_history handed there base base_is clock ended at_end = goes_on handed there base base_is clock ended at_end

@@ -31,6 +31,7 @@ use Rattle.volume_history.specs.Replay.{opening_volumes, plain_state}
 use Rattle.volume_history.specs.Runs.{HasHistory, Run}
 use Rattle.line_history.specs.EachSet.{MembersAgree, SetsAgree}
 use Rattle.line_history.specs.Histories.{HasRunHistory, journal_of_line, run_from}
+use Rattle.world_history.specs.Causes.{AreCaused}
 use Rattle.lvm_run.specs.Outcomes.{output_of}
 use Rattle.lvm_run.specs.Runs.{names_of}
 use Rattle.lvm_run.specs.declared.entered.Entered.{Entered}
@@ -101,17 +102,19 @@ KeepsPromise names now old journal lines new =
     → (ended : Record) → new.told ≡ Some ended
     → HasRunHistory handed base old.sizes names now ended journal lines × NoneOlder journal lines old.sizes ended
 
--- the run has its history, and at its end a read gives what the volumes of that have
+-- the run has its history, in which each answer that names a disk has its cause, and at its end a read gives what the volumes of that
+-- have
 pub record HasShownHistory (run : Run) (journal : List JournalEntry) (lines : List Said) : Type 0 where
   pub history : HasHistory run journal lines
   pub shown :
       (plain_state history.chronicle.origin history.chronicle.entries).volumes
       ≡ opening_volumes (now_after run.told.opened run.told.steps) 0 (volumes_of history.chronicle.origin.version)
+  pub causes : AreCaused history.chronicle.origin history.chronicle.entries
 
 -- The promise of a session: where the disks tell their record, and each of their sectors has one possible value when they are handed in,
 -- the journal and the answers of its lines are those of one legal history of plain volumes, and stopped at any moment since then, scanning
--- the disks finds the version in force, where every sector of every volume is its last acknowledged write or a later one; and at its end
--- a read gives what the volumes have. That is so at whatever time.
+-- the disks finds the version in force, where every sector of every volume is its last acknowledged write or a later one; each answer that
+-- names a disk has its cause, and at its end a read gives what the volumes have. That is so at whatever time.
 abbrev pub KeepsLines : List Word → State → List JournalEntry → List Said → State → Type 0
 KeepsLines names old journal lines new =
     (handed : Record) → old.told ≡ Some handed → (base : Image) → IsBase handed base → (clock : ℕ) → (ended : Record)
