@@ -66,16 +66,20 @@ def place(on, sector):
 PLACES = {name: [place(name, sector) for sector in range(length)] for name, length in LENGTHS.items()}
 
 
-def opening(rng):
-    """The images of the group, whose data are numbers and bytes at random."""
+def group_text():
+    """The text of the group."""
     pvs = [pv(f"pv{at}", it, pe_count=EXTENTS, dev_size=SECTORS) for at, it in enumerate(NAMES)]
     lvs = []
     for name, (status, segments) in VOLUMES.items():
         starts = [sum(it.count for it in segments[:at]) for at in range(len(segments))]
         lvs.append(lv(name, name.replace("_", ""), [it.text(start) for start, it in zip(starts, segments)], status))
-    text = group(pvs, lvs, extent_size=EXTENT)
+    return group(pvs, lvs, extent_size=EXTENT)
+
+
+def opening(rng):
+    """The images of the group, whose data are numbers and bytes at random."""
     data = [b"".join(rng.randbytes(8) * 64 if rng.randrange(4) else rng.randbytes(SECTOR) for _ in range(EXTENT * EXTENTS)) for _ in NAMES]
-    return {name: Disk(SECTORS).label(name).text(text).put(PE_START * SECTOR, it).bytes() for name, it in zip(NAMES, data)}
+    return {name: Disk(SECTORS).label(name).text(group_text()).put(PE_START * SECTOR, it).bytes() for name, it in zip(NAMES, data)}
 
 
 class Line:
