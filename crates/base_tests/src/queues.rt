@@ -16,6 +16,8 @@ fn the_second_of_two_completes_first(rt: HostRuntime) -> Result<(), Fail> {
     let first = queue.submit(Op::Flush(0));
     let second = queue.submit(Op::Flush(1));
     assert_eq!(rt; queue.in_flight(), 2);
+    assert!(rt; queue.get(1).is_some_and(|it| it.tag == second));
+    assert!(rt; queue.get(2).is_none());
     let Waiting { tag, op } = queue.take(1);
     assert_eq!(rt; tag, second);
     let done = queue.complete(tag, op, false);

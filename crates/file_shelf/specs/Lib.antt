@@ -1,3 +1,4 @@
+pub mod Adjacent
 pub mod Answering
 pub mod Bytes
 pub mod Nodes

@@ -5,9 +5,9 @@ ghost use Rattle.op_queue.specs.Queue.{state_of};
 ghost use Rattle.op_queue.specs.QueueInvariant.{IsGood, good_prop};
 ghost use Rattle.file_shelf.specs.Sizes.{IsSize, sizes_prop};
 
+use crate::carrier::Carrier;
 use crate::image::{Access, Image, ImageFile};
 use crate::opening::{OpenFault, open_all};
-use crate::transfer::{AT_ONCE, carry_out};
 use disk_model::{Done, Op, Shelf};
 use op_queue::{OpQueue, Waiting, disk_of};
 use std::alloc::{AllocError, Global};
@@ -18,17 +18,18 @@ use std::time::Clock;
 
 /// Open files as a row of disks of whole 512-byte sectors. It tells no content.
 ///
-/// Every operation in flight is ready, and the oldest is carried out when one is asked to complete. A fault of the file
-/// is a completion that did not go well, and counts as a fault of that disk. A flush syncs the file.
+/// Every operation in flight is ready, and the oldest completes when one is asked to. It is carried out then, and with it the
+/// next ones, by one call of the system, as long as they read, or write, what lies right behind on the same disk, up to 64 KiB;
+/// these complete in their turn. Where such a call fails, each of them is carried out alone. A fault of the file is a completion
+/// that did not go well, and counts as a fault of that disk. A flush syncs the file.
 #[derive(Drop)]
 pub struct FileShelf<F> {
     images: Vec<Image<F>>,
     queue: OpQueue,
-    bytes: Vec<u8>,
+    carrier: Carrier,
     ghost good: { IsGood queue } by { good_prop queue },
     ghost sizes: { All IsSize (state_of queue).sizes } by { sizes_prop (state_of queue).sizes },
     ghost each: { vec_len images ≡ length (state_of queue).sizes },
-    ghost room: { vec_len bytes ≡ 65_536 },
 }
 
 // The size of each disk in sectors.
@@ -42,15 +43,13 @@ fn sizes_of<F>(alloc: Global, images: &Vec<Image<F>>) -> Result<Vec<u64>, AllocE
 fn complete_oldest<F: FileExt + OpenFile>(
     queue: &mut OpQueue,
     images: &Vec<Image<F>>,
-    bytes: &mut Vec<u8>,
+    carrier: &mut Carrier,
 ) -> Option<Done>
     requires good { IsGood queue.old }
     requires within { All IsSize (state_of queue.old).sizes }
     requires each { vec_len images.now ≡ length (state_of queue.old).sizes }
-    requires room { vec_len bytes.old ≡ AT_ONCE }
     ensures good { IsGood queue.new }
     ensures sizes { (state_of queue.new).sizes ≡ (state_of queue.old).sizes }
-    ensures room { vec_len bytes.new ≡ vec_len bytes.old }
     ensures none { IsNone result ↔ ((state_of queue.old).in_flight ≡ []) }
     ensures cases { MatchOption result (state_of queue.new ≡ state_of queue.old) (λ done. Completes (state_of queue.old) done (state_of queue.new)) }
     ensures ready { IfSome result (λ done. Contains (state_of queue.old).ready done.tag) }
@@ -58,9 +57,10 @@ fn complete_oldest<F: FileExt + OpenFile>(
     if queue.in_flight() == 0 {
         return None;
     }
+    carrier.go_ahead(queue, images);
     let Waiting { tag, op } = queue.take(0);
     let pv = disk_of(&op);
-    let (op, well) = carry_out(&images[pv as usize].file, op, bytes);
+    let (op, well) = carrier.carry_out(&images[pv as usize].file, op);
     Some(queue.complete(tag, op, well))
 }
 
@@ -122,11 +122,11 @@ impl<F: FileExt + OpenFile + Drop> FileShelf<F> {
     {
         let sizes = sizes_of(alloc, &images)?;
         let queue = OpQueue::new(alloc, sizes)?;
-        let bytes = vec![in alloc; 0; AT_ONCE]?;
+        let carrier = Carrier::new(alloc)?;
         Ok(FileShelf {
             images,
             queue,
-            bytes,
+            carrier,
         })
     }
 }
@@ -163,11 +163,11 @@ impl<F: FileExt + OpenFile> Shelf for FileShelf<F> {
     }
 
     fn reap(&mut self) -> Option<Done> {
-        complete_oldest(&mut self.queue, &self.images, &mut self.bytes)
+        complete_oldest(&mut self.queue, &self.images, &mut self.carrier)
     }
 
     fn settle(&mut self) -> Option<Done> {
-        complete_oldest(&mut self.queue, &self.images, &mut self.bytes)
+        complete_oldest(&mut self.queue, &self.images, &mut self.carrier)
     }
 }
 

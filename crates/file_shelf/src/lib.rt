@@ -7,7 +7,9 @@
 //! by plan.
 #![tactic(auto)]
 
+mod adjacent;
 mod answering;
+mod carrier;
 mod copying;
 mod descriptors;
 mod file_shelf;

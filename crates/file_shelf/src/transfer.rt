@@ -3,6 +3,7 @@ ghost use Rattle.std.specs.Prelude.{◌≡◌, ◌≤◌, ◌↔◌, ◌+◌, �
 ghost use Rattle.disk_model.specs.Operations.{Lies, work_of};
 ghost use Rattle.file_shelf.specs.Bytes.{IsInFile};
 
+use crate::adjacent::Run;
 use crate::copying::{SECTOR, gather, scatter};
 use disk_model::Op;
 use sector_base::Sectors;
@@ -64,6 +65,22 @@ fn is_well(told: io::Result<()>) -> bool
     ensures { IsTrue result ↔ IsOk told }
 {
     told.is_ok()
+}
+
+/// Reads or writes the sectors of the run by one call, and goes on where that did a part. What is written stands first in the
+/// bytes, and what is read last.
+pub fn carry_out_run<F: FileExt>(file: &F, run: Run, bytes: &mut [u8]) -> bool
+    requires within { run.first ≤ 2 ^ 40 }
+    requires fits { 512 * run.sectors ≤ AT_ONCE }
+    requires room { length bytes.old ≡ AT_ONCE }
+{
+    let count = SECTOR * run.sectors;
+    let at = offset(run.first);
+    is_well(if run.writes {
+        file.write_all_at(&bytes[..count], at)
+    } else {
+        file.read_exact_at(&mut bytes[AT_ONCE - count..], at)
+    })
 }
 
 /// Carries the operation out, and says whether it went well. A flush syncs the file.

@@ -1,5 +1,5 @@
 //! The operations in flight and the counts of a shelf.
-ghost use Rattle.std.specs.Prelude.{◌≡◌, ◌≤◌, ◌<◌, ◌+◌, ℕ, ◌^◌, ◌↔◌, IsTrue, OnOk, OnErr, IfOk, length, max, replicate, slice_index_or, vec_len, not, ◌==◌, ◌&&◌, if◌then◌else◌};
+ghost use Rattle.std.specs.Prelude.{◌≡◌, ◌≤◌, ◌<◌, ◌+◌, ℕ, ◌^◌, ◌↔◌, IsTrue, OnOk, OnErr, IfOk, IfSome, IsSome, length, max, replicate, slice_index_or, vec_len, not, ◌==◌, ◌&&◌, if◌then◌else◌};
 ghost use Rattle.disk_model.specs.Operations.{Lies, sectors_of, disk_of as disk_number};
 ghost use Rattle.disk_model.specs.Calls.{Submits, Reserves};
 
@@ -71,7 +71,7 @@ fn count_fault(faults: &mut Vec<u64>, disk: u32, well: bool)
 }
 
 impl OpQueue {
-    ghost use Rattle.op_queue.specs.Queue.{opened_state, state_of};
+    ghost use Rattle.op_queue.specs.Queue.{opened_state, operation_of, state_of};
     ghost use Rattle.op_queue.specs.QueueInvariant.{IsGood};
     ghost use Rattle.op_queue.specs.Completing.{IsTakenFrom, CompletesAt};
 
@@ -190,6 +190,16 @@ impl OpQueue {
         self.steps += 1;
         self.next_tag += 1;
         tag
+    }
+
+    /// The operation at this place of those in flight, the oldest being at 0; `None` where there are no more than so many.
+    pub fn get(&self, at: usize) -> Option<&Waiting>
+        requires { IsGood self.now }
+        ensures there { IsSome result ↔ (at < length (state_of self.now).in_flight) }
+        ensures which { IfSome result (λ it. slice_index_or (state_of self.now).in_flight at (operation_of it.now) ≡ operation_of it.now) }
+        ensures lies { IfSome result (λ it. Lies (state_of self.now).sizes it.now.op) }
+    {
+        self.waiting.get(at)
     }
 
     /// Takes the operation at this place of those in flight out, the oldest being at 0, so that it can be carried out;

@@ -1,4 +1,8 @@
 //! Real files and files that fail, through the bound. How locks are waited for is tried on the built program.
+ghost use Rattle.std.specs.Prelude.{◌≤◌, IfOk};
+
+mod joined;
+
 use super::FileShelf;
 use crate::OpenFault;
 use crate::image::{Access, Image, Node};
@@ -6,8 +10,9 @@ use disk_model::{Done, Op, Shelf};
 use sector_base::{Bytes512, Sectors, Span};
 use std::alloc::{AllocError, Global};
 use std::cell::Cell;
-use std::fs::{File, Files, Metadata, OpenFile};
+use std::fs::{File, Files, Metadata, OpenFile, OpenOptions};
 use std::io::ErrorKind;
+use std::ops::Range;
 use std::os::unix::fs::{FileExt, symlink};
 use std::process::Abort;
 use std::{fs, io, process};
@@ -18,11 +23,11 @@ fn name_of(rt: &HostRuntime, what: &str) -> Result<String, AllocError> {
     format!(in rt.alloc(); "/tmp/file_shelf_{id}_{what}")
 }
 
-// Sectors that differ from their neighbours.
-fn counted_sectors(alloc: Global, count: u32) -> Result<Sectors, AllocError> {
+// Sectors that differ from their neighbours, from this one on.
+fn counted_sectors(alloc: Global, first: u64, count: u32) -> Result<Sectors, AllocError> {
     let mut list = Vec::new(alloc);
-    for k in 0..count {
-        list.push(Bytes512::new([(k % 251) as u8; 512]))?;
+    for k in 0..u64::from(count) {
+        list.push(Bytes512::new([(first.saturating_add(k) % 251) as u8; 512]))?;
     }
     Ok(Sectors::from_vec(list))
 }
@@ -141,7 +146,7 @@ const WRITTEN: Span = Span {
 
 // What is written to the span, flushed and read back: three operations, of which each completes in its turn.
 fn write_and_read<S: Shelf>(stop: &impl Abort, rt: &HostRuntime, shelf: &mut S) -> Sectors {
-    let sectors = counted_sectors(rt.alloc(), 4_200).expect(stop, "memory");
+    let sectors = counted_sectors(rt.alloc(), 0, 4_200).expect(stop, "memory");
     let written = submit_write(stop, shelf, WRITTEN, sectors).expect(stop, "memory");
     let flushed = submit_flush(stop, shelf, 0).expect(stop, "memory");
     let buffer = Sectors::zeroed(rt.alloc(), 4_200).expect(stop, "memory");
@@ -187,7 +192,7 @@ fn reads_back_what_was_written(rt: HostRuntime) {
     assert!(rt; shelf.count() == 1);
     assert!(rt; shelf.sectors(0) == 4_300);
     let read = write_and_read(&rt, &rt, &mut shelf);
-    let wanted = counted_sectors(rt.alloc(), 4_200).expect(&rt, "memory");
+    let wanted = counted_sectors(rt.alloc(), 0, 4_200).expect(&rt, "memory");
     assert!(rt; read.into_vec() == wanted.into_vec());
     assert!(rt; shelf.settle().is_none());
     assert_eq!(rt; shelf.steps(), 6);
@@ -345,28 +350,56 @@ fn writes_no_file_that_is_opened_to_be_read(rt: HostRuntime) {
     removed(&rt, &rt, name.as_str());
 }
 
-// A file that fails by plan, with an error of this kind: its reads and writes from an offset on, or its sync. The rest goes
-// well, and each read and write takes 1,000 bytes at most. It counts the bytes that were written and read.
+// A file that fails by plan, with an error of this kind: its reads and writes that meet these bytes, or its sync. The rest goes
+// well, and each read and write takes so many bytes at most. It counts them, and the bytes that were written and read.
 #[derive(Drop)]
 struct Planned {
-    fails_from: u64,
+    file: File,
+    fails: Range<u64>,
     sync: bool,
     kind: ErrorKind,
+    most: usize,
+    calls: Cell<u64>,
     written: Cell<u64>,
     read: Cell<u64>,
 }
 
-fn file_that_fails(fails_from: u64, sync: bool, kind: ErrorKind) -> Planned {
+// A file of 512 sectors, whose name is gone.
+fn file_that_fails(
+    stop: &impl Abort,
+    rt: &HostRuntime,
+    fails: Range<u64>,
+    sync: bool,
+    kind: ErrorKind,
+) -> Planned {
+    let name = file_of(stop, rt, "planned", 7, 512 * 512);
+    let name = name.as_str();
+    let file = OpenOptions::new().read(true).write(true).open(rt, name);
+    removed(stop, rt, name);
     Planned {
-        fails_from,
+        file: file.expect(stop, "a file"),
+        fails,
         sync,
         kind,
+        most: 1_000,
+        calls: Cell::new(0),
         written: Cell::new(0),
         read: Cell::new(0),
     }
 }
 
 impl Planned {
+    // How many bytes a read or a write of so many does.
+    fn called(&self, len: usize, offset: u64) -> io::Result<usize>
+        ensures { IfOk result (λ n. n ≤ len) }
+    {
+        self.calls.set(self.calls.get().saturating_add(1));
+        let n = len.min(self.most);
+        let end = offset.saturating_add(n as u64);
+        self.well_or_not(end <= self.fails.start || self.fails.end <= offset)?;
+        Ok(n)
+    }
+
     fn well_or_not(&self, well: bool) -> io::Result<()> {
         if well {
             Ok(())
@@ -378,18 +411,16 @@ impl Planned {
 
 impl FileExt for Planned {
     fn read_at(&self, buf: &mut [u8], offset: u64) -> io::Result<usize> {
-        self.well_or_not(offset < self.fails_from)?;
-        let n = buf.len().min(1_000);
+        let n = self.called(buf.len(), offset)?;
         self.read.set(self.read.get().saturating_add(n as u64));
-        Ok(n)
+        self.file.read_at(&mut buf[..n], offset)
     }
 
     fn write_at(&self, buf: &[u8], offset: u64) -> io::Result<usize> {
-        self.well_or_not(offset < self.fails_from)?;
-        let n = buf.len().min(1_000);
+        let n = self.called(buf.len(), offset)?;
         self.written
             .set(self.written.get().saturating_add(n as u64));
-        Ok(n)
+        self.file.write_at(&buf[..n], offset)
     }
 }
 
@@ -500,12 +531,12 @@ fn assert_planned(
     bytes: u64,
 ) {
     let (from, sync, kind) = plan;
-    let faulty = file_that_fails(from, sync, kind);
-    let well = file_that_fails(u64::MAX, true, ErrorKind::Other);
+    let faulty = file_that_fails(stop, rt, from..u64::MAX, sync, kind);
+    let well = file_that_fails(stop, rt, 0..0, true, ErrorKind::Other);
     let mut shelf = shelf_over(rt.alloc(), faulty, well).expect(stop, "memory");
     assert_faults(stop, rt, &mut shelf, 0, count, wanted, bytes);
-    let faulty = file_that_fails(from, sync, kind);
-    let well = file_that_fails(u64::MAX, true, ErrorKind::Other);
+    let faulty = file_that_fails(stop, rt, from..u64::MAX, sync, kind);
+    let well = file_that_fails(stop, rt, 0..0, true, ErrorKind::Other);
     let mut shelf = shelf_over(rt.alloc(), well, faulty).expect(stop, "memory");
     assert_faults(stop, rt, &mut shelf, 1, count, wanted, bytes);
 }

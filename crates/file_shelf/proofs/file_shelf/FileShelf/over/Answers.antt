@@ -17,7 +17,6 @@ invariant_of-result g c =
       good = c.in_ok-queue.ensures.good;
       sizes = subst (All IsSize) (sym same) (All-map IsSize size c.args.images.items c.requires.sizes);
       each = rw (same, length-map) c.args.images.ok.0;
-      room = c.in_ok-bytes.ensures.len;
     }
 
 pub returns-clause-state : goal.returns-clause-state
