@@ -1,8 +1,6 @@
 -- The disks that a request takes. Of a command they are one to make a physical volume of (pvcreate(8)), some to make a group of
--- (vgcreate(8)), or some to add to one (vgextend(8)). Of a session they are all: which its lines take isn't known before its script is
--- read.
-use Rattle.std.specs.Prelude.{ℕ, Bool, true, false, List, [], ◌∷◌, length, filter_map}
-use Rattle.std.specs.List.{range_with_len}
+-- (vgcreate(8)), or some to add to one (vgextend(8)).
+use Rattle.std.specs.Prelude.{ℕ, Bool, true, false, List, [], ◌∷◌, filter_map}
 use Rattle.command_table.specs.declared.command.Command.{Command}
 use Rattle.command_table.specs.declared.command.Command.TheVariants.{Pvcreate, Vgcreate, Vgextend}
 use Rattle.command_table.specs.declared.request.Request.{Request}
@@ -16,11 +14,10 @@ words_taken (Vgcreate vg extent_size pvs) = pvs
 words_taken (Vgextend vg pvs) = pvs
 words_taken _ = []
 
--- the numbers of the disks that the request would take: of a command those of its words that are names of disks, in their order;
--- of a session all that are named
+-- the numbers of the disks that the request would take: of a command those of its words that are names of disks, in their order
 abbrev pub taken_by : List Word → Request → List ℕ
 taken_by names (One command) = filter_map (number_named names) (words_taken command)
-taken_by names (Session session) = range_with_len 0 (length names)
+taken_by names (Session session) = []
 taken_by names (Demo seed lines workers) = []
 
 -- it makes a physical volume of a disk, whatever stands there

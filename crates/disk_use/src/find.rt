@@ -21,14 +21,13 @@ use disk_model::Shelf;
 use line_answers::DiskNames;
 use std::alloc::Global;
 
-/// The first disk in use of those that pvcreate, vgcreate or vgextend takes, or a session, which takes all disks of the
-/// run; of anything else none, and nothing is read then.
+/// The first disk in use of those that pvcreate, vgcreate or vgextend takes; of anything else none, and nothing is read then.
 ///
 /// Each of them is looked at, in the order of the words. Where labels say that a group uses their disks (PV_EXT_USED of
 /// lvm2's on-disk format), all disks of the run are scanned once: such a disk is in use unless a group is found that lists
 /// it or whose stray it is. A refused scan shows nothing of it. To pvcreate one whose label has no header that can be read
 /// is in use too, and one without a label by the first signature that stands there; vgcreate and vgextend refuse such
-/// disks themselves, and a session leaves them alone.
+/// disks themselves.
 ///
 /// # Errors
 ///

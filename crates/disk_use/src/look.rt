@@ -129,7 +129,7 @@ fn shown_by(kind: Option<Kind>) -> Shown
 }
 
 // Whether the label says that a group uses the disk.
-fn is_marked(header: &PvHeader) -> bool
+pub(crate) fn is_marked(header: &PvHeader) -> bool
     ensures { result ≡ is_marked header.now }
 {
     header.flags % 2 == 1

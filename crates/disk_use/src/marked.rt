@@ -116,7 +116,7 @@ fn first_apart(found: &Found, marked: &[u32]) -> Option<u32>
 }
 
 // Whether a group was found that lists the disk or whose stray it is.
-fn is_among(found: &Found, disk: u32) -> bool
+pub(crate) fn is_among(found: &Found, disk: u32) -> bool
     ensures { IsTrue result ↔ IsAmong found.now disk }
 {
     found.group.is_some()

@@ -1,6 +1,5 @@
 //! The disks that a request takes.
 ghost use Rattle.std.specs.Prelude.{◌≡◌, ◌≤◌, ◌<◌, length, All, IfOk, filter_map};
-ghost use Rattle.std.specs.List.{range_with_len};
 ghost use Rattle.command_table.specs.declared.request.Request.TheVariants.{One};
 ghost use Rattle.command_table.specs.Options.{number_named};
 ghost use Rattle.disk_use.specs.Taken.{is_new, taken_by};
@@ -11,7 +10,7 @@ use sector_base::Text;
 use std::alloc::{AllocError, Global};
 use std::slice::from_ref;
 
-// The numbers of the disks that the request would take: of a command in the order of its words, of a session all.
+// The numbers of the disks that the request would take, in the order of its words.
 pub(crate) fn disks_taken(
     alloc: Global,
     names: &DiskNames,
@@ -23,8 +22,7 @@ pub(crate) fn disks_taken(
 {
     match request {
         Request::One(command) => numbers_of(alloc, names, command),
-        Request::Session(_) => all_numbers(alloc, names),
-        Request::Demo { .. } => Ok(Vec::new(alloc)),
+        Request::Session(_) | Request::Demo { .. } => Ok(Vec::new(alloc)),
     }
 }
 
@@ -55,15 +53,6 @@ fn numbers_in(alloc: Global, names: &DiskNames, words: &[Text]) -> Result<Vec<u3
         }
     }
     Ok(numbers)
-}
-
-// The numbers of all disks.
-fn all_numbers(alloc: Global, names: &DiskNames) -> Result<Vec<u32>, AllocError>
-    requires { length names.now ≤ 64 }
-    ensures numbers { IfOk result (λ numbers. numbers.items ≡ range_with_len 0 (length names.now)) }
-    ensures within { IfOk result (λ numbers. All (λ pv. pv < length names.now) numbers.items) }
-{
-    (0..names.len() as u32).collect(alloc)
 }
 
 // Whether it makes a physical volume of a disk, whatever stands there.

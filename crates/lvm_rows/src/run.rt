@@ -49,6 +49,7 @@ pub fn run<T: Threads + Wait + Sync>(
     let ended = lvm_run(
         rt,
         alloc,
+        false,
         &run.words,
         &mut source,
         &mut out,

@@ -60,7 +60,8 @@ use Rattle.lvm_run.specs.Meets.{ChangesDisks, IsJudged, IsTaken, Meets, batches_
 use Rattle.lvm_run.specs.Scan.{FindsWhole, IsOpenCause, IsOpened, OpensDisks}
 use Rattle.lvm_run.specs.declared.ending.Ending.{Ending}
 use Rattle.lvm_run.specs.declared.ending.Ending.TheVariants.{WordsRefused, NoMemory, SourceFailed, ScriptTooLong, ScriptRefused}
-use Rattle.lvm_run.specs.declared.ending.Ending.TheVariants.{OpenFailed, ScanReadFailed, ScanRefused, RepairFailed, RepairRefused}
+use Rattle.lvm_run.specs.declared.ending.Ending.TheVariants.{OpenFailed, ScanReadFailed, ScanRefused, DiskInUse, RepairFailed}
+use Rattle.lvm_run.specs.declared.ending.Ending.TheVariants.{RepairRefused}
 use Rattle.lvm_run.specs.declared.outcome.Outcome.{Outcome}
 use Rattle.lvm_run.specs.declared.outcome.Outcome.TheVariants.{Ended, Answered}
 use Rattle.lvm_run.proofs.ChangedDisks.{looks, none_begun, none_in_turn, unpassed, untrue, unwritten}
@@ -116,6 +117,7 @@ module _ (names : List Word) (command : Command) (id : Option (List ℕ)) (time 
         (λ taken. absurd (cc)) o) opens;
     again = again;
   }
+  meets_unopened new (DiskInUse pv) again cause opens = absurd cause
   meets_unopened new (RepairFailed pv) again cause opens = absurd cause
   meets_unopened new (RepairRefused pv need room) again cause opens = absurd cause
 

@@ -8,6 +8,7 @@ mod Checking
 mod EachNamed
 mod FlushedAndScanned
 mod InTime
+mod LeftInUse
 mod LiesOnDisks
 mod LookedFirst
 mod MeantWords

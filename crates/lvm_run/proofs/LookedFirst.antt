@@ -1,15 +1,19 @@
 -- A run whose disks are looked at first.
-use Rattle.std.proofs.Common.{◌≡◌, ◌≢◌, ⊎_elim, ℕ, ◌≤◌, ◌^◌, List, [], ◌∷◌, length, slice_index_or, All, Contains, Option, Some, None, IfOk}
+use Rattle.std.proofs.Common.{◌≡◌, ◌≢◌, ◌<◌, ⊎_elim, ℕ, ◌≤◌, ◌^◌, Bool, true, false, true≢false, is_some, List, [], ◌∷◌, length}
+use Rattle.std.proofs.Common.{slice_index_or, All, Contains, Option, Some, None, IfOk}
 use Rattle.std.proofs.Common.{IfSome}
-use Rattle.std.proofs.Common.{Result, Ok, Err, refl, sym, ap, subst, ◌∙◌}
+use Rattle.std.proofs.Common.{Result, Ok, Err, refl, sym, ap, subst, ◌∙◌, arith}
 use Rattle.std.specs.Prelude.{MatchOption, MatchResult}
+use Rattle.std.specs.Option.{option_and_then}
 use Rattle.std.proofs.lemmas.List.Elements.{All-nil}
 use Rattle.std.proofs.lemmas.Option.{same_Some}
 use Rattle.sector_base.specs.declared.spans.Span.{Span}
 use Rattle.command_table.specs.declared.request.Request.{Request}
+use Rattle.command_table.specs.declared.request.Request.TheVariants.{One, Session, Demo}
 use Rattle.command_table.specs.Options.{Word}
 use Rattle.lvm_words.specs.declared.command_line.CommandLine.{CommandLine}
 use Rattle.lvm_words.specs.CommandLines.{command_line_of}
+use Rattle.lvm_words.proofs.LineNames.{names_of_line}
 use Rattle.disk_model.specs.Faults.{HasSameFaults}
 use Rattle.disk_model.specs.Since.{ReadsAlone, writes_submitted}
 use Rattle.disk_model.specs.State.{State}
@@ -24,7 +28,9 @@ use Rattle.disk_use.specs.Uses.{IsFree, IsUsedBy}
 use Rattle.disk_use.proofs.Looking.{now_weaker}
 use Rattle.lvm_run.specs.declared.not_run.NotRun.TheVariants.{InUse, Untold}
 use Rattle.lvm_run.specs.Disks.{HasDisks}
-use Rattle.lvm_run.specs.Guarded.{AreFree, Asks, IsWhyNotRun, LeavesUsed, LooksAtMost}
+use Rattle.lvm_run.specs.Guarded.{AreFree, Asks, IsWhyNotRun, LeavesUsed, LooksAtMost, Takes}
+use Rattle.lvm_run.specs.InUse.{LeavesInUse}
+use Rattle.lvm_run.specs.Sessions.{asks_session, session_in}
 
 -- ---- what the words ask for
 
@@ -133,13 +139,71 @@ left_looked_at words old new looks = λ pv before told takes. ⊎_elim
     ))
     looks
 
+-- ---- what is taken
+
+-- by whether they ask for a session
+pub either_way : {A : Type 0} (test : Bool) → (test ≡ true → A) → (test ≡ false → A) → A
+either_way true a b = a refl
+either_way false a b = b refl
+
+-- whether the request is a session
+abbrev is_session : Request → Bool
+is_session request = is_some (session_in request)
+
+asks_by : (words names : List Word) (request : Request) → Asks words names request → asks_session words ≡ is_session request
+asks_by words names request asks =
+    ap (λ (o : Option CommandLine). is_some (option_and_then (λ (l : CommandLine). session_in l.request) o)) asks.is_line
+    ∙ ap is_session asks.is_request
+
+-- a command takes what its words name
+taken_by_words : (names : List Word) (request : Request) (pv : ℕ) → is_session request ≡ false → Takes names request pv
+    → Contains (taken_by names request) pv
+taken_by_words names (One command) pv other takes = takes
+taken_by_words names (Session session) pv other takes = absurd (true≢false other)
+taken_by_words names (Demo seed lines workers) pv other takes = takes
+
 -- where none of the disks that are taken is in use, none that is in use was written
-pub left_free : (words : List Word) (old new : State) → AreFree words old → LeavesUsed words old new
-left_free words old new free = λ pv before told takes.
+pub left_free : (words : List Word) (old new : State) → asks_session words ≡ false → AreFree words old → LeavesUsed words old new
+left_free words old new other free = λ pv before told takes.
     let all : HoldsNow old.told (λ image. All (IsFree (is_new takes.request) image old.sizes) (taken_by takes.names takes.request)) =
     free takes.names takes.request takes.asks in
     let now : All (IsFree (is_new takes.request) (now_after before.opened before.steps) old.sizes) (taken_by takes.names takes.request) =
     subst (λ (t : Option Record). HoldsNow t
     (λ image. All (IsFree (is_new takes.request) image old.sizes) (taken_by takes.names takes.request))) told all in
-    absurd (takes.used (subst (IsFree (is_new takes.request) (now_after before.opened before.steps) old.sizes) takes.taken.2
-    (now takes.taken.0 pv takes.taken.1)))
+    let taken =
+    taken_by_words takes.names takes.request pv (sym (asks_by words takes.names takes.request takes.asks) ∙ other) takes.taken in
+    absurd (takes.used (subst (IsFree (is_new takes.request) (now_after before.opened before.steps) old.sizes) taken.2
+    (now taken.0 pv taken.1)))
+
+-- ---- sessions
+
+-- a session takes each disk, and makes no physical volume
+taken_by_session : (names : List Word) (request : Request) (pv : ℕ) → is_session request ≡ true → Takes names request pv
+    → (pv < length names) × (is_new request ≡ false)
+taken_by_session names (One command) pv is takes = absurd (true≢false (sym is))
+taken_by_session names (Session session) pv is takes = (takes, refl)
+taken_by_session names (Demo seed lines workers) pv is takes = absurd (true≢false (sym is))
+
+-- where none in use was written, none that a session takes was
+pub left_by_session : (words : List Word) (old new : State) → asks_session words ≡ true → HasDisks words old → LeavesInUse old new
+    → LeavesUsed words old new
+left_by_session words old new asks has leaves = λ pv before told takes.
+    let its =
+    taken_by_session takes.names takes.request pv (sym (asks_by words takes.names takes.request takes.asks) ∙ asks) takes.taken in
+    let line = takes.asks.line in
+    let many : length old.sizes ≡ length takes.names =
+    (has line.names (names_of_line words line takes.asks.is_line)).many ∙ ap (λ (l : List Word). length l) (sym takes.asks.is_names) in
+    leaves pv before told (omega (arith, its.0, many))
+    (λ free. takes.used (subst (λ (new : Bool). IsFree new (now_after before.opened before.steps) old.sizes pv) (sym its.1) free))
+
+-- nothing is looked at of words that ask for a session
+pub none_taken : (words : List Word) (line : CommandLine) → command_line_of words ≡ Some line → asks_session words ≡ true
+    → taken_by line.names line.request ≡ []
+none_taken words line is asks =
+    at line.request
+    (sym (asks_by words line.names line.request (record { line = line; is_line = is; is_names = refl; is_request = refl })) ∙ asks)
+  where
+    at : (request : Request) → is_session request ≡ true → taken_by line.names request ≡ []
+    at (One command) session = absurd (true≢false (sym session))
+    at (Session s) session = refl
+    at (Demo seed lines workers) session = absurd (true≢false (sym session))

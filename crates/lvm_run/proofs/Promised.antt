@@ -183,11 +183,11 @@ opening_wrote : (sizes : List ℕ) (passes : Bool) (old new : Record) → OpensD
 opening_wrote sizes passes old new o = (o.since, o.steps, o.nothing)
 
 -- the disks weren't taken
-pub kept_unopened : (names : List Word) (now : ℕ) (old new : State) → old.steps ≤ new.steps → IsTold new
-    → BetweenRecords (λ a b. OpensDisks old.sizes a false b) old.told new.told → IsEntered names now old [] [] new
-kept_unopened names now old new later told opens =
+pub kept_unopened : (passes : Bool) (names : List Word) (now : ℕ) (old new : State) → old.steps ≤ new.steps → IsTold new
+    → BetweenRecords (λ a b. OpensDisks old.sizes a passes b) old.told new.told → IsEntered names now old [] [] new
+kept_unopened passes names now old new later told opens =
     kept_unbegun names now old new later told
-    (λ handed there. let o = opens handed there in (o.0, o.1, opening_wrote old.sizes false handed o.0 o.2))
+    (λ handed there. let o = opens handed there in (o.0, o.1, opening_wrote old.sizes passes handed o.0 o.2))
 
 -- ---- the disks were taken as this was found
 module _ (lines : LinesHaveHistories) (cleared : ClearsHaveHistories) (ends : EndsHaveHistories) (agree : DoneSetsAgree)

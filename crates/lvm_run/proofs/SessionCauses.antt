@@ -1,5 +1,5 @@
 -- Why a session ended, and that it did as is said of it.
-use Rattle.std.proofs.Common.{◌≡◌, ◌<◌, ℕ, true, List, [], length, Option, IfSome, refl, sym, subst}
+use Rattle.std.proofs.Common.{◌≡◌, ◌<◌, ℕ, Bool, true, List, [], length, Option, IfSome, refl, sym, subst}
 use Rattle.std.specs.Prelude.{Result, Ok, Err, MatchResult}
 use Rattle.std.specs.Result.{IsErrOf}
 use Rattle.byte_streams.specs.Streams.{HasRisen}
@@ -40,30 +40,35 @@ refused_cause from to text gives script.NoMemory is = tt
 refused_cause from to text gives (script.LineRefused line fault place) is = (text, gives, is)
 
 -- what was found was repaired, or not
-pub opened_then : (old opened : State) (found : Found) → Opens old found opened → (new : State) (result : Result Found Ending)
+pub opened_then : (forced : Bool) (old opened : State) (found : Found) → Opens old found opened
+    → (new : State) (result : Result Found Ending)
     → MatchResult result (λ repaired. RepairsFound opened found (Ok repaired) new)
     (λ ending. (fault : RepairFault) × (ending ≡ ending_of fault) × RepairsFound opened found (Err fault) new)
-    → MatchResult result (λ whole. OpensAndRepairs old (Ok whole) new) (λ ending. IsUnready old ending new)
-opened_then old opened found opens new (Ok repaired) repairs =
+    → MatchResult result (λ whole. OpensAndRepairs old (Ok whole) new) (λ ending. IsUnready forced old ending new)
+opened_then forced old opened found opens new (Ok repaired) repairs =
     record { found = found; opened = opened; opens = opens; repairs = repairs }
-opened_then old opened found opens new (Err ending) repairs =
+opened_then forced old opened found opens new (Err ending) repairs =
     Unrepaired repairs.0 repairs.1 (record { found = found; opened = opened; opens = opens; repairs = repairs.2 })
 
 -- a session that ended before its lines
-pub ended : {S : Type 0} {session : Session} {names : List Word} {state : S → State} {from to : SourceState} {ids ids_after : ℕ → List ℕ}
+pub ended : {S : Type 0} {forced : Bool} {session : Session} {names : List Word} {state : S → State} {from to : SourceState}
+    {ids ids_after : ℕ → List ℕ}
     {old : State} {status : ℕ} {before : Option (List ℕ)} {faults_before : ℕ} {after : Option (List ℕ)} {faults_after : ℕ} {back : S}
-    (entered : Entered) (ending : Ending) (shelf : S) → IsEndedBefore session from to ids ids_after old (state shelf) ending → IsTold old
-    → IsTold (state shelf) → back ≡ shelf → IsNothing entered → SessionEnds names (EndedBefore ending) status before faults_before after faults_after
-    → RunsSession session names state from to ids ids_after old status before faults_before after faults_after entered.journal.items
+    (entered : Entered) (ending : Ending) (shelf : S) → IsEndedBefore forced session from to ids ids_after old (state shelf) ending
+    → IsTold old
+    → IsTold (state shelf) → back ≡ shelf → IsNothing entered
+    → SessionEnds names (EndedBefore ending) status before faults_before after faults_after
+    → RunsSession forced session names state from to ids ids_after old status before faults_before after faults_after entered.journal.items
     entered.answers.items back
-ended {S} {session} {names} {state} {from} {to} {ids} {ids_after} {old} entered ending shelf why old_told told same nothing ends = record {
-  outcome = EndedBefore ending;
-  cause = (
-    subst (λ (s : S). IsEndedBefore session from to ids ids_after old (state s) ending) (sym same) why,
-    nothing.0,
-    nothing.1,
-    subst (λ (s : S). (now : ℕ) → KeepsPromise names now old [] [] (state s)) (sym same)
-        (promised_unbegun names old (state shelf) old_told told why),
-  );
-  ends = ends;
-}
+ended {S} {forced} {session} {names} {state} {from} {to} {ids} {ids_after} {old} entered ending shelf why old_told told same nothing ends =
+    record {
+      outcome = EndedBefore ending;
+      cause = (
+        subst (λ (s : S). IsEndedBefore forced session from to ids ids_after old (state s) ending) (sym same) why,
+        nothing.0,
+        nothing.1,
+        subst (λ (s : S). (now : ℕ) → KeepsPromise names now old [] [] (state s)) (sym same)
+            (promised_unbegun names old (state shelf) old_told told why),
+      );
+      ends = ends;
+    }

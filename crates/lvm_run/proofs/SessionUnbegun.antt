@@ -15,7 +15,7 @@ use Rattle.vg_repair.specs.declared.fault.RepairFault.{RepairFault}
 use Rattle.vg_repair.specs.declared.fault.RepairFault.TheVariants as repair
 use Rattle.line_history.proofs.RepairedStart.{ended_then}
 use Rattle.lvm_run.specs.History.{KeepsPromise}
-use Rattle.lvm_run.specs.Sessions.{IsEndedBefore, NoLines, Opens, OpensAndRepairs, RepairsFound, Unbegun, Unbuilt, Unknown, Unopened}
+use Rattle.lvm_run.specs.Sessions.{InUse, IsEndedBefore, NoLines, Opens, OpensAndRepairs, RepairsFound, Unbegun, Unbuilt, Unknown, Unopened}
 use Rattle.lvm_run.specs.Sessions.{Unready, Unrepaired}
 use Rattle.lvm_run.specs.Sourced.{SourceState}
 use Rattle.lvm_run.specs.declared.ending.Ending.{Ending}
@@ -67,14 +67,17 @@ undone_so : (names : List Word) (now : ℕ) (old new : State) → IsTold old →
 undone_so names now old new told nothing =
     subst (λ (s : State). KeepsPromise names now old [] [] s) (sym nothing) (kept_undone names now old told).promise
 
-pub promised_unbegun : {session : Session} {from to : SourceState} {ids ids_after : ℕ → List ℕ} {ending : Ending} (names : List Word)
-    (old new : State) → IsTold old → IsTold new → IsEndedBefore session from to ids ids_after old new ending → (now : ℕ)
+pub promised_unbegun : {forced : Bool} {session : Session} {from to : SourceState} {ids ids_after : ℕ → List ℕ} {ending : Ending}
+    (names : List Word)
+    (old new : State) → IsTold old → IsTold new → IsEndedBefore forced session from to ids ids_after old new ending → (now : ℕ)
     → KeepsPromise names now old [] [] new
 promised_unbegun names old new old_told new_told (Unbuilt why) now = undone_so names now old new old_told why.nothing
 promised_unbegun names old new old_told new_told (Unknown why) now = undone_so names now old new old_told why.nothing
 promised_unbegun names old new old_told new_told (NoLines built why nothing) now = undone_so names now old new old_told nothing
 promised_unbegun names old new old_told new_told (Unready built lines reads (Unopened why)) now =
-    (kept_unopened names now old new why.again.later new_told why.told).promise
+    (kept_unopened false names now old new why.again.later new_told why.told).promise
+promised_unbegun names old new old_told new_told (Unready built lines reads (InUse unforced why)) now =
+    (kept_unopened true names now old new why.opens.again.later new_told why.opens.told).promise
 promised_unbegun names old new old_told new_told (Unready built lines reads (Unrepaired fault is o)) now =
     ready_so names now old new old_told new_told (Err fault) o
 promised_unbegun names old new old_told new_told (Unbegun built lines reads why) now =

@@ -78,16 +78,18 @@ module _ (words names : List Word) (session : Session) (asks : AsksFor words nam
   are_few = subst (λ (l : List Word). length l ≤ 64) asks.names_is (are_named words asks.line asks.meant).few
 
   -- what it did the words did
-  pub session_ran : {S : Type 0} (now : ℕ) (state : S → State) (from to : SourceState) (ids ids_after : ℕ → List ℕ) (old : State)
+  pub session_ran : {S : Type 0} (forced : Bool) (now : ℕ) (state : S → State) (from to : SourceState) (ids ids_after : ℕ → List ℕ)
+      (old : State)
       (status : ℕ) (before : Option (List ℕ)) (faults_before : ℕ) (after : Option (List ℕ)) (faults_after : ℕ)
       (journal : List JournalEntry) (answers : List (ℕ × Option Answer)) (shelf : S)
-      → RunsSession session names state from to ids ids_after old status before faults_before after faults_after journal answers shelf
-      → ProgramRuns words now state from to ids ids_after old status before faults_before after faults_after journal answers shelf
-  session_ran now state from to ids ids_after old status before faults_before after faults_after journal answers shelf runs =
+      → RunsSession forced session names state from to ids ids_after old status before faults_before after faults_after journal answers
+      shelf
+      → ProgramRuns forced words now state from to ids ids_after old status before faults_before after faults_after journal answers shelf
+  session_ran forced now state from to ids ids_after old status before faults_before after faults_after journal answers shelf runs =
       at_true _ _ (asks_session words) (ap is_some session_by) (record {
         session = session;
         asked = session_by;
         runs = subst
-            (λ (l : List Word). RunsSession session l state from to ids ids_after old status before faults_before after
+            (λ (l : List Word). RunsSession forced session l state from to ids ids_after old status before faults_before after
             faults_after journal answers shelf) names_by runs;
       })

@@ -1,5 +1,5 @@
 -- A run for whose words memory was wanting.
-use Rattle.std.proofs.Common.{◌≡◌, ◌∙◌, ℕ, true, List, [], Option, Some, None, refl, sym, ap, subst, true≢false}
+use Rattle.std.proofs.Common.{◌≡◌, ◌∙◌, ℕ, Bool, true, List, [], Option, Some, None, refl, sym, ap, subst, true≢false}
 use Rattle.std.proofs.lemmas.List.{append-nil}
 use Rattle.byte_streams.specs.Streams.{with_more}
 use Rattle.command_table.specs.Options.{Word}
@@ -40,11 +40,11 @@ entered_nothing words now ids old told journal answers none_entered none_answere
     }
 
 -- such a run
-pub unread : {S : Type 0} (state : S → State) (words : List Word) (now : ℕ) (from : SourceState) (ids : ℕ → List ℕ)
+pub unread : {S : Type 0} (forced : Bool) (state : S → State) (words : List Word) (now : ℕ) (from : SourceState) (ids : ℕ → List ℕ)
     (written : Option (List ℕ)) (faults : ℕ) (shelf : S) → IsTold (state shelf) → HasDisks words (state shelf)
     → (journal : List JournalEntry) (answers : List (ℕ × Option Answer)) → journal ≡ [] → answers ≡ []
-    → ProgramRuns words now state from from ids ids (state shelf) 2 written faults written faults journal answers shelf
-unread state words now from ids written faults shelf told disks journal answers none_entered none_answered =
+    → ProgramRuns forced words now state from from ids ids (state shelf) 2 written faults written faults journal answers shelf
+unread forced state words now from ids written faults shelf told disks journal answers none_entered none_answered =
     by_test (asks_session words)
     (λ asks. let asked = some_session (session_of words) asks in record {
       session = asked.0;

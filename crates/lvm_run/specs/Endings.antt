@@ -11,7 +11,8 @@ use Rattle.scan_rules.specs.declared.decision.ScanRefusal.{ScanRefusal as Refusa
 use Rattle.scan_rules.specs.declared.decision.ScanRefusal.TheVariants as scan
 use Rattle.lvm_run.specs.declared.ending.Ending.{Ending}
 use Rattle.lvm_run.specs.declared.ending.Ending.TheVariants.{WordsRefused, NoMemory, SourceFailed, ScriptTooLong, ScriptRefused}
-use Rattle.lvm_run.specs.declared.ending.Ending.TheVariants.{OpenFailed, ScanReadFailed, ScanRefused, RepairFailed, RepairRefused}
+use Rattle.lvm_run.specs.declared.ending.Ending.TheVariants.{OpenFailed, ScanReadFailed, ScanRefused, DiskInUse, RepairFailed}
+use Rattle.lvm_run.specs.declared.ending.Ending.TheVariants.{RepairRefused}
 use Rattle.lvm_run.specs.declared.disks_refusal.DisksRefusal.{DisksRefusal}
 use Rattle.lvm_run.specs.declared.disks_refusal.DisksRefusal.TheVariants.{Disks, Partial}
 
@@ -61,6 +62,7 @@ ending_text names (ScriptRefused line fault place) =
 ending_text names (OpenFailed pv) = codes "open failed " ++ slice_index_or names pv [] ++ codes "\n"
 ending_text names (ScanReadFailed pv) = codes "scan refused ReadFailed " ++ slice_index_or names pv [] ++ codes "\n"
 ending_text names (ScanRefused refusal whole) = codes "scan refused " ++ shown_text (shown_scan names refusal) ++ codes "\n"
+ending_text names (DiskInUse pv) = codes "disk in use " ++ slice_index_or names pv [] ++ codes "\n"
 ending_text names (RepairFailed pv) = codes "repair failed " ++ slice_index_or names pv [] ++ codes "\n"
 ending_text names (RepairRefused pv need room) =
     codes "repair refused" ++ shown_text ([], repair_values names pv need room) ++ codes "\n"
@@ -76,5 +78,6 @@ status_of_ending (OpenFailed pv) = 6
 status_of_ending (ScanReadFailed pv) = 6
 status_of_ending (ScanRefused refusal true) = 5
 status_of_ending (ScanRefused refusal false) = 6
+status_of_ending (DiskInUse pv) = 5
 status_of_ending (RepairFailed pv) = 6
 status_of_ending (RepairRefused pv need room) = 5

@@ -1,20 +1,20 @@
 -- A run that takes no disk which is in use, unless it is told to.
-use Rattle.std.specs.Prelude.{◌≡◌, ◌≢◌, ◌<◌, ◌⊎◌, ℕ, List, All, Contains, Some}
-use Rattle.sector_base.specs.declared.spans.Span.{Span}
+use Rattle.std.specs.Prelude.{◌≡◌, ◌<◌, ◌⊎◌, ℕ, List, length, All, Contains, Some}
 use Rattle.command_table.specs.declared.request.Request.{Request}
+use Rattle.command_table.specs.declared.request.Request.TheVariants.{One, Session, Demo}
 use Rattle.command_table.specs.Options.{Word}
 use Rattle.lvm_words.specs.declared.command_line.CommandLine.{CommandLine}
 use Rattle.lvm_words.specs.CommandLines.{command_line_of}
 use Rattle.disk_model.specs.Faults.{HasSameFaults}
-use Rattle.disk_model.specs.Since.{writes_submitted}
 use Rattle.disk_model.specs.State.{State}
-use Rattle.disk_model.specs.Steps.{Image, Step, Record, now_after, steps_on}
+use Rattle.disk_model.specs.Steps.{Image, Record, now_after}
 use Rattle.vg_scan.specs.Scans.{HoldsNow}
 use Rattle.disk_use.specs.declared.in_use.InUse.{InUse as UsedDisk}
 use Rattle.disk_use.specs.Faults.{IsUseFault}
 use Rattle.disk_use.specs.LookedAt.{LooksOnly}
 use Rattle.disk_use.specs.Taken.{is_new, taken_by}
 use Rattle.disk_use.specs.Uses.{IsFree, IsUsedBy}
+use Rattle.lvm_run.specs.InUse.{IsLeft}
 use Rattle.lvm_run.specs.declared.not_run.NotRun.{NotRun}
 use Rattle.lvm_run.specs.declared.not_run.NotRun.TheVariants.{InUse, Untold}
 
@@ -27,19 +27,19 @@ pub record Asks (words : List Word) (names : List Word) (request : Request) : Ty
   pub is_names : names ≡ line.names
   pub is_request : line.request ≡ request
 
+-- the request takes the disk with this number: a session takes each
+abbrev pub Takes : List Word → Request → ℕ → Type 0
+Takes names (One command) pv = Contains (taken_by names (One command)) pv
+Takes names (Session session) pv = pv < length names
+Takes names (Demo seed lines workers) pv = Contains (taken_by names (Demo seed lines workers)) pv
+
 -- what the words ask for takes the disk, and would lose what is in use there
 pub record TakesUsed (words : List Word) (image : Image) (sizes : List ℕ) (pv : ℕ) : Type 0 where
   pub names : List Word
   pub request : Request
   pub asks : Asks words names request
-  pub taken : Contains (taken_by names request) pv
+  pub taken : Takes names request pv
   pub used : ¬ IsFree (is_new request) image sizes pv
-
--- no write to this disk was submitted
-pub record IsLeft (pv : ℕ) (old new : Record) : Type 0 where
-  pub since : List Step
-  pub steps : new ≡ steps_on since old
-  pub none : All (λ (write : Span × List (List ℕ)). write.0.pv ≢ pv) (writes_submitted since)
 
 -- none was to such a disk, where the disks tell their record
 abbrev pub LeavesUsed : List Word → State → State → Type 0

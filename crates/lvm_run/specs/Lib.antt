@@ -6,6 +6,7 @@ pub mod Disks
 pub mod Endings
 pub mod Guarded
 pub mod History
+pub mod InUse
 pub mod Meets
 pub mod Outcomes
 pub mod Runs

@@ -18,7 +18,8 @@ use Rattle.disk_batch.specs.InTurn.{Put, WritesInTurn}
 use Rattle.vg_found.specs.declared.found.Found.{Found}
 use Rattle.vg_scan.specs.Scans.{FailedOn, HoldsNow}
 use Rattle.lvm_run.specs.declared.ending.Ending.TheVariants.{WordsRefused, NoMemory, SourceFailed, ScriptTooLong, ScriptRefused}
-use Rattle.lvm_run.specs.declared.ending.Ending.TheVariants.{OpenFailed, ScanReadFailed, ScanRefused, RepairFailed, RepairRefused}
+use Rattle.lvm_run.specs.declared.ending.Ending.TheVariants.{OpenFailed, ScanReadFailed, ScanRefused, DiskInUse, RepairFailed}
+use Rattle.lvm_run.specs.declared.ending.Ending.TheVariants.{RepairRefused}
 use Rattle.lvm_run.specs.declared.outcome.Outcome.{Outcome}
 use Rattle.lvm_run.specs.declared.outcome.Outcome.TheVariants.{Ended, Answered, Reported}
 use Rattle.lvm_run.specs.CommandSpec.{CommandSpec, Context, Inputs, LooksAt, AtNothing, AtDisks, Scanned, Finds, Refuses, Lacks, no_inputs}
@@ -67,6 +68,7 @@ IsCause spec context given old new (Ended (OpenFailed pv)) = IsTrue spec.flushes
 IsCause spec context given old new (Ended (ScanReadFailed pv)) = IsJudgedFirst spec context × IsReadFault spec context spec.looks old new pv
 IsCause spec context given old new (Ended (ScanRefused refusal whole)) =
     (unread : set.FinSet nat_cmp) × IsUnreadBy whole unread old new × IsScanned spec context unread old (Refuses refusal)
+IsCause spec context given old new (Ended (DiskInUse pv)) = ⊥
 IsCause spec context given old new (Ended (RepairFailed pv)) =
     IsTrue spec.flushes × (found : Option Found) × IsTaken spec context old found None × (old.faults pv < new.faults pv)
 IsCause spec context given old new (Ended (RepairRefused pv need room)) =

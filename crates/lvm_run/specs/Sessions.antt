@@ -24,6 +24,7 @@ use Rattle.disk_model.specs.State.{State}
 use Rattle.line_table.specs.declared.journal.JournalEntry.{JournalEntry}
 use Rattle.lvm_report.specs.AnswerLines.{answers_text}
 use Rattle.vg_found.specs.declared.found.Found.{Found}
+use Rattle.disk_use.specs.Unlisted.{IsUnlisted}
 use Rattle.vg_repair.specs.Batches.{repair_batches}
 use Rattle.vg_repair.specs.Laws.{KeepsImages as RepairKeepsImages, StraysAreOthers}
 use Rattle.vg_repair.specs.Repairing.{HasBegun as HasRepairBegun, IsFault as IsRepairFault, IsRepaired, Repairs}
@@ -33,7 +34,8 @@ use Rattle.session_run.specs.SessionScript.{session_commands}
 use Rattle.session_run.specs.Status.{status_of_lines}
 use Rattle.session_run.specs.declared.running.RanLines.{RanLines}
 use Rattle.lvm_run.specs.declared.ending.Ending.{Ending}
-use Rattle.lvm_run.specs.declared.ending.Ending.TheVariants.{NoMemory, ScriptRefused, ScriptTooLong, SourceFailed, WordsRefused}
+use Rattle.lvm_run.specs.declared.ending.Ending.TheVariants.{DiskInUse, NoMemory, ScriptRefused, ScriptTooLong, SourceFailed}
+use Rattle.lvm_run.specs.declared.ending.Ending.TheVariants.{WordsRefused}
 use Rattle.lvm_run.specs.declared.outcome.Outcome.{Outcome}
 use Rattle.lvm_run.specs.Changing.{ending_of}
 use Rattle.lvm_run.specs.Endings.{ending_text, status_of_ending}
@@ -160,10 +162,19 @@ pub record OpensAndRepairs (old : State) (result : Result Found RepairFault) (ne
   pub opens : Opens old found opened
   pub repairs : RepairsFound opened found result new
 
--- the disks aren't ready for the lines
-pub data IsUnready (old : State) (ending : Ending) (new : State) : Type 0 where
-  Unopened : FailsToOpen old ending new → IsUnready old ending new
-  Unrepaired : (fault : RepairFault) → ending ≡ ending_of fault → OpensAndRepairs old (Err fault) new → IsUnready old ending new
+-- they were flushed and scanned, and this disk is used by a group that wasn't found
+pub record FindsInUse (old : State) (ending : Ending) (new : State) : Type 0 where
+  pub found : Found
+  pub opens : Opens old found new
+  pub pv : ℕ
+  pub unlisted : IsUnlisted found pv
+  pub ending_is : ending ≡ DiskInUse pv
+
+-- the disks aren't ready for the lines, one in use only where the session isn't forced
+pub data IsUnready (forced : Bool) (old : State) (ending : Ending) (new : State) : Type 0 where
+  Unopened : FailsToOpen old ending new → IsUnready forced old ending new
+  InUse : forced ≡ false → FindsInUse old ending new → IsUnready forced old ending new
+  Unrepaired : (fault : RepairFault) → ending ≡ ending_of fault → OpensAndRepairs old (Err fault) new → IsUnready forced old ending new
 
 -- ---- the causes
 
@@ -190,17 +201,19 @@ pub record IsUnbegun (old new : State) (ending : Ending) : Type 0 where
   pub ready : OpensAndRepairs old (Ok repaired) new
 
 -- why a session ended before its lines
-pub data IsEndedBefore (session : Session) (from to : SourceState) (ids ids_after : ℕ → List ℕ) (old new : State) (ending : Ending) : Type 0
+pub data IsEndedBefore (forced : Bool) (session : Session) (from to : SourceState) (ids ids_after : ℕ → List ℕ) (old new : State)
+    (ending : Ending) : Type 0
   where
-    Unbuilt : IsUnbuilt session from to ids ids_after old new ending → IsEndedBefore session from to ids ids_after old new ending
-    Unknown : IsUnknown from to ids ids_after old new ending → IsEndedBefore session from to ids ids_after old new ending
+    Unbuilt : IsUnbuilt session from to ids ids_after old new ending → IsEndedBefore forced session from to ids ids_after old new ending
+    Unknown : IsUnknown from to ids ids_after old new ending → IsEndedBefore forced session from to ids ids_after old new ending
     -- nothing is done then
     NoLines : is_built_session session ≡ true → ReadsNoLines from to ids ending ids_after → new ≡ old
-        → IsEndedBefore session from to ids ids_after old new ending
-    Unready : is_built_session session ≡ true → (lines : List Line) → ReadsLines from to ids lines ids_after → IsUnready old ending new
-        → IsEndedBefore session from to ids ids_after old new ending
+        → IsEndedBefore forced session from to ids ids_after old new ending
+    Unready : is_built_session session ≡ true → (lines : List Line) → ReadsLines from to ids lines ids_after
+        → IsUnready forced old ending new
+        → IsEndedBefore forced session from to ids ids_after old new ending
     Unbegun : is_built_session session ≡ true → (lines : List Line) → ReadsLines from to ids lines ids_after → IsUnbegun old new ending
-        → IsEndedBefore session from to ids ids_after old new ending
+        → IsEndedBefore forced session from to ids ids_after old new ending
 
 -- its lines were run, on what was found once that was repaired, and what they came to keeps the promise
 pub record RunsScript {S : Type 0} (session : Session) (names : List Word) (state : S → State) (from to : SourceState)
@@ -222,32 +235,35 @@ pub record RunsScript {S : Type 0} (session : Session) (names : List Word) (stat
   pub shelf_is : shelf ≡ ran.shelf
 
 -- the cause of each outcome; where it ended before its lines nothing is entered, and that keeps the promise at whatever time
-abbrev pub IsSessionCause : {S : Type 0} → Session → List Word → (S → State) → SourceState → SourceState → (ℕ → List ℕ) → (ℕ → List ℕ)
+abbrev pub IsSessionCause : {S : Type 0} → Bool → Session → List Word → (S → State) → SourceState → SourceState → (ℕ → List ℕ)
+    → (ℕ → List ℕ)
     → State → SessionOutcome → List JournalEntry → List (ℕ × Option Answer) → S → Type 0
-IsSessionCause session names state from to ids ids_after old (EndedBefore ending) journal answers shelf =
-    IsEndedBefore session from to ids ids_after old (state shelf) ending × (journal ≡ []) × (answers ≡ [])
+IsSessionCause forced session names state from to ids ids_after old (EndedBefore ending) journal answers shelf =
+    IsEndedBefore forced session from to ids ids_after old (state shelf) ending × (journal ≡ []) × (answers ≡ [])
     × ((now : ℕ) → KeepsPromise names now old [] [] (state shelf))
-IsSessionCause session names state from to ids ids_after old (Ran begun unbegun) journal answers shelf =
+IsSessionCause forced session names state from to ids ids_after old (Ran begun unbegun) journal answers shelf =
     RunsScript session names state from to ids ids_after old begun unbegun journal answers shelf
 
 -- ---- runs
 
 -- a session on disks of these names came to an outcome, which it printed, and these are its status, its journal and its answers, and
 -- what is left of the shelf
-pub record RunsSession {S : Type 0} (session : Session) (names : List Word) (state : S → State) (from to : SourceState)
+pub record RunsSession {S : Type 0} (forced : Bool) (session : Session) (names : List Word) (state : S → State) (from to : SourceState)
     (ids ids_after : ℕ → List ℕ) (old : State) (status : ℕ) (before : Option (List ℕ)) (faults_before : ℕ) (after : Option (List ℕ))
     (faults_after : ℕ) (journal : List JournalEntry) (answers : List (ℕ × Option Answer)) (shelf : S) : Type 0 where
   pub outcome : SessionOutcome
-  pub cause : IsSessionCause session names state from to ids ids_after old outcome journal answers shelf
+  pub cause : IsSessionCause forced session names state from to ids ids_after old outcome journal answers shelf
   pub ends : SessionEnds names outcome status before faults_before after faults_after
 
 -- the same of words that ask for one
-pub record SessionRuns {S : Type 0} (words : List Word) (state : S → State) (from to : SourceState) (ids ids_after : ℕ → List ℕ)
+pub record SessionRuns {S : Type 0} (forced : Bool) (words : List Word) (state : S → State) (from to : SourceState)
+    (ids ids_after : ℕ → List ℕ)
     (old : State) (status : ℕ) (before : Option (List ℕ)) (faults_before : ℕ) (after : Option (List ℕ)) (faults_after : ℕ)
     (journal : List JournalEntry) (answers : List (ℕ × Option Answer)) (shelf : S) : Type 0 where
   pub session : Session
   pub asked : session_of words ≡ Some session
-  pub runs : RunsSession session (names_of words) state from to ids ids_after old status before faults_before after faults_after journal
+  pub runs : RunsSession forced session (names_of words) state from to ids ids_after old status before faults_before after faults_after
+      journal
       answers shelf
 
 -- Words that ask for none: the run comes to an outcome by what is said of them and of the text that the source gives, the output and
@@ -262,9 +278,10 @@ SingleRuns words now from to ids ids_after old status before faults_before after
     × HasEntered words now text ids old outcome journal answers new
 
 -- a run of the program's words, at this time
-abbrev pub ProgramRuns : {S : Type 0} → List Word → ℕ → (S → State) → SourceState → SourceState → (ℕ → List ℕ) → (ℕ → List ℕ) → State → ℕ
+abbrev pub ProgramRuns : {S : Type 0} → Bool → List Word → ℕ → (S → State) → SourceState → SourceState → (ℕ → List ℕ) → (ℕ → List ℕ) → State
+    → ℕ
     → Option (List ℕ) → ℕ → Option (List ℕ) → ℕ → List JournalEntry → List (ℕ × Option Answer) → S → Type 0
-ProgramRuns words now state from to ids ids_after old status before faults_before after faults_after journal answers shelf =
+ProgramRuns forced words now state from to ids ids_after old status before faults_before after faults_after journal answers shelf =
     MatchBool (asks_session words)
-    (SessionRuns words state from to ids ids_after old status before faults_before after faults_after journal answers shelf)
+    (SessionRuns forced words state from to ids ids_after old status before faults_before after faults_after journal answers shelf)
     (SingleRuns words now from to ids ids_after old status before faults_before after faults_after journal answers (state shelf))

@@ -36,6 +36,8 @@ pub enum Ending {
         refusal: DisksRefusal,
         whole: bool,
     },
+    /// The label of the disk with this number says that a group uses it, and none is found that lists it or whose stray it is.
+    DiskInUse(u32),
     /// A write or flush of the repair failed on the disk with this number.
     RepairFailed(u32),
     /// The text of the group has no room in a stale area of the disk with this number: how many sectors it needs, and how
@@ -57,8 +59,10 @@ impl Ending {
             Ending::NoMemory => 2,
             Ending::SourceFailed => 4,
             Ending::OpenFailed(_) | Ending::ScanReadFailed(_) | Ending::RepairFailed(_) => 6,
-            Ending::ScriptTooLong | Ending::ScriptRefused { .. } | Ending::RepairRefused { .. } =>
-                5,
+            Ending::ScriptTooLong
+            | Ending::ScriptRefused { .. }
+            | Ending::DiskInUse(_)
+            | Ending::RepairRefused { .. } => 5,
             Ending::ScanRefused { whole, .. } => { if *whole { 5 } else { 6 } }
         }
     }
@@ -81,6 +85,7 @@ impl Ending {
                 write_line(out, b"scan refused ReadFailed ", names.bytes_of(*pv))
             }
             Ending::ScanRefused { refusal, .. } => write_scan_refusal(out, refusal, names),
+            Ending::DiskInUse(pv) => write_line(out, b"disk in use ", names.bytes_of(*pv)),
             Ending::RepairFailed(pv) => write_line(out, b"repair failed ", names.bytes_of(*pv)),
             Ending::RepairRefused { pv, need, room } => {
                 write_repair_refusal(out, *pv, *need, *room, names)

@@ -1,11 +1,11 @@
 //! A run that takes no disk which is in use, unless it is told to.
-ghost use Rattle.std.specs.Prelude.{◌≡◌, ◌<◌, ◌^◌, false, length, IfErr, IfOk, IfSome, MatchOption, MatchResult};
+ghost use Rattle.std.specs.Prelude.{◌≡◌, ◌<◌, ◌^◌, true, false, length, IfErr, IfOk, IfSome, MatchOption, MatchResult};
 ghost use Rattle.command_table.specs.Options.{words_of};
 ghost use Rattle.disk_model.specs.State.{State};
 ghost use Rattle.lvm_run.specs.declared.not_run.NotRun.TheVariants.{InUse as Used, Untold};
 ghost use Rattle.lvm_run.specs.Disks.{HasDisks};
 ghost use Rattle.lvm_run.specs.Guarded.{AreFree, IsWhyNotRun, LeavesUsed, LooksAtMost, NamesOne};
-ghost use Rattle.lvm_run.specs.Sessions.{ProgramRuns};
+ghost use Rattle.lvm_run.specs.Sessions.{ProgramRuns, asks_session};
 ghost use Rattle.lvm_run.specs.Sourced.{source};
 
 use crate::not_run::NotRun;
@@ -20,8 +20,9 @@ use std::sync::Wait;
 use std::thread::Threads;
 use table_lock::Gate;
 
-/// Runs the program's words as `lvm_run` does. Before anything else, unless it is forced, the disks that the command would take
-/// are looked at, all disks of a session; where one of them is in use, or that can't be told, nothing runs.
+/// Runs the program's words as `lvm_run` does. Before anything else, unless it is forced, the disks that a command would take
+/// are looked at; where one of them is in use, or that can't be told, nothing runs. Those of a session are looked at once its
+/// script is read.
 pub fn guarded_run<
     T: Threads + Wait + Sync,
     S: Shelf + Send,
@@ -47,7 +48,7 @@ pub fn guarded_run<
     // What was run was run on the disks as they were handed in, which were looked at at most.
     ensures run { MatchResult result
         (λ ended. (start : State) × LooksAtMost (S.state shelf) start
-        × ProgramRuns (words_of words.now.items) now S.state
+        × ProgramRuns forced (words_of words.now.items) now S.state
         (source (R.left script.old) (R.fault_count script.old)) (source (R.left script.new) (R.fault_count script.new))
         (N.upcoming ids.old) (N.upcoming ids.new) start
         ended.status (W.written out.old) (W.fault_count out.old) (W.written out.new) (W.fault_count out.new)
@@ -63,7 +64,7 @@ pub fn guarded_run<
 {
     let mut shelf = shelf;
     match find_unless(forced, alloc, words, &mut shelf) {
-        Ok(None) => Ok(lvm_run(rt, alloc, words, script, out, shelf, ids, now, gate)),
+        Ok(None) => Ok(lvm_run(rt, alloc, forced, words, script, out, shelf, ids, now, gate)),
         Ok(Some(used)) => Err((NotRun::InUse(used), shelf)),
         Err(refusal) => Err((NotRun::Untold(refusal), shelf)),
     }
@@ -78,6 +79,8 @@ fn find_unless<S: Shelf>(
 ) -> Result<Option<InUse>, UseRefusal>
     requires disks { HasDisks (words_of words.now) (S.state shelf.old) }
     ensures looks { LooksAtMost (S.state shelf.old) (S.state shelf.new) }
+    // Nothing is looked at for a session.
+    ensures session { asks_session (words_of words.now) ≡ true → S.state shelf.new ≡ S.state shelf.old }
     ensures cause { MatchResult result
         (λ found. MatchOption found (forced ≡ false → AreFree (words_of words.now) (S.state shelf.old))
         (λ used. (forced ≡ false) × IsWhyNotRun (words_of words.now) (S.state shelf.old) (Used used) (S.state shelf.new)))
@@ -98,6 +101,7 @@ fn find_asked<S: Shelf>(
 ) -> Result<Option<InUse>, UseRefusal>
     requires disks { HasDisks (words_of words.now) (S.state shelf.old) }
     ensures looks { LooksAtMost (S.state shelf.old) (S.state shelf.new) }
+    ensures session { asks_session (words_of words.now) ≡ true → S.state shelf.new ≡ S.state shelf.old }
     ensures cause { MatchResult result
         (λ found. MatchOption found (AreFree (words_of words.now) (S.state shelf.old))
         (λ used. IsWhyNotRun (words_of words.now) (S.state shelf.old) (Used used) (S.state shelf.new)))

@@ -4,7 +4,7 @@ use disk_use::{InUse, UseRefusal};
 /// Why nothing ran.
 #[derive(Clone, Copy, Debug)]
 pub enum NotRun {
-    /// A disk that the command or session would take is in use.
+    /// A disk that the command would take is in use.
     InUse(InUse),
     /// It couldn't be told whether one is.
     Untold(UseRefusal),

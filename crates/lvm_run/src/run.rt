@@ -1,5 +1,5 @@
 //! All that the program does, over any row of disks, streams and sources of ids.
-ghost use Rattle.std.specs.Prelude.{◌≡◌, ◌≢◌, ◌≤◌, ◌<◌, ◌^◌, ℕ, true, false, List, [], ◌∷◌, length, None, Option, Some};
+ghost use Rattle.std.specs.Prelude.{◌≡◌, ◌≢◌, ◌≤◌, ◌<◌, ◌^◌, ℕ, Bool, true, false, List, [], ◌∷◌, length, None, Option, Some};
 ghost use Rattle.std.specs.Option.{option_map_or};
 ghost use Rattle.command_table.specs.Commands.{changes};
 ghost use Rattle.command_table.specs.Options.{Word, words_of};
@@ -8,10 +8,11 @@ ghost use Rattle.lvm_script.specs.Lines.{with_text};
 ghost use Rattle.lvm_run.specs.Commands.{is_built, spec_of};
 ghost use Rattle.lvm_run.specs.Disks.{AreDisks, HasDisks};
 ghost use Rattle.lvm_run.specs.History.{HasRoom, IsNothing, IsEntered, journal_by, lines_by, lines_of_task, lines_of_words, said_of};
+ghost use Rattle.lvm_run.specs.InUse.{LeavesInUse};
 ghost use Rattle.lvm_run.specs.Meets.{Meets};
 ghost use Rattle.lvm_run.specs.Outcomes.{Ends, IsOfLineOne, output_of};
 ghost use Rattle.lvm_run.specs.Runs.{AreNamed, CanPlan, CanPlanTask, RunsLine, RunsTask, RunsWords, context_with, names_of};
-ghost use Rattle.lvm_run.specs.Sessions.{ProgramRuns, SingleRuns};
+ghost use Rattle.lvm_run.specs.Sessions.{ProgramRuns, SingleRuns, asks_session};
 ghost use Rattle.lvm_run.specs.Sourced.{SourceState, source};
 
 use crate::built::is_built;
@@ -66,7 +67,8 @@ impl<S> Ended<S> {
 
 /// Runs the program's words. Where they name disks, `shelf` has these in that order, each of 8 to 2^40 sectors, with nothing
 /// in flight. The output goes to `out`, the ids of what is created are drawn from `ids`, and `now` is the time in seconds.
-/// A session and vgcfgrestore read `script`, to its end, and no other command that is built does. None starts a thread.
+/// A session and vgcfgrestore read `script`, to its end, and no other command that is built does. None starts a thread. `forced` says
+/// that a session takes disks that are in use.
 pub fn lvm_run<
     T: Threads + Wait + Sync,
     S: Shelf + Send,
@@ -77,6 +79,7 @@ pub fn lvm_run<
 >(
     _rt: &T,
     alloc: Global,
+    forced: bool,
     words: &Vec<String>,
     script: &mut R,
     out: &mut W,
@@ -89,15 +92,20 @@ pub fn lvm_run<
     requires time { now < 2 ^ 48 }
 
     // A session does what is said of sessions, and other words what is said of them.
-    ensures run { ProgramRuns (words_of words.now.items) now S.state
+    ensures run { ProgramRuns forced (words_of words.now.items) now S.state
         (source (R.left script.old) (R.fault_count script.old)) (source (R.left script.new) (R.fault_count script.new))
         (N.upcoming ids.old) (N.upcoming ids.new) (S.state shelf)
         result.status (W.written out.old) (W.fault_count out.old) (W.written out.new) (W.fault_count out.new)
         result.entered.journal.items result.entered.answers.items result.shelf }
+
+    // Unless it is forced a session writes no disk that is in use.
+    ensures kept { forced ≡ false → asks_session (words_of words.now.items) ≡ true → LeavesInUse (S.state shelf) (S.state result.shelf) }
 {
     match asked_session(alloc, words) {
         Ok(Some(AskedSession { names, session })) => {
-            run_session(alloc, script, out, shelf, ids, &names, &session, gate)
+            run_session(
+                alloc, script, out, shelf, ids, &names, &session, forced, gate,
+            )
         }
         Ok(None) => run_single(alloc, words, script, out, shelf, ids, now),
         Err(AllocError) => end_unread(alloc, shelf),
@@ -106,8 +114,9 @@ pub fn lvm_run<
 
 // Ends a run for whose words memory was wanting: nothing is read, done or printed.
 fn end_unread<S: Shelf>(alloc: Global, shelf: S) -> Ended<S>
-    ensures { (words : List Word) (now : ℕ) (from : SourceState) (ids : ℕ → List ℕ) (written : Option (List ℕ)) (faults : ℕ) → HasDisks words (S.state shelf)
-        → ProgramRuns words now S.state from from ids ids (S.state shelf) result.status written faults written faults
+    ensures same { result.shelf ≡ shelf }
+    ensures unread { (forced : Bool) (words : List Word) (now : ℕ) (from : SourceState) (ids : ℕ → List ℕ) (written : Option (List ℕ)) (faults : ℕ) → HasDisks words (S.state shelf)
+        → ProgramRuns forced words now S.state from from ids ids (S.state shelf) result.status written faults written faults
         result.entered.journal.items result.entered.answers.items result.shelf }
 {
     Ended {

@@ -1,10 +1,11 @@
 //! A session: the lines of a script, run on the volumes of what the disks hold.
-ghost use Rattle.std.specs.Prelude.{◌≡◌, ◌≤◌, ◌++◌, [], All, length, is_ok, IfOk, IfSome, MatchResult, Ok, Err};
+ghost use Rattle.std.specs.Prelude.{◌≡◌, ◌≤◌, ◌++◌, [], All, false, length, is_ok, IfErr, IfOk, IfSome, MatchOption, MatchResult, Ok, Err};
 ghost use Rattle.disk_model.specs.Idle.{IsIdleAgain};
 ghost use Rattle.change_batches.specs.Sound.{sizes_of};
 ghost use Rattle.vg_found.specs.Shape.{HasShape};
 ghost use Rattle.vg_found.specs.Whole.{IsWhole};
 ghost use Rattle.volume_rules.specs.Rules.{IsAccepted};
+ghost use Rattle.disk_use.specs.Unlisted.{AreListed, IsUnlisted};
 ghost use Rattle.vg_repair.specs.declared.fault.RepairFault.{RepairFault as FaultRecord};
 ghost use Rattle.io_core.specs.Rest.{LiesOn};
 ghost use Rattle.session_run.specs.SessionScript.{AreOfSession};
@@ -12,6 +13,7 @@ ghost use Rattle.session_run.specs.Status.{status_of_lines};
 ghost use Rattle.lvm_run.specs.Changing.{ending_of};
 ghost use Rattle.lvm_run.specs.Disks.{AreDisks};
 ghost use Rattle.lvm_run.specs.History.{IsNothing};
+ghost use Rattle.lvm_run.specs.InUse.{AreAllFree, LeavesInUse};
 ghost use Rattle.lvm_run.specs.Sessions.{EndedBefore, IsUnready, OpensAndRepairs, Ran, ReadsLines, ReadsNoLines, RepairsFound, RunsSession, SessionEnds};
 ghost use Rattle.lvm_run.specs.Sessions.{first_status, script_ending, source_ending, status_if};
 ghost use Rattle.lvm_run.specs.Sourced.{source};
@@ -26,6 +28,7 @@ use crate::run::Ended;
 use byte_streams::{Failed, ReadFault, Sink, Source, read_all};
 use command_table::Session;
 use disk_model::Shelf;
+use disk_use::first_unlisted;
 use io_core::DataLine;
 use line_answers::DiskNames;
 use line_table::Answers;
@@ -42,8 +45,8 @@ use vg_repair::repair;
 use volume_history::parts_make_consistent;
 
 /// Runs the session on these disks: reads the source to its end and the script in it, flushes and scans the disks, repairs what is
-/// stale, old or a stray, runs the lines on what is found then, and writes what they answer. All memory for a repair, and then for each
-/// line, is taken before anything of it is written.
+/// stale, old or a stray, runs the lines on what is found then, and writes what they answer. Unless it is forced none is in use. All
+/// memory for a repair, and then for each line, is taken before anything of it is written.
 pub fn run_session<S: Shelf, R: Source, W: Sink, N: Words64, G: Gate>(
     alloc: Global,
     script: &mut R,
@@ -52,14 +55,16 @@ pub fn run_session<S: Shelf, R: Source, W: Sink, N: Words64, G: Gate>(
     ids: &mut N,
     names: &DiskNames,
     session: &Session,
+    forced: bool,
     gate: &G,
 ) -> Ended<S>
     requires disks { AreDisks (length names.now) (S.state shelf) }
     requires some { 1 ≤ length names.now }
     requires few { length names.now ≤ 64 }
-    ensures { RunsSession session.now names.now S.state (source (R.left script.old) (R.fault_count script.old)) (source (R.left script.new) (R.fault_count script.new))
+    ensures runs { RunsSession forced session.now names.now S.state (source (R.left script.old) (R.fault_count script.old)) (source (R.left script.new) (R.fault_count script.new))
         (N.upcoming ids.old) (N.upcoming ids.new) (S.state shelf) result.status (W.written out.old) (W.fault_count out.old) (W.written out.new) (W.fault_count out.new)
         result.entered.journal.items result.entered.answers.items result.shelf }
+    ensures kept { forced ≡ false → LeavesInUse (S.state shelf) (S.state result.shelf) }
 {
     // (what is proved of such runs)
     repair_scans();
@@ -72,7 +77,7 @@ pub fn run_session<S: Shelf, R: Source, W: Sink, N: Words64, G: Gate>(
         Err(ending) => return end_before(alloc, out, names, shelf, ending),
     };
     let mut shelf = shelf;
-    let whole = match open_whole(alloc, &mut shelf) {
+    let whole = match open_whole(alloc, &mut shelf, forced) {
         Ok(whole) => whole,
         Err(ending) => return end_before(alloc, out, names, shelf, ending),
     };
@@ -134,23 +139,39 @@ fn script_ending(refusal: ScriptRefusal) -> Ending
     }
 }
 
-// Flushes and scans the disks, repairs what is found, and gives what is found then.
-fn open_whole<S: Shelf>(alloc: Global, shelf: &mut S) -> Result<Whole, Ending>
+// Flushes and scans the disks, repairs what is found, and gives what is found then. Unless it is forced none of the disks is in use.
+fn open_whole<S: Shelf>(alloc: Global, shelf: &mut S, forced: bool) -> Result<Whole, Ending>
     requires disks { AreDisks (length (S.state shelf.old).sizes) (S.state shelf.old) }
     requires some { 1 ≤ length (S.state shelf.old).sizes }
     requires few { length (S.state shelf.old).sizes ≤ 64 }
     ensures again { IsIdleAgain (S.state shelf.old) (S.state shelf.new) }
     ensures ready { MatchResult result
         (λ whole. OpensAndRepairs (S.state shelf.old) (Ok whole) (S.state shelf.new))
-        (λ ending. IsUnready (S.state shelf.old) ending (S.state shelf.new)) }
+        (λ ending. IsUnready forced (S.state shelf.old) ending (S.state shelf.new)) }
+    ensures free { IfOk result (λ _. forced ≡ false → AreAllFree (S.state shelf.old)) }
+    ensures kept { IfErr result (λ _. forced ≡ false → LeavesInUse (S.state shelf.old) (S.state shelf.new)) }
     ensures lies { IfOk result (LiesOn (S.state shelf.new).sizes) }
     ensures shape { IfOk result HasShape }
     ensures whole { IfOk result IsWhole }
 {
-    match open_disks(alloc, shelf) {
-        Ok(whole) => repair_whole(alloc, whole, shelf),
-        Err(ending) => Err(ending),
+    let whole = match open_disks(alloc, shelf) {
+        Ok(whole) => whole,
+        Err(ending) => return Err(ending),
+    };
+    if let Some(pv) = first_in_use(&whole, forced) {
+        return Err(Ending::DiskInUse(pv));
     }
+    repair_whole(alloc, whole, shelf)
+}
+
+// The first disk that a group uses which wasn't found, unless that is all the same.
+fn first_in_use(whole: &Whole, forced: bool) -> Option<u32>
+    ensures { MatchOption result (forced ≡ false → AreListed whole.now) (λ pv. (forced ≡ false) × IsUnlisted whole.now pv) }
+{
+    if forced {
+        return None;
+    }
+    first_unlisted(whole.found())
 }
 
 // Repairs what was found on the disks, and gives what is found then.

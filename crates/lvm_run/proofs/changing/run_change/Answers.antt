@@ -1,4 +1,4 @@
-use Rattle.std.proofs.Common.{◌≡◌, ℕ, length, ap, sym, subst, arith}
+use Rattle.std.proofs.Common.{◌≡◌, ℕ, false, length, ap, sym, subst, arith}
 use Rattle.std.proofs.lemmas.List.{length-map}
 use Rattle.vg_found.specs.declared.disk.Disk.{Disk}
 use Rattle.lvm_script.specs.declared.line.Line.{Line}
@@ -28,7 +28,7 @@ returns-in-Err-clause-meets g c =
 pub returns-in-Err-clause-entered : goal.returns-in-Err-clause-entered
 returns-in-Err-clause-entered g c =
     let s1 = g.S.Shelf.state c.open_disks.new.shelf in
-    kept_unopened c.args.names.now c.args.now (g.S.Shelf.state c.args.shelf.now) s1 c.in-Err.ensures.again.later
+    kept_unopened false c.args.names.now c.args.now (g.S.Shelf.state c.args.shelf.now) s1 c.in-Err.ensures.again.later
     (told_of s1 (g.met.S.Shelf.lawful c.open_disks.new.shelf)) c.in-Err.ensures.told
 
 pub returns-in-Ok-clause-meets : goal.returns-in-Ok-clause-meets

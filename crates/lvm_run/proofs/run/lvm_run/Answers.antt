@@ -1,10 +1,12 @@
-use Rattle.std.proofs.Common.{◌≡◌, false, List, Option, None, Some, subst}
+use Rattle.std.proofs.Common.{◌≡◌, ◌∙◌, false, true≢false, List, Option, None, Some, sym, subst}
 use Rattle.std.specs.Prelude.{MatchOption}
 use Rattle.std.specs.declared.string.String.{String}
 use Rattle.command_table.specs.Options.{Word, words_of}
+use Rattle.lvm_run.specs.InUse.{LeavesInUse}
 use Rattle.lvm_run.specs.Sessions.{AsksFor, asks_session}
 use Rattle.lvm_run.specs.Sourced.{source}
 use Rattle.lvm_run.specs.declared.session_words.AskedSession.{AskedSession}
+use Rattle.lvm_run.proofs.LeftInUse.{left_same}
 use Rattle.lvm_run.proofs.SessionWords.{are_few, are_some, at_false, its_disks, session_ran}
 use Rattle.lvm_run.proofs.run.lvm_run.Goals as goal
 
@@ -49,24 +51,32 @@ returns-in-Ok-Some g c =
       run = session_ran (words_of c.args.words.now.items) own.names own.session
           (asked_by c.deref.result.now c.args.words.now.items c.deref.ensures.value c.in-Ok-Some.field-0 (Some own)
           c.in-Ok-Some.field-0-is c.in-Ok-Some.ensures)
-          c.args.now g.S.Shelf.state (source (g.R.Source.left c.args.script.now) (g.R.Source.fault_count c.args.script.now))
+          c.args.forced c.args.now g.S.Shelf.state (source (g.R.Source.left c.args.script.now) (g.R.Source.fault_count c.args.script.now))
           (source (g.R.Source.left c.run_session.new.script) (g.R.Source.fault_count c.run_session.new.script))
           (g.N.Words64.upcoming c.args.ids.now) (g.N.Words64.upcoming c.run_session.new.ids) (g.S.Shelf.state c.args.shelf)
           ended.status (g.W.Sink.written c.args.out.now) (g.W.Sink.fault_count c.args.out.now)
           (g.W.Sink.written c.run_session.new.out) (g.W.Sink.fault_count c.run_session.new.out)
-          ended.entered.journal.items ended.entered.answers.items ended.shelf c.run_session.ensures;
+          ended.entered.journal.items ended.entered.answers.items ended.shelf c.run_session.ensures.runs;
+      kept = λ unforced asks. c.run_session.ensures.kept unforced;
     }
 
 pub returns-in-Ok-None : goal.returns-in-Ok-None
-returns-in-Ok-None g c = record {
-  run = at_false _ _ (asks_session (words_of c.args.words.now.items))
-      (asked_by c.deref.result.now c.args.words.now.items c.deref.ensures.value c.in-Ok-None.field-0 None c.in-Ok-None.field-0-is
-      c.in-Ok-None.ensures) c.run_single.ensures.run;
-}
+returns-in-Ok-None g c =
+    let words = words_of c.args.words.now.items in
+    let none : asks_session words ≡ false =
+    asked_by c.deref.result.now c.args.words.now.items c.deref.ensures.value c.in-Ok-None.field-0 None c.in-Ok-None.field-0-is
+    c.in-Ok-None.ensures in
+    record {
+      run = at_false _ _ (asks_session words) none c.run_single.ensures.run;
+      kept = λ unforced asks. absurd (true≢false (sym asks ∙ none));
+    }
 
 pub returns-in-Err : goal.returns-in-Err
 returns-in-Err g c = record {
-  run = c.end_unread.ensures (words_of c.args.words.now.items) c.args.now
+  run = c.end_unread.ensures.unread c.args.forced (words_of c.args.words.now.items) c.args.now
       (source (g.R.Source.left c.args.script.now) (g.R.Source.fault_count c.args.script.now)) (g.N.Words64.upcoming c.args.ids.now)
       (g.W.Sink.written c.args.out.now) (g.W.Sink.fault_count c.args.out.now) c.requires.disks;
+  kept = λ unforced asks.
+      let old = g.S.Shelf.state c.args.shelf in
+      subst (λ (s : g.row.S.Denot). LeavesInUse old (g.S.Shelf.state s)) (sym c.end_unread.ensures.same) (left_same old);
 }

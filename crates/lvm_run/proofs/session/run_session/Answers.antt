@@ -1,15 +1,17 @@
 use Rattle.std.proofs.Common.{◌∙◌, ℕ, length, refl, sym, ap, subst, arith}
 use Rattle.lvm_run.specs.Disks.{AreDisks}
+use Rattle.lvm_run.specs.InUse.{LeavesInUse}
 use Rattle.lvm_run.specs.Sessions.{NoLines, Ran, Unbegun, Unbuilt, Unready}
 use Rattle.lvm_run.specs.Sourced.{source}
 use Rattle.lvm_run.specs.declared.ending.Ending.TheVariants.{NoMemory, WordsRefused}
+use Rattle.lvm_run.proofs.LeftInUse.{left_free_all, left_same}
 use Rattle.lvm_run.proofs.Promised.{told_of}
 use Rattle.lvm_run.proofs.SessionCauses.{ended}
 use Rattle.lvm_run.proofs.SessionHistory.{session_history}
 use Rattle.lvm_run.proofs.session.run_session.Goals as goal
 
-pub returns-then-not-is_built_session : goal.returns-then-not-is_built_session
-returns-then-not-is_built_session g c =
+pub returns-then-not-is_built_session-clause-runs : goal.returns-then-not-is_built_session-clause-runs
+returns-then-not-is_built_session-clause-runs g c =
     let e = c.end_before.ensures in
     let from = source (g.R.Source.left c.args.script.now) (g.R.Source.fault_count c.args.script.now) in
     ended {from = from} {to = from} c.end_before.result.entered WordsRefused c.args.shelf
@@ -20,17 +22,19 @@ returns-then-not-is_built_session g c =
       undrawn = refl;
       nothing = refl;
     }))
-    (told_of (g.S.Shelf.state c.args.shelf) (g.met.S.Shelf.lawful c.args.shelf)) (told_of (g.S.Shelf.state c.args.shelf) (g.met.S.Shelf.lawful c.args.shelf))
+    (told_of (g.S.Shelf.state c.args.shelf) (g.met.S.Shelf.lawful c.args.shelf))
+    (told_of (g.S.Shelf.state c.args.shelf) (g.met.S.Shelf.lawful c.args.shelf))
     e.shelf e.nothing e.ends
 
-pub returns-in-Err : goal.returns-in-Err
-returns-in-Err g c =
+pub returns-in-Err-clause-runs : goal.returns-in-Err-clause-runs
+returns-in-Err-clause-runs g c =
     let e = c.end_before-in-Err.ensures in
     let from = source (g.R.Source.left c.args.script.now) (g.R.Source.fault_count c.args.script.now) in
     let to = source (g.R.Source.left c.read_lines.new.script) (g.R.Source.fault_count c.read_lines.new.script) in
     ended {from = from} {to = to} c.end_before-in-Err.result.entered c.in-Err.ending c.args.shelf
     (NoLines (sym c.is_built_session.ensures ∙ c.if-not-is_built_session.false) c.in-Err.ensures.read refl)
-    (told_of (g.S.Shelf.state c.args.shelf) (g.met.S.Shelf.lawful c.args.shelf)) (told_of (g.S.Shelf.state c.args.shelf) (g.met.S.Shelf.lawful c.args.shelf))
+    (told_of (g.S.Shelf.state c.args.shelf) (g.met.S.Shelf.lawful c.args.shelf))
+    (told_of (g.S.Shelf.state c.args.shelf) (g.met.S.Shelf.lawful c.args.shelf))
     e.shelf e.nothing e.ends
 
 pub open_whole-requires-clause-disks : goal.open_whole-requires-clause-disks
@@ -43,8 +47,8 @@ open_whole-requires-clause-some g c = omega (arith, c.requires.disks.many, c.req
 pub open_whole-requires-clause-few : goal.open_whole-requires-clause-few
 open_whole-requires-clause-few g c = omega (arith, c.requires.disks.many, c.requires.few)
 
-pub returns-in-Err-open_whole : goal.returns-in-Err-open_whole
-returns-in-Err-open_whole g c =
+pub returns-in-Err-open_whole-clause-runs : goal.returns-in-Err-open_whole-clause-runs
+returns-in-Err-open_whole-clause-runs g c =
     let e = c.end_before-in-Err-open_whole.ensures in
     let from = source (g.R.Source.left c.args.script.now) (g.R.Source.fault_count c.args.script.now) in
     let to = source (g.R.Source.left c.read_lines.new.script) (g.R.Source.fault_count c.read_lines.new.script) in
@@ -58,8 +62,8 @@ pub run_lines-requires-clause-few : goal.run_lines-requires-clause-few
 run_lines-requires-clause-few g c =
     omega (arith, ap length c.open_whole.ensures.again.sizes, c.requires.disks.many, c.requires.few)
 
-pub returns-in-Ok-run_lines : goal.returns-in-Ok-run_lines
-returns-in-Ok-run_lines g c =
+pub returns-in-Ok-run_lines-clause-runs : goal.returns-in-Ok-run_lines-clause-runs
+returns-in-Ok-run_lines-clause-runs g c =
     let e = c.end_lines.ensures in
     let ran = c.in-Ok-run_lines.ran in
     let state = g.S.Shelf.state in
@@ -89,8 +93,8 @@ returns-in-Ok-run_lines g c =
       ends = e.ends;
     }
 
-pub returns-in-Err-run_lines : goal.returns-in-Err-run_lines
-returns-in-Err-run_lines g c =
+pub returns-in-Err-run_lines-clause-runs : goal.returns-in-Err-run_lines-clause-runs
+returns-in-Err-run_lines-clause-runs g c =
     let e = c.end_before-in-Err-run_lines.ensures in
     let from = source (g.R.Source.left c.args.script.now) (g.R.Source.fault_count c.args.script.now) in
     let to = source (g.R.Source.left c.read_lines.new.script) (g.R.Source.fault_count c.read_lines.new.script) in
@@ -100,3 +104,28 @@ returns-in-Err-run_lines g c =
     (told_of (g.S.Shelf.state c.args.shelf) (g.met.S.Shelf.lawful c.args.shelf))
     (told_of (g.S.Shelf.state c.open_whole.new.shelf) (g.met.S.Shelf.lawful c.open_whole.new.shelf))
     (e.shelf ∙ c.in-Err-run_lines.ensures) e.nothing e.ends
+
+pub returns-then-not-is_built_session-clause-kept : goal.returns-then-not-is_built_session-clause-kept
+returns-then-not-is_built_session-clause-kept g c = λ unforced.
+    let old = g.S.Shelf.state c.args.shelf in
+    subst (λ (s : g.row.S.Denot). LeavesInUse old (g.S.Shelf.state s)) (sym c.end_before.ensures.shelf) (left_same old)
+
+pub returns-in-Err-clause-kept : goal.returns-in-Err-clause-kept
+returns-in-Err-clause-kept g c = λ unforced.
+    let old = g.S.Shelf.state c.args.shelf in
+    subst (λ (s : g.row.S.Denot). LeavesInUse old (g.S.Shelf.state s)) (sym c.end_before-in-Err.ensures.shelf) (left_same old)
+
+pub returns-in-Err-open_whole-clause-kept : goal.returns-in-Err-open_whole-clause-kept
+returns-in-Err-open_whole-clause-kept g c = λ unforced.
+    subst (λ (s : g.row.S.Denot). LeavesInUse (g.S.Shelf.state c.args.shelf) (g.S.Shelf.state s))
+    (sym c.end_before-in-Err-open_whole.ensures.shelf)
+    (c.in-Err-open_whole.ensures.kept unforced)
+
+pub returns-in-Ok-run_lines-clause-kept : goal.returns-in-Ok-run_lines-clause-kept
+returns-in-Ok-run_lines-clause-kept g c = λ unforced.
+    left_free_all (g.S.Shelf.state c.args.shelf) (g.S.Shelf.state c.end_lines.result.shelf) (c.in-Ok-open_whole.ensures.free unforced)
+
+pub returns-in-Err-run_lines-clause-kept : goal.returns-in-Err-run_lines-clause-kept
+returns-in-Err-run_lines-clause-kept g c = λ unforced.
+    left_free_all (g.S.Shelf.state c.args.shelf) (g.S.Shelf.state c.end_before-in-Err-run_lines.result.shelf)
+    (c.in-Ok-open_whole.ensures.free unforced)
