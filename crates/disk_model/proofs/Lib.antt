@@ -1,4 +1,4 @@
-mod OneStepMore
+pub mod OneStepMore
 pub mod WritesInFlight
 pub mod Durable
 pub mod EveryMoment
