@@ -1,8 +1,9 @@
 -- The flush that has ended: it is one of the plan's.
 use Rattle.std.proofs.Common.{◌≡◌, ◌<◌, ◌||◌, ℕ, suc, ◌+◌, Bool, true, false, nat_eq, IsTrue, List, [], ◌∷◌, length, Option, None, Some}
 use Rattle.std.proofs.Common.{cond, not, find}
-use Rattle.std.proofs.Common.{option_map, refl, sym, ap, ◌∙◌, arith, slice_index_or}
+use Rattle.std.proofs.Common.{option_map, refl, sym, ap, subst, ◌∙◌, arith, slice_index_or}
 use Rattle.std.specs.List.{list_any, position_or_len}
+use Rattle.std.proofs.lemmas.Bool.{eqb-true}
 use Rattle.std.proofs.lemmas.Option.{none-some, same_Some}
 use Rattle.list_laws.proofs.Members.{in_list}
 use Rattle.disk_model.specs.Operations.{Lies, work_of}
@@ -42,6 +43,15 @@ module _ {X : Type 0} (test : X → Bool) where
             rw (next) (found_first xs x d h)
       ] is
 
+  -- it passes
+  pub found_passes : (xs : List X) (x : X) → find test xs ≡ Some x → test x ≡ true
+  found_passes [] x is = absurd (none-some x is)
+  found_passes (y ∷ xs) x is =
+      elim (test y) as (λ b. test y ≡ b → cond b (Some y) (find test xs) ≡ Some x → test x ≡ true) [
+        | true ↦ λ t h. subst (λ (z : X). test z ≡ true) (same_Some y x h) t
+        | false ↦ λ t h. found_passes xs x h
+      ] refl is
+
 -- ---- the flush
 
 -- it is one of the plan's, on this disk
@@ -50,6 +60,7 @@ pub record WasFlush (w : World) (done : Done) : Type 0 where
   pub does : work_of done.op ≡ Flushing pv
   pub flies : IsTrue (is_in_flight w.core.waits.plan done.tag)
   pub its : (flush_of w.core.waits.plan done.tag).pv ≡ pv
+  pub tagged : (flush_of w.core.waits.plan done.tag).tag ≡ done.tag
   pub within : pv < length w.core.waits.plan.marks
 
 module _ (w : World) (done : Done) (now : State) (o : IsOrderly w) (may : Allowed w (EndsFlush done now)) where
@@ -72,6 +83,10 @@ module _ (w : World) (done : Done) (now : State) (o : IsOrderly w) (may : Allowe
       ∙ tagged w.shelf.in_flight (record { tag = done.tag; work = work_of done.op }) o.backed.lawful.order
       (in_list w.shelf.in_flight _ may.0.was))
     where
+      first : (f : Flush) → flush_at w.core.waits.plan done.tag ≡ Some f → flush_of w.core.waits.plan done.tag ≡ f
+      first f at =
+          found_first (λ (x : Flush). nat_eq x.tag done.tag) w.core.waits.plan.flushes f (record { tag = 0; pv = 0; after = 0 }) at
+
       by : (f : Option Flush) → flush_at w.core.waits.plan done.tag ≡ f
           → option_map (λ (x : Flush). Flushing x.pv) f ≡ Some (work_of done.op)
           → WasFlush w done
@@ -83,8 +98,9 @@ module _ (w : World) (done : Done) (now : State) (o : IsOrderly w) (may : Allowe
             pv = f.pv;
             does = does;
             flies = found_any (λ (x : Flush). nat_eq x.tag done.tag) w.core.waits.plan.flushes f at;
-            its =
-                ap (λ (x : Flush). x.pv)
-                (found_first (λ (x : Flush). nat_eq x.tag done.tag) w.core.waits.plan.flushes f (record { tag = 0; pv = 0; after = 0 }) at);
+            its = ap (λ (x : Flush). x.pv) (first f at);
+            tagged =
+                ap (λ (x : Flush). x.tag) (first f at)
+                ∙ eqb-true f.tag done.tag (found_passes (λ (x : Flush). nat_eq x.tag done.tag) w.core.waits.plan.flushes f at);
             within = omega (arith, disk, o.backed.places.many, o.tidy.flushes.marks);
           }

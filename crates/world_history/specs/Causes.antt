@@ -1,11 +1,12 @@
 -- Why a session's line answers that a disk couldn't be read, or has failed.
-use Rattle.std.specs.Prelude.{◌≡◌, ◌⊎◌, Contains, ℕ, ◌-◌, ◌==◌, true, false, if◌then◌else◌, List, [], ◌∷◌, Some, slice_get, take}
+use Rattle.std.specs.Prelude.{◌≡◌, ◌⊎◌, Contains, ℕ, ◌-◌, ◌==◌, Bool, true, false, ◌&&◌, ◌||◌, if◌then◌else◌, List, [], ◌∷◌}
+use Rattle.std.specs.Prelude.{Some, slice_get, take}
 use Rattle.sector_base.specs.declared.places.Piece.{Piece}
 use Rattle.line_answers.specs.declared.answer.Answer.{Answer}
 use Rattle.line_answers.specs.declared.answer.Answer.TheVariants as answer
-use Rattle.disk_model.specs.Steps.{Completed, Reading, Step}
+use Rattle.disk_model.specs.Steps.{Completed, Flushing, Reading, Step, Submitted}
 use Rattle.volume_history.specs.Candidates.{is_through_line}
-use Rattle.volume_history.specs.Chronicles.{Answered, Begun, ChronicleEntry, Failed, Origin, Took, begun_in, has_failed, is_failed_disk}
+use Rattle.volume_history.specs.Chronicles.{Answered, Begun, ChronicleEntry, Failed, Origin, Took, begun_in, is_failed_disk}
 use Rattle.volume_history.specs.Chronicles.{steps_upto}
 use Rattle.volume_history.specs.Cuts.{FlushesVolume}
 use Rattle.volume_history.specs.Placed.{Place, volumes_of}
@@ -47,19 +48,32 @@ pub record LosesPiece (o : Origin) (es : List ChronicleEntry) (n pv : ℕ) : Typ
   pub disk : place.disk ≡ pv
   pub lost : is_failed_disk o moment pv ≡ true
 
--- the piece that took place is one of the line's own, where that is through, and the disk has failed since
+-- whether an operation was submitted under the tag in these steps
+abbrev pub is_asked : ℕ → List Step → Bool
+is_asked tag [] = false
+is_asked tag (Submitted t work ∷ steps) = (t == tag) || is_asked tag steps
+is_asked tag (_ ∷ steps) = is_asked tag steps
+
+-- whether a flush of the disk failed in these steps that was submitted in them
+abbrev pub has_lost_flush : List Step → ℕ → Bool
+has_lost_flush [] pv = false
+has_lost_flush (Completed tag (Flushing disk) false fresh ∷ steps) pv =
+    ((disk == pv) && is_asked tag steps) || has_lost_flush steps pv
+has_lost_flush (_ ∷ steps) pv = has_lost_flush steps pv
+
+-- the piece that took place is one of the line's own, where that is through, and a flush of the disk failed that was submitted since
 pub record IsOwnLoss (o : Origin) (es : List ChronicleEntry) (moment n pv since writer : ℕ) (piece : Piece) : Type 0 where
   pub through : is_through_line (begun_in es n) ≡ true
   pub own : writer ≡ n
   pub took : Contains es (Took since n piece)
-  pub lost : has_failed (take (moment - since) (steps_upto o moment)) pv ≡ true
+  pub lost : has_lost_flush (take (moment - since) (steps_upto o moment)) pv ≡ true
 
 -- or it is one from before the line, to the volume that it flushes
 pub record IsEarlier (es : List ChronicleEntry) (n since writer : ℕ) (piece : Piece) : Type 0 where
   pub flushes : FlushesVolume es n piece.volume
   pub took : Contains (before_line es n) (Took since writer piece)
 
--- a write took place on the disk, for which the line waits, and doesn't last
+-- a write took place on the disk, for which the line waits
 pub record LosesWrite (o : Origin) (es : List ChronicleEntry) (moment n pv : ℕ) : Type 0 where
   pub since : ℕ
   pub writer : ℕ

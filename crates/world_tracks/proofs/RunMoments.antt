@@ -107,7 +107,8 @@ pub run_consistent : {S : Type 0} (state : S → State) → PiecesCoverRequest �
     → HasTimelyTrace (λ (w : WorldOn S). w.core.lines.begun) allows
     (λ (old : WorldOn S) (event : Event Line) (new : WorldOn S).
     Makes (world (state old.shelf) old.core) event (world (state new.shelf) new.core)) start script ended wanted refused
-    → MomentLaws → (o : Origin) (base : Image) → HasBase o base → (P : ℕ → World → List ChronicleEntry → Type 0) (T : World → List ChronicleEntry → Type 0)
+    → MomentLaws → (o : Origin) (base : Image) → HasBase o base
+    → (P : ℕ → World → List ChronicleEntry → Type 0) (T : World → List ChronicleEntry → Type 0)
     → ((line : ℕ) (w : World) (es : List ChronicleEntry) → P line w es → IsTracked o w es)
     → ((w : World) (es : List ChronicleEntry) → T w es → IsTracked o w es)
     → ((w : World) (es : List ChronicleEntry) → T w es → (told : Record) → w.shelf.told ≡ Some told → AreCaused (origin_with o told) es)
@@ -121,7 +122,8 @@ run_consistent state law start script session found disks allows ended wanted re
     let w = world (state start.shelf) start.core in
     let at_start : Moments o base w [] = λ beside told' is'.
     subst (λ (r : Record). HasMoments o base r []) (same_Some o.told told' (sym is ∙ is')) (opening_moments o base o.told stands past) in
-    let g = trace_going state law start script session o.start (keeps_moments laws o base has P T preparing gives keeps) allows run.steps ended
+    let g =
+    trace_going state law start script session o.start (keeps_moments laws o base has P T preparing gives keeps) allows run.steps ended
     run.trace run.timely
     (record {
       has = record {

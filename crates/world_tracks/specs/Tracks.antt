@@ -3,8 +3,10 @@ use Rattle.std.specs.Prelude.{◌≡◌, ℕ, List, Some, slice_get}
 use Rattle.disk_model.specs.Steps.{Record}
 use Rattle.volume_history.specs.Chronicles.{ChronicleEntry, Origin}
 use Rattle.volume_history.specs.Placed.{Place, volumes_of}
-use Rattle.world_places.specs.Laws.{AnswersKeep, BadWritesKeep, BeginningsKeep, FailedFlushesKeep, FailuresKeep, FlushesDoneKeep, FlushesKeep}
-use Rattle.world_places.specs.Laws.{ForgettingKeeps, LivesKeep, OksKeep, OpeningTracks, OtherTakesKeep, OtherWritesKeep, StepsKeep, TakesKeep}
+use Rattle.world_places.specs.Laws.{AnswersKeep, BadWritesKeep, BeginningsKeep, FailedFlushesKeep, FailuresKeep, FlushesDoneKeep}
+use Rattle.world_places.specs.Laws.{FlushesKeep}
+use Rattle.world_places.specs.Laws.{ForgettingKeeps, LivesKeep, OksKeep, OpeningTracks, OtherTakesKeep, OtherWritesKeep, StepsKeep}
+use Rattle.world_places.specs.Laws.{TakesKeep}
 use Rattle.world_places.specs.Laws.{WritesDoneKeep, WritesKeep}
 use Rattle.world_places.specs.Lives.{Written}
 use Rattle.world_places.specs.Tracked.{Tracked}

@@ -6,14 +6,17 @@ use Rattle.std.specs.FinSet as set
 use Rattle.std.specs.Ordering.{nat_cmp}
 use Rattle.std.proofs.lemmas.Bool.{cond_both}
 use Rattle.std.proofs.lemmas.List.{length-set}
+use Rattle.std.proofs.lemmas.List.Elements.{Contains-push_cases}
 use Rattle.std.proofs.lemmas.Option.{none-some}
 use Rattle.sector_base.specs.declared.places.Piece.{Piece}
 use Rattle.line_answers.specs.declared.answer.Answer.{Answer}
 use Rattle.line_answers.specs.declared.answer.Answer.TheVariants as answer
 use Rattle.lvm_script.specs.declared.line.Line.{Line}
 use Rattle.disk_model.specs.State.{State}
+use Rattle.disk_model.specs.Steps.{Flushing, Step, Submitted}
 use Rattle.disk_model.specs.declared.ops.Done.{Done}
 use Rattle.disk_model.specs.declared.ops.Op.{Op}
+use Rattle.flush_plan.specs.declared.records.Flush.{Flush}
 use Rattle.flush_plan.specs.declared.records.Marks.{Marks}
 use Rattle.flush_plan.specs.Plans.{marks_of, no_marks}
 use Rattle.claim_table.specs.declared.claim.Entry.{Entry}
@@ -27,7 +30,7 @@ use Rattle.piece_table.specs.declared.live.Stage.{Stage}
 use Rattle.piece_table.specs.declared.live.Stage.TheVariants.{Started, Taken, Waiting as Unsubmitted}
 use Rattle.piece_table.specs.Pieces.{Pieces}
 use Rattle.piece_table.specs.Steps.{live_of, no_live, with_flying, with_stage}
-use Rattle.volume_history.specs.Chronicles.{ChronicleEntry, Origin, Took}
+use Rattle.volume_history.specs.Chronicles.{ChronicleEntry, Origin, Took, origin_on}
 use Rattle.volume_history.specs.Commands.{is_good}
 use Rattle.volume_history.specs.Runs.{zero_piece}
 use Rattle.world_acts.specs.declared.open_line.OpenLine.{OpenLine}
@@ -46,7 +49,7 @@ use Rattle.world_acts.proofs.PiecesKept.{PieceAt}
 use Rattle.world_acts.proofs.Releasing.{open_by_left}
 use Rattle.world_acts.proofs.Tables.{appended, changes_both, own_at, removed, some_of}
 use Rattle.io_core.proofs.LiveLines.{set_open}
-use Rattle.world_history.specs.Causes.{AreCaused, HasCause}
+use Rattle.world_history.specs.Causes.{AreCaused, HasCause, is_asked}
 use Rattle.world_history.specs.Entries.{answered}
 use Rattle.world_history.specs.Told.{IsTold, IsWorkOf}
 use Rattle.world_history.proofs.Stages.{flown_untaken}
@@ -59,7 +62,7 @@ use Rattle.world_tracks.proofs.Causes.LineFailing.{flushes_volume, line_caused}
 use Rattle.world_tracks.proofs.Causes.Lines.{FailedBefore, before_added, before_both, before_closed, before_filled, before_finished}
 use Rattle.world_tracks.proofs.Causes.Lines.{before_itself, but_failed}
 use Rattle.world_tracks.proofs.Causes.Lives.{LivesWere, lives_changed, lives_itself, lives_untaken}
-use Rattle.world_tracks.proofs.Causes.Since.{IsLater, now_in}
+use Rattle.world_tracks.proofs.Causes.Since.{IsLater, asks_now, now_in, since_now, steps_since, told_since}
 use Rattle.world_tracks.proofs.Causes.Waiters.{released_before, submitted_before, waited_before}
 
 -- ---- what is noted and lasts stays
@@ -71,10 +74,12 @@ pub queue_go : (b b' : Origin) (c d : Core) (es : List ChronicleEntry) → IsLat
     → d.failed ≡ c.failed
     → FailedBefore c.opens d.opens
     → LivesWere c d
+    → ((f : Flush) → Contains d.waits.plan.flushes f
+    → Contains c.waits.plan.flushes f ⊎ ((since : ℕ) → since ≤ now_in b → told_since (is_asked f.tag) b' since (now_in b') ≡ true))
     → ((pv : ℕ) (it : Waiting) → Contains (waiters (disk_waits d.waits pv)) it
     → Contains (waiters (disk_waits c.waits pv)) it ⊎ IsWaitOf b' d es pv it.place it.waiter)
     → CausesGo b b' c d es es
-queue_go b b' c d es later marks dirty long failed lines lives waits = record {
+queue_go b b' c d es later marks dirty long failed lines lives flushes waits = record {
   later = later;
   more = extends_none es;
   lost = λ pv lost. inl (lost_same pv lost);
@@ -89,6 +94,7 @@ queue_go b b' c d es later marks dirty long failed lines lives waits = record {
         subst (λ (l : List Marks). place ≤ (get_or l pv no_marks).ended) marks ended,
         subst (λ (l : List Marks). (get_or l pv no_marks).stable < place) marks unstable,
       );
+  flushes = flushes;
   answered = λ are. are;
 }
   where
@@ -104,6 +110,7 @@ pub quiet_go : (b b' : Origin) (c d : Core) (es : List ChronicleEntry) → IsLat
 quiet_go b b' c d es later same failed lines lives =
     queue_go b b' c d es later (ap (λ (x : Waits). x.plan.marks) same) (ap (λ (x : Waits). x.dirty) same)
     (ap (λ (x : Waits). length x.disks) same) failed lines lives
+    (λ f has. inl (subst (λ (x : Waits). Contains x.plan.flushes f) same has))
     (λ pv it has. inl (subst (λ (x : Waits). Contains (waiters (disk_waits x pv)) it) same has))
 
 -- ---- each act
@@ -145,6 +152,7 @@ module _ {start : ℕ} {coming : ℕ → ℕ → ℕ} {w : World} {es : List Chr
         waits = λ pv it has. inl has;
         lives = lives_itself c d refl;
         marks = λ pv place ended unstable. inl (ended, unstable);
+        flushes = λ f has. inl has;
         answered = λ are. are;
       }
 
@@ -208,15 +216,25 @@ module _ {start : ℕ} {coming : ℕ → ℕ → ℕ} {w : World} {es : List Chr
         waits = λ pv it has. inl has;
         lives = lives_changed c d (removed c.pieces.lives number x.piece.live o.tidy.pieces.single x.piece.at) tt;
         marks = λ pv place ended unstable. inl (ended, unstable);
+        flushes = λ f has. inl has;
         answered = λ are. are;
       }
 
   -- a flush is submitted
-  pub asks_flush_go : (b' : Origin) (pv tag : ℕ) (now : State) → IsLater b b' → CausesGo b b' c (after w (AsksFlush pv tag now)).core es es
-  asks_flush_go b' pv tag now later =
+  pub asks_flush_go : (pv tag : ℕ) (now : State)
+      → CausesGo b (origin_on (Submitted tag (Flushing pv)) b) c (after w (AsksFlush pv tag now)).core es es
+  asks_flush_go pv tag now =
+      let step : Step = Submitted tag (Flushing pv) in
       let d : Core = (after w (AsksFlush pv tag now)).core in
-      queue_go b b' c d es later refl refl (length-set c.waits.disks pv (record { served = (disk_waits c.waits pv).next; next = [] })) refl
-      (before_itself c.opens) (lives_itself c d refl) (λ q who has. inl (submitted_before c.waits pv tag q who has))
+      queue_go b (origin_on step b) c d es (inr (step, refl)) refl refl
+      (length-set c.waits.disks pv (record { served = (disk_waits c.waits pv).next; next = [] })) refl
+      (before_itself c.opens) (lives_itself c d refl)
+      (λ f has. ⊎_elim (λ old. inl old)
+      (λ (is : record { tag = tag; pv = pv; after = c.waits.plan.held } ≡ f).
+      inr (λ since le. since_now (is_asked f.tag) step b since le
+      (subst (λ (x : Flush). is_asked x.tag (step ∷ steps_since b since) ≡ true) is (asks_now tag (Flushing pv) (steps_since b since)))))
+      (Contains-push_cases c.waits.plan.flushes (record { tag = tag; pv = pv; after = c.waits.plan.held }) f has))
+      (λ q who has. inl (submitted_before c.waits pv tag q who has))
 
   -- a line waits, by notes from before it
   pub awaits_go : (line pv : ℕ) → Allowed w (Awaits line pv) → ToOlder es line → CausesGo b b c (after w (Awaits line pv)).core es es
@@ -242,7 +260,7 @@ module _ {start : ℕ} {coming : ℕ → ℕ → ℕ} {w : World} {es : List Chr
       } in
       queue_go b b c d es (inl refl) refl refl
       (length-set c.waits.disks pv (with_waiting (disk_waits c.waits pv) it (awaited c.waits pv place))) refl
-      (before_added c.opens line m.opened m.is_open) (lives_itself c d refl)
+      (before_added c.opens line m.opened m.is_open) (lives_itself c d refl) (λ f has. inl has)
       (λ q who has. ⊎_elim (λ old. inl old)
       (λ (is : (pv ≡ q) × (it ≡ who)).
       inr (subst (λ (n : ℕ). IsWaitOf b d es n who.place who.waiter) is.0
@@ -262,7 +280,7 @@ module _ {start : ℕ} {coming : ℕ → ℕ → ℕ} {w : World} {es : List Chr
           let left = o.tidy.counts.left line in
           let found = open_by_left c.opens line (omega (arith, some, left)) in
           queue_go b b c d es (inl refl) refl refl long refl (before_finished c.opens line found.0 found.1) (lives_itself c d refl)
-          (λ q x has. inl (released_before c.waits pv q x has))
+          (λ f has. inl has) (λ q x has. inl (released_before c.waits pv q x has))
       of it served (waiter.Piece number) who = taken (taken_piece t o pv number it served who)
         where
           taken : (many : ℕ) × PieceAt c.pieces.lives number (Taken many) → CausesGo b b c (after_released c (waiter.Piece number) pv) es es
@@ -272,7 +290,7 @@ module _ {start : ℕ} {coming : ℕ → ℕ → ℕ} {w : World} {es : List Chr
               let x : HasPiece w number = piece_of w number l o p.1.at in
               queue_go b b c d es (inl refl) refl refl long refl
               (before_finished c.opens (live_of c.pieces number).line x.opened x.is_open)
-              (lives_changed c d (removed c.pieces.lives number l o.tidy.pieces.single p.1.at) tt)
+              (lives_changed c d (removed c.pieces.lives number l o.tidy.pieces.single p.1.at) tt) (λ f has. inl has)
               (λ q y has. inl (released_before c.waits pv q y has))
 
       by : (it : Waiting) × IsServed t pv it → CausesGo b b c (after w (Releases pv)).core es es
@@ -337,6 +355,7 @@ module _ {start : ℕ} {coming : ℕ → ℕ → ℕ} {w : World} {es : List Chr
         waits = λ pv it has. inl (subst (λ (y : Waits). Contains (waiters (disk_waits y pv)) it) waits has);
         lives = q.lives;
         marks = q.marks;
+        flushes = q.flushes;
         answered = λ are. (
           subst (λ (m : ℕ). HasCause b (rest ++ es) m line (answer_of x)) (sym moment)
               (cause_extended more b (now_in b) line (answer_of x) cause),

@@ -103,6 +103,7 @@ module _ (b : Origin) where
           waits = λ pv it has. inl has;
           lives = lives_itself w.core d refl;
           marks = λ pv place ended unstable. inl (ended, unstable);
+          flushes = λ f has. inl has;
           answered = λ are. are;
         });
         older =

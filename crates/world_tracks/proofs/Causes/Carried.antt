@@ -96,4 +96,4 @@ module _ (b : Origin) where
     asks_flush_causes pv tag s may =
         let step : Step = Submitted tag (Flushing pv) in
         acted (AsksFlush pv tag s) es (step_on step h.told) may (may.0.told ∙ ap (option_map (step_on step)) h.is)
-        (asks_flush_go now o t h.knows (origin_with b (step_on step h.told)) pv tag s (inr (step, refl)))
+        (asks_flush_go now o t h.knows pv tag s)

@@ -30,9 +30,9 @@ use Rattle.world_tracks.proofs.EndedFacts.{EndedBy, ended_by, live_ended, no_flu
 use Rattle.world_tracks.proofs.ActWaits.{HasFree, started}
 use Rattle.world_history.proofs.EndedFlush.{WasFlush, was_flush}
 use Rattle.world_tracks.proofs.Causes.Acts.{ends_go, reads_go}
-use Rattle.world_tracks.proofs.Causes.Ending.{ends_flush_go, flush_lost, marks_go}
+use Rattle.world_tracks.proofs.Causes.Ending.{ends_flush_go, flush_failed, marks_go}
 use Rattle.world_tracks.proofs.Causes.PieceFailing.{WasBadRead, place_in, span_counts, started_placed}
-use Rattle.world_tracks.proofs.Causes.Since.{now_in, now_steps, since_now, write_fails}
+use Rattle.world_tracks.proofs.Causes.Since.{fails_on, now_in, now_steps, since_now, steps_since, write_fails}
 use Rattle.world_tracks.proofs.Causes.Writing.{writes_go}
 use Rattle.world_tracks.proofs.Causes.Carried.{HasCauses, acted, fails_causes, moment, now, upto}
 
@@ -86,10 +86,13 @@ module _ (b : Origin) where
         → is_failed_disk (now b o1 t1 h1) (now_in (now b o1 t1 h1)) span.pv ≡ true
     write_lost span sectors op bad =
         subst (λ (r : Record). is_failed_disk (origin_with b r) (now_in (origin_with b r)) span.pv ≡ true) (sym one_more)
-        (since_now step (now b o t h) b.start span.pv (upto b o t h).1
-        (λ steps. subst (λ (z : Op). has_failed (Completed done.tag (work_of z) done.well may.0.told.0 ∷ steps) span.pv ≡ true) (sym op)
+        (since_now (fails_on span.pv) step (now b o t h) b.start (upto b o t h).1
+        (subst (λ (z : Op). has_failed (Completed done.tag (work_of z) done.well may.0.told.0 ∷ steps) span.pv ≡ true) (sym op)
         (subst (λ (well : Bool). has_failed (Completed done.tag (Writing span sectors) well may.0.told.0 ∷ steps) span.pv ≡ true) (sym bad)
         (write_fails done.tag span sectors may.0.told.0 steps))))
+      where
+        steps : List Step
+        steps = steps_since (now b o t h) b.start
 
     lost_causes : (span : Span) (sectors : List (List ℕ)) → done.op ≡ WriteOp span sectors → done.well ≡ false
         → (marks : Allowed w1 (Marks span.pv))
@@ -181,7 +184,7 @@ module _ (b : Origin) where
         (marks_go (now b o1 t1 g1) v1.core es pv
         (subst (λ (r : Record). is_failed_disk (origin_with b r) (now_in (origin_with b r)) pv ≡ true) (sym ended_told)
         (subst (λ (q : ℕ). is_failed_disk (origin_with b ended) (now_in (origin_with b ended)) q ≡ true) (its_disk pv op)
-        (flush_lost (now b o t h) w es o done s may (upto b o t h).1 bad b.start (upto b o t h).1))))
+        (flush_failed (now b o t h) w es o done s may (upto b o t h).1 bad b.start (upto b o t h).1))))
 
     pub flush_causes : (mid : World) → Runs v1 (flushing done.op done.well) mid
         → HasCauses b mid (entries_by v1 (flushing done.op done.well) es)

@@ -1,28 +1,34 @@
 -- What the end of a flush, and what a bad end comes to, make of what is known of causes.
-use Rattle.std.proofs.Common.{◌≡◌, ◌≤◌, ◌<◌, ◌⊎◌, ℕ, Bool, true, false, ◌==◌, ◌||◌, max, List, ◌∷◌, inl, inr, ⊎_elim, refl, sym, ap, subst}
+use Rattle.std.proofs.Common.{◌≡◌, ◌≤◌, ◌<◌, ◌⊎◌, ℕ, Bool, true, false, ◌==◌, ◌||◌, max, nat_eq, List, ◌∷◌, length, Contains, inl, inr}
+use Rattle.std.proofs.Common.{⊎_elim, refl, sym, ap, subst}
 use Rattle.std.proofs.Common.{◌∙◌, arith}
 use Rattle.std.specs.FinSet as set
 use Rattle.std.specs.Cmp.{nat_cmp_total, unsigned_tied}
-use Rattle.std.proofs.lemmas.Bool.{eqb-true, or_cases}
+use Rattle.std.specs.Prelude.{remove}
+use Rattle.std.proofs.lemmas.Bool.{cases_lt, eqb-true, or_cases}
+use Rattle.std.proofs.lemmas.List.Elements.{All-contains, Contains-get_or}
+use Rattle.list_laws.proofs.Positions.{all_remove, any_within}
 use Rattle.disk_model.specs.Operations.{work_of}
 use Rattle.disk_model.specs.State.{State}
 use Rattle.disk_model.specs.Steps.{Completed, Flushing, Step, Work as DiskWork}
 use Rattle.disk_model.specs.declared.ops.Done.{Done}
 use Rattle.flush_plan.specs.declared.records.Flush.{Flush}
 use Rattle.flush_plan.specs.declared.records.Marks.{Marks}
-use Rattle.flush_plan.specs.Plans.{flush_of, marks_of, no_marks}
-use Rattle.volume_history.specs.Chronicles.{ChronicleEntry, Origin, has_failed, is_failed_disk, origin_on}
+use Rattle.flush_plan.specs.Plans.{flush_at, flush_of, marks_of, no_marks}
+use Rattle.volume_history.specs.Chronicles.{ChronicleEntry, Origin, is_failed_disk, origin_on}
 use Rattle.world_acts.specs.declared.state.Core.{Core}
 use Rattle.world_acts.specs.Acts.{Allowed, EndsFlush, IsLost, World, after}
 use Rattle.world_acts.specs.Orderly.{IsOrderly}
 use Rattle.world_acts.specs.Steps.{after_flushed, after_marks}
+use Rattle.world_history.specs.Causes.{is_asked}
 use Rattle.world_history.proofs.EndedFlush.{WasFlush, was_flush}
 use Rattle.world_tracks.proofs.WaitSteps.{set_keeps}
 use Rattle.world_tracks.proofs.Causes.Growing.{extends_none}
-use Rattle.world_tracks.proofs.Causes.Known.{CausesGo}
+use Rattle.world_tracks.proofs.Causes.Known.{CausesGo, LosesFlush}
 use Rattle.world_tracks.proofs.Causes.Lines.{before_itself}
 use Rattle.world_tracks.proofs.Causes.Lives.{lives_itself}
-use Rattle.world_tracks.proofs.Causes.Since.{failed_since, flush_fails, now_in, since_now}
+use Rattle.world_tracks.proofs.Causes.Since.{fails_on, flush_fails, flush_loses, loses_on, newest, now_in, since_now, steps_since}
+use Rattle.world_tracks.proofs.Causes.Since.{told_since}
 
 -- ---- a disk has failed
 
@@ -45,6 +51,7 @@ marks_go b c es pv lost = record {
   waits = λ q it has. inl has;
   lives = lives_itself c (after_marks c pv) refl;
   marks = λ q place ended unstable. inl (ended, unstable);
+  flushes = λ f has. inl has;
   answered = λ are. are;
 }
   where
@@ -77,15 +84,39 @@ module _ (b : Origin) (w : World) (es : List ChronicleEntry) (o : IsOrderly w) (
   abbrev m : Marks
   m = marks_of c.waits.plan flush.pv
 
-  -- its disk has failed, where it ended badly
-  pub flush_lost : done.well ≡ false → (since : ℕ) → since ≤ now_in b
-      → failed_since ended_origin since (now_in ended_origin) flush.pv ≡ true
-  flush_lost bad since le =
-      since_now step b since flush.pv le
-      (λ steps. subst (λ (well : Bool). has_failed (Completed done.tag (work_of done.op) well may.0.told.0 ∷ steps) flush.pv ≡ true)
-      (sym bad)
-      (subst (λ (work : DiskWork). has_failed (Completed done.tag work false may.0.told.0 ∷ steps) flush.pv ≡ true)
-      (sym (f.does ∙ ap Flushing (sym f.its))) (flush_fails done.tag flush.pv may.0.told.0 steps)))
+  -- what the end of it shows, where it ended badly
+  badly : (test : List Step → Bool) → done.well ≡ false → (since : ℕ) → since ≤ now_in b
+      → test (Completed done.tag (Flushing flush.pv) false may.0.told.0 ∷ steps_since b since) ≡ true
+      → told_since test ended_origin since (now_in ended_origin) ≡ true
+  badly test bad since le shows =
+      since_now test step b since le
+      (subst (λ (well : Bool). test (Completed done.tag (work_of done.op) well may.0.told.0 ∷ steps_since b since) ≡ true) (sym bad)
+      (subst (λ (work : DiskWork). test (Completed done.tag work false may.0.told.0 ∷ steps_since b since) ≡ true)
+      (sym (f.does ∙ ap Flushing (sym f.its))) shows))
+
+  -- its disk has failed
+  pub flush_failed : done.well ≡ false → (since : ℕ) → since ≤ now_in b
+      → told_since (fails_on flush.pv) ended_origin since (now_in ended_origin) ≡ true
+  flush_failed bad since le =
+      badly (fails_on flush.pv) bad since le (flush_fails done.tag flush.pv may.0.told.0 (steps_since b since))
+
+  -- it is lost, where it was submitted since
+  flush_lost : done.well ≡ false → (since : ℕ) → since ≤ now_in b → told_since (is_asked flush.tag) b since (now_in b) ≡ true
+      → told_since (loses_on flush.pv) ended_origin since (now_in ended_origin) ≡ true
+  flush_lost bad since le asked =
+      badly (loses_on flush.pv) bad since le
+      (flush_loses done.tag flush.pv may.0.told.0 (steps_since b since)
+      (subst (λ (tag : ℕ). is_asked tag (steps_since b since) ≡ true) f.tagged (sym (newest (is_asked flush.tag) b since) ∙ asked)))
+
+  within : flush_at c.waits.plan done.tag < length c.waits.plan.flushes
+  within = any_within (λ (x : Flush). nat_eq x.tag done.tag) c.waits.plan.flushes f.flies
+
+  -- those that are left were there
+  left : (x : Flush) → Contains (remove c.waits.plan.flushes (flush_at c.waits.plan done.tag)) x → Contains c.waits.plan.flushes x
+  left x has =
+      All-contains (Contains c.waits.plan.flushes) (remove c.waits.plan.flushes (flush_at c.waits.plan done.tag)) x
+      (all_remove (Contains c.waits.plan.flushes) c.waits.plan.flushes (flush_at c.waits.plan done.tag) within
+      (λ k d lt. Contains-get_or c.waits.plan.flushes k d lt)) has
 
   abbrev IsBehind : Marks → ℕ → Type 0
   IsBehind n place = (place ≤ n.ended) × (n.stable < place)
@@ -108,6 +139,7 @@ module _ (b : Origin) (w : World) (es : List ChronicleEntry) (o : IsOrderly w) (
             later no_marks (λ ended unstable. (ended, unstable))
             (λ e ended unstable. subst (λ (k : ℕ). IsBehind (marks_of c.waits.plan k) place) e
             (omega (arith, ended, unstable), omega (arith, ended, unstable))) ended unstable);
+        flushes = λ x has. inl (left x has);
         answered = λ are. are;
       }
     where
@@ -131,21 +163,33 @@ module _ (b : Origin) (w : World) (es : List ChronicleEntry) (o : IsOrderly w) (
     marks =
         λ q place ended unstable. set_keeps
         (λ (n : Marks). place ≤ n.ended → n.stable < place
-        → IsBehind (marks_of c.waits.plan q) place
-        ⊎ ((since : ℕ) → since ≤ now_in b → failed_since ended_origin since (now_in ended_origin) q ≡ true)) c.waits.plan.marks flush.pv q
+        → IsBehind (marks_of c.waits.plan q) place ⊎ LosesFlush b ended_origin c.waits.plan q place) c.waits.plan.marks flush.pv q
         (record m { ended = max m.ended flush.after }) no_marks (λ ended unstable. inl (ended, unstable))
-        (λ e ended unstable. inr (λ since le.
-        subst (λ (k : ℕ). failed_since ended_origin since (now_in ended_origin) k ≡ true) e (flush_lost bad since le))) ended unstable;
+        (λ e ended unstable.
+        subst (λ (k : ℕ). IsBehind (marks_of c.waits.plan k) place ⊎ LosesFlush b ended_origin c.waits.plan k place) e
+        (⊎_elim (λ over. inr (loses place (omega (arith, ended, over)))) (λ (old : place ≤ m.ended). inl (old, unstable))
+        (cases_lt m.ended place))) ended unstable;
+    flushes = λ x has. inl (left x has);
     answered = λ are. are;
   }
     where
+      loses : (place : ℕ) → place ≤ flush.after → LosesFlush b ended_origin c.waits.plan flush.pv place
+      loses place serves = record {
+        flush = flush;
+        flew = Contains-get_or c.waits.plan.flushes (flush_at c.waits.plan done.tag) (record { tag = 0; pv = 0; after = 0 }) within;
+        disk = refl;
+        serves = serves;
+        lost = flush_lost bad;
+      }
+
       by : (q : ℕ) → IsLost (after_flushed c done.tag false) q
           → IsLost c q ⊎ (is_failed_disk ended_origin (now_in ended_origin) q ≡ true)
       by q (inl is) = inl (inl is)
       by q (inr far) =
           set_keeps (λ (n : Marks). n.stable < n.ended → IsLost c q ⊎ (is_failed_disk ended_origin (now_in ended_origin) q ≡ true))
           c.waits.plan.marks flush.pv q (record m { ended = max m.ended flush.after }) no_marks (λ far. inl (inr far))
-          (λ e far. inr (subst (λ (k : ℕ). is_failed_disk ended_origin (now_in ended_origin) k ≡ true) e (flush_lost bad b.start from))) far
+          (λ e far. inr (subst (λ (k : ℕ). is_failed_disk ended_origin (now_in ended_origin) k ≡ true) e (flush_failed bad b.start from)))
+          far
 
   pub ends_flush_go : CausesGo b ended_origin c (after w (EndsFlush done now)).core es es
   ends_flush_go = by done.well refl

@@ -14,7 +14,7 @@ use Rattle.volume_history.specs.Cuts.{FlushesVolume}
 use Rattle.volume_history.proofs.EarlierMoments.{steps_stay}
 use Rattle.world_history.specs.Causes.{AreCaused, FailsToRead, HasCause, IsBadRead, IsEarlier, IsOwnLoss, LosesPiece, LosesWrite}
 use Rattle.world_history.specs.Causes.{before_line}
-use Rattle.world_tracks.proofs.Causes.Since.{IsLater, now_in, since_more, since_stays}
+use Rattle.world_tracks.proofs.Causes.Since.{IsLater, fails_lasts, fails_on, loses_lasts, loses_on, now_in, since_more, since_stays}
 
 -- ---- entries among others
 
@@ -71,7 +71,7 @@ module _ (step : Step) (o : Origin) (es : List ChronicleEntry) (upto : AreUpto (
     stands = l.stands;
     disk = l.disk;
     lost =
-        since_stays step o o.start l.moment pv (upto_at (now_in o) es (Failed l.moment n l.piece) upto l.failed) ∙ l.lost;
+        since_stays (fails_on pv) step o o.start l.moment (upto_at (now_in o) es (Failed l.moment n l.piece) upto l.failed) ∙ l.lost;
   }
 
   write_at : (moment later n pv : ℕ) (l : LosesWrite o es moment n pv)
@@ -93,13 +93,13 @@ module _ (step : Step) (o : Origin) (es : List ChronicleEntry) (upto : AreUpto (
       → HasCause (origin_on step o) es moment n why
   cause_stays moment n (answer.ReadFailed pv) le c = read_stays n pv c
   cause_stays moment n (answer.PvFailed pv) le c = (
-    since_stays step o o.start moment pv le ∙ c.0,
+    since_stays (fails_on pv) step o o.start moment le ∙ c.0,
     ⊎_elim (λ l. inl (piece_stays n pv l))
         (λ (l : LosesWrite o es moment n pv). inr (write_at moment moment n pv l (λ is. record {
           through = is.through;
           own = is.own;
           took = is.took;
-          lost = since_stays step o l.since moment pv le ∙ is.lost;
+          lost = since_stays (loses_on pv) step o l.since moment le ∙ is.lost;
         }))) c.1,
   )
   cause_stays moment n why le c = tt
@@ -109,13 +109,15 @@ module _ (step : Step) (o : Origin) (es : List ChronicleEntry) (upto : AreUpto (
       → HasCause (origin_on step o) es (now_in (origin_on step o)) n why
   cause_more n (answer.ReadFailed pv) from c = read_stays n pv c
   cause_more n (answer.PvFailed pv) from c = (
-    since_more step o o.start pv from c.0,
+    since_more (fails_on pv) (fails_lasts pv) step o o.start from c.0,
     ⊎_elim (λ l. inl (piece_stays n pv l))
         (λ (l : LosesWrite o es (now_in o) n pv). inr (write_at (now_in o) (now_in (origin_on step o)) n pv l (λ is. record {
           through = is.through;
           own = is.own;
           took = is.took;
-          lost = since_more step o l.since pv (upto_at (now_in o) es (Took l.since n l.piece) upto is.took) is.lost;
+          lost =
+              since_more (loses_on pv) (loses_lasts pv) step o l.since (upto_at (now_in o) es (Took l.since n l.piece) upto is.took)
+              is.lost;
         }))) c.1,
   )
   cause_more n why from c = tt

@@ -4,8 +4,9 @@ use Rattle.std.proofs.Common.{arith}
 use Rattle.std.proofs.lemmas.Option.{same_Some}
 use Rattle.sector_base.specs.declared.places.Piece.{Piece}
 use Rattle.line_answers.specs.declared.answer.Answer.{Answer}
+use Rattle.flush_plan.specs.declared.records.Flush.{Flush}
 use Rattle.flush_plan.specs.declared.records.Marks.{Marks}
-use Rattle.flush_plan.specs.Plans.{marks_of}
+use Rattle.flush_plan.specs.Plans.{Plan, marks_of}
 use Rattle.flush_waits.specs.declared.ticket.Waiter.{Waiter}
 use Rattle.flush_waits.specs.declared.ticket.Waiter.TheVariants as waiter
 use Rattle.flush_waits.specs.declared.ticket.Waiting.{Waiting}
@@ -23,12 +24,13 @@ use Rattle.world_acts.specs.Acts.{IsLost}
 use Rattle.world_acts.specs.Counts.{awaited_at, is_piece, is_taken, waiting}
 use Rattle.world_acts.specs.OpenLines.{open_at}
 use Rattle.world_acts.proofs.PiecesKept.{awaiting_taken}
-use Rattle.world_history.specs.Causes.{AreCaused, HasCause, StandsAt, before_line}
+use Rattle.world_history.specs.Causes.{AreCaused, HasCause, StandsAt, before_line, is_asked}
 use Rattle.world_tracks.proofs.QuietWaits.{of_piece, waits_counted}
 use Rattle.world_tracks.proofs.WaitSteps.{waiters}
 use Rattle.world_tracks.proofs.Causes.Growing.{Extends, cause_extended, cause_later, caused_later, flushes_extended, upto_at}
 use Rattle.world_tracks.proofs.Causes.Lines.{WasFailing}
-use Rattle.world_tracks.proofs.Causes.Since.{IsLater, failed_since, lost_later, now_in, since_later, version_later}
+use Rattle.world_tracks.proofs.Causes.Since.{IsLater, asked_lasts, lost_later, loses_lasts, loses_on, now_in, since_later, told_since}
+use Rattle.world_tracks.proofs.Causes.Since.{version_later}
 
 -- ---- writes that took place
 
@@ -56,16 +58,19 @@ pub record WaitsForOlder (o : Origin) (es : List ChronicleEntry) (n pv : ℕ) : 
   pub flushes : FlushesVolume es n piece.volume
   pub write : WroteOn o (before_line es n) since writer piece pv
 
--- what a piece waits for is its own, since when the disk has failed where a flush behind it has ended, and none did well
-pub record WaitsForOwn (o : Origin) (m : Marks) (es : List ChronicleEntry) (pv place : ℕ) (l : LivePiece) : Type 0 where
+-- what a piece waits for is its own: a flush that serves it was submitted since, and where one has ended, and none did well, one that
+-- was submitted since has failed
+pub record WaitsForOwn (o : Origin) (fs : List Flush) (m : Marks) (es : List ChronicleEntry) (pv place : ℕ) (l : LivePiece) : Type 0 where
   pub since : ℕ
   pub write : WroteOn o es since l.line l.piece pv
-  pub lost : place ≤ m.ended → m.stable < place → failed_since o since (now_in o) pv ≡ true
+  pub served :
+      (f : Flush) → Contains fs f → f.pv ≡ pv → place ≤ f.after → told_since (is_asked f.tag) o since (now_in o) ≡ true
+  pub lost : place ≤ m.ended → m.stable < place → told_since (loses_on pv) o since (now_in o) ≡ true
 
 abbrev pub IsWaitOf : Origin → Core → List ChronicleEntry → ℕ → ℕ → Waiter → Type 0
 IsWaitOf o c es pv place (waiter.Line n) = WaitsForOlder o es n pv
 IsWaitOf o c es pv place (waiter.Piece number) =
-    (l : LivePiece) → live_at c.pieces.lives number ≡ Some l → WaitsForOwn o (marks_of c.waits.plan pv) es pv place l
+    (l : LivePiece) → live_at c.pieces.lives number ≡ Some l → WaitsForOwn o c.waits.plan.flushes (marks_of c.waits.plan pv) es pv place l
 
 -- all that took place did before this line
 abbrev pub ToOlder : List ChronicleEntry → ℕ → Type 0
@@ -92,6 +97,16 @@ pub record WasLive (c : Core) (number : ℕ) (l : LivePiece) : Type 0 where
   pub line : live.line ≡ l.line
   pub piece : live.piece ≡ l.piece
 
+-- a flush of the disk, which served the write at this place, ends badly
+pub record LosesFlush (o o' : Origin) (plan : Plan) (pv place : ℕ) : Type 0 where
+  pub flush : Flush
+  pub flew : Contains plan.flushes flush
+  pub disk : flush.pv ≡ pv
+  pub serves : place ≤ flush.after
+  pub lost :
+      (since : ℕ) → since ≤ now_in o → told_since (is_asked flush.tag) o since (now_in o) ≡ true
+      → told_since (loses_on pv) o' since (now_in o') ≡ true
+
 -- what is new in a later world is known, and the rest was there
 pub record CausesGo (o o' : Origin) (c d : Core) (es fs : List ChronicleEntry) : Type 0 where
   pub later : IsLater o o'
@@ -110,7 +125,10 @@ pub record CausesGo (o o' : Origin) (c d : Core) (es fs : List ChronicleEntry) :
   pub marks :
       (pv place : ℕ) → place ≤ (marks_of d.waits.plan pv).ended → (marks_of d.waits.plan pv).stable < place
       → ((place ≤ (marks_of c.waits.plan pv).ended) × ((marks_of c.waits.plan pv).stable < place))
-      ⊎ ((since : ℕ) → since ≤ now_in o → failed_since o' since (now_in o') pv ≡ true)
+      ⊎ LosesFlush o o' c.waits.plan pv place
+  pub flushes :
+      (f : Flush) → Contains d.waits.plan.flushes f
+      → Contains c.waits.plan.flushes f ⊎ ((since : ℕ) → since ≤ now_in o → told_since (is_asked f.tag) o' since (now_in o') ≡ true)
   pub answered : AreCaused o' es → AreCaused o' fs
 
 -- ---- it goes on
@@ -134,21 +152,29 @@ module _ {o o' : Origin} {c d : Core} {es fs : List ChronicleEntry}
     (k : Knows o c es) (g : CausesGo o o' c d es fs) where
   -- what a piece waited for, it does still
   own_goes : (pv place : ℕ) (l m : LivePiece) → l.line ≡ m.line → l.piece ≡ m.piece
-      → WaitsForOwn o (marks_of c.waits.plan pv) es pv place l
-      → WaitsForOwn o' (marks_of d.waits.plan pv) fs pv place m
+      → WaitsForOwn o c.waits.plan.flushes (marks_of c.waits.plan pv) es pv place l
+      → WaitsForOwn o' d.waits.plan.flushes (marks_of d.waits.plan pv) fs pv place m
   own_goes pv place l m line piece w = record {
     since = w.since;
     write =
         subst (λ (n : ℕ). WroteOn o' fs w.since n m.piece pv) line
         (subst (λ (p : Piece). WroteOn o' fs w.since l.line p pv) piece
         (wrote_later w.since l.line l.piece pv g.later (g.more.has (Took w.since l.line l.piece)) w.write));
+    served =
+        λ f has disk serves. ⊎_elim
+        (λ (was : Contains c.waits.plan.flushes f).
+        since_later (is_asked f.tag) (asked_lasts f.tag) g.later w.since le (w.served f was disk serves)) (λ now. now w.since le)
+        (g.flushes f has);
     lost =
-        λ ended unstable.
-        let le = upto_at (now_in o) es (Took w.since l.line l.piece) upto w.write.took in
-        ⊎_elim
+        λ ended unstable. ⊎_elim
         (λ (was : (place ≤ (marks_of c.waits.plan pv).ended) × ((marks_of c.waits.plan pv).stable < place)).
-        since_later g.later w.since pv le (w.lost was.0 was.1)) (λ now. now w.since le) (g.marks pv place ended unstable);
+        since_later (loses_on pv) (loses_lasts pv) g.later w.since le (w.lost was.0 was.1))
+        (λ (now : LosesFlush o o' c.waits.plan pv place). now.lost w.since le (w.served now.flush now.flew now.disk now.serves))
+        (g.marks pv place ended unstable);
   }
+    where
+      le : w.since ≤ now_in o
+      le = upto_at (now_in o) es (Took w.since l.line l.piece) upto w.write.took
 
   wait_goes : (pv : ℕ) (it : Waiting) (who : Waiter) → it.waiter ≡ who → Contains (waiters (disk_waits d.waits pv)) it
       → IsWaitOf o c es pv it.place who

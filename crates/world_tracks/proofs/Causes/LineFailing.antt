@@ -219,7 +219,7 @@ module _ {start : ℕ} {coming : ℕ → ℕ → ℕ} {w : World} {es : List Chr
     own_caused : (pv number : ℕ) (it : Waiting) (l : LivePiece) → live_at c.pieces.lives number ≡ Some l
         → is_through_line (begun_in es l.line) ≡ true
         → awaited c.waits pv it.place ≡ Lost
-        → WaitsForOwn b (marks_of c.waits.plan pv) es pv it.place l
+        → WaitsForOwn b c.waits.plan.flushes (marks_of c.waits.plan pv) es pv it.place l
         → LosesWrite b es (now_in b) l.line pv
     own_caused pv number it l at through lost h =
         let m = lost_marks c.waits pv it.place lost in

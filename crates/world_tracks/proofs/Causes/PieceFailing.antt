@@ -135,5 +135,6 @@ module _ (b : Origin) (w : World) (es : List ChronicleEntry) (o : IsOrderly w) (
         waits = λ pv it has. inl has;
         lives = lives_changed w.core v.core (changes_both one two) tt;
         marks = λ pv place ended unstable. inl (ended, unstable);
+        flushes = λ f has. inl has;
         answered = λ are. are;
       }

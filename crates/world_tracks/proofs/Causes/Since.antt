@@ -1,15 +1,24 @@
--- A disk that has failed since a moment.
-use Rattle.std.proofs.Common.{◌≡◌, ◌≤◌, ◌⊎◌, ℕ, suc, ◌-◌, Bool, true, false, ◌==◌, ◌||◌, List, ◌∷◌, length, take, drop, inl, inr, refl, sym}
-use Rattle.std.proofs.Common.{ap, subst, ◌∙◌, arith}
+-- What the steps since a moment show, and show still with one more.
+use Rattle.std.proofs.Common.{◌≡◌, ◌≤◌, ◌⊎◌, ℕ, suc, ◌-◌, Bool, true, false, ◌==◌, ◌&&◌, ◌||◌, List, ◌∷◌, length, take, drop, inl, inr}
+use Rattle.std.proofs.Common.{refl}
+use Rattle.std.proofs.Common.{sym, ap, subst, ◌∙◌, arith}
 use Rattle.std.proofs.lemmas.Bool.{eq-eqb}
 use Rattle.sector_base.specs.declared.spans.Span.{Span}
-use Rattle.disk_model.specs.Steps.{Completed, Flushing, Reading, Step, Submitted, Writing}
+use Rattle.disk_model.specs.Steps.{Completed, Flushing, Reading, Step, Submitted, Work, Writing}
 use Rattle.volume_history.specs.Chronicles.{Origin, has_failed, is_failed_disk, origin_on, steps_upto}
 use Rattle.volume_history.proofs.EarlierMoments.{steps_stay}
+use Rattle.world_history.specs.Causes.{has_lost_flush, is_asked}
 
--- whether the disk has failed from one moment to another
-abbrev pub failed_since : Origin → ℕ → ℕ → ℕ → Bool
-failed_since o since moment pv = has_failed (take (moment - since) (steps_upto o moment)) pv
+-- whether the steps from one moment to another pass the test
+abbrev pub told_since : (List Step → Bool) → Origin → ℕ → ℕ → Bool
+told_since test o since moment = test (take (moment - since) (steps_upto o moment))
+
+-- whether the disk fails in these steps, or a flush of it does that was submitted in them
+abbrev pub fails_on : ℕ → List Step → Bool
+fails_on pv steps = has_failed steps pv
+
+abbrev pub loses_on : ℕ → List Step → Bool
+loses_on pv steps = has_lost_flush steps pv
 
 -- the moment up to which all is told
 abbrev pub now_in : Origin → ℕ
@@ -25,51 +34,79 @@ now_steps o =
     let e : length o.told.steps - length o.told.steps ≡ 0 = omega arith in
     ap (λ (k : ℕ). drop k o.told.steps) e
 
+-- the steps since a moment
+abbrev pub steps_since : Origin → ℕ → List Step
+steps_since o since = take (now_in o - since) o.told.steps
+
 -- ---- one step more
 
 -- an earlier moment is as it was
-pub since_stays : (step : Step) (o : Origin) (since moment pv : ℕ) → moment ≤ now_in o
-    → failed_since (origin_on step o) since moment pv ≡ failed_since o since moment pv
-since_stays step o since moment pv le = ap (λ (l : List Step). has_failed (take (moment - since) l) pv) (steps_stay step o moment le)
+pub since_stays : (test : List Step → Bool) (step : Step) (o : Origin) (since moment : ℕ) → moment ≤ now_in o
+    → told_since test (origin_on step o) since moment ≡ told_since test o since moment
+since_stays test step o since moment le = ap (λ (l : List Step). test (take (moment - since) l)) (steps_stay step o moment le)
 
 -- by now
-newest : (o : Origin) (since pv : ℕ) → failed_since o since (now_in o) pv ≡ has_failed (take (now_in o - since) o.told.steps) pv
-newest o since pv = ap (λ (l : List Step). has_failed (take (now_in o - since) l) pv) (now_steps o)
+pub newest : (test : List Step → Bool) (o : Origin) (since : ℕ) → told_since test o since (now_in o) ≡ test (steps_since o since)
+newest test o since = ap (λ (l : List Step). test (take (now_in o - since) l)) (now_steps o)
 
-newest_on : (step : Step) (o : Origin) (since pv : ℕ) → since ≤ now_in o
-    → failed_since (origin_on step o) since (now_in (origin_on step o)) pv
-    ≡ has_failed (step ∷ take (now_in o - since) o.told.steps) pv
-newest_on step o since pv le =
+newest_on : (test : List Step → Bool) (step : Step) (o : Origin) (since : ℕ) → since ≤ now_in o
+    → told_since test (origin_on step o) since (now_in (origin_on step o)) ≡ test (step ∷ steps_since o since)
+newest_on test step o since le =
     let e : suc (length o.told.steps) - since ≡ suc (length o.told.steps - since) = omega (arith, le) in
-    newest (origin_on step o) since pv ∙ ap (λ (k : ℕ). has_failed (take k (step ∷ o.told.steps)) pv) e
+    newest test (origin_on step o) since ∙ ap (λ (k : ℕ). test (take k (step ∷ o.told.steps))) e
+
+-- steps that pass the test pass it with one more
+abbrev pub IsLasting : (List Step → Bool) → Type 0
+IsLasting test = (step : Step) (steps : List Step) → test steps ≡ true → test (step ∷ steps) ≡ true
 
 either : (a b : Bool) → b ≡ true → (a || b) ≡ true
 either true b is = refl
 either false b is = is
 
-failed_more : (step : Step) (steps : List Step) (pv : ℕ) → has_failed steps pv ≡ true → has_failed (step ∷ steps) pv ≡ true
-failed_more (Submitted tag work) steps pv is = is
-failed_more (Completed tag (Reading span) true fresh) steps pv is = is
-failed_more (Completed tag (Reading span) false fresh) steps pv is = is
-failed_more (Completed tag (Writing span sectors) true fresh) steps pv is = is
-failed_more (Completed tag (Writing span sectors) false fresh) steps pv is = either (span.pv == pv) (has_failed steps pv) is
-failed_more (Completed tag (Flushing disk) true fresh) steps pv is = is
-failed_more (Completed tag (Flushing disk) false fresh) steps pv is = either (disk == pv) (has_failed steps pv) is
+pub fails_lasts : (pv : ℕ) → IsLasting (fails_on pv)
+fails_lasts pv (Submitted tag work) steps is = is
+fails_lasts pv (Completed tag (Reading span) true fresh) steps is = is
+fails_lasts pv (Completed tag (Reading span) false fresh) steps is = is
+fails_lasts pv (Completed tag (Writing span sectors) true fresh) steps is = is
+fails_lasts pv (Completed tag (Writing span sectors) false fresh) steps is = either (span.pv == pv) (has_failed steps pv) is
+fails_lasts pv (Completed tag (Flushing disk) true fresh) steps is = is
+fails_lasts pv (Completed tag (Flushing disk) false fresh) steps is = either (disk == pv) (has_failed steps pv) is
 
--- a disk that has failed has with it
-pub since_more : (step : Step) (o : Origin) (since pv : ℕ) → since ≤ now_in o → failed_since o since (now_in o) pv ≡ true
-    → failed_since (origin_on step o) since (now_in (origin_on step o)) pv ≡ true
-since_more step o since pv le is =
-    newest_on step o since pv le
-    ∙ failed_more step (take (now_in o - since) o.told.steps) pv (sym (newest o since pv) ∙ is)
+pub loses_lasts : (pv : ℕ) → IsLasting (loses_on pv)
+loses_lasts pv (Submitted tag work) steps is = is
+loses_lasts pv (Completed tag (Reading span) true fresh) steps is = is
+loses_lasts pv (Completed tag (Reading span) false fresh) steps is = is
+loses_lasts pv (Completed tag (Writing span sectors) true fresh) steps is = is
+loses_lasts pv (Completed tag (Writing span sectors) false fresh) steps is = is
+loses_lasts pv (Completed tag (Flushing disk) true fresh) steps is = is
+loses_lasts pv (Completed tag (Flushing disk) false fresh) steps is =
+    either ((disk == pv) && is_asked tag steps) (has_lost_flush steps pv) is
 
--- and so has one that fails with it
-pub since_now : (step : Step) (o : Origin) (since pv : ℕ) → since ≤ now_in o
-    → ((steps : List Step) → has_failed (step ∷ steps) pv ≡ true)
-    → failed_since (origin_on step o) since (now_in (origin_on step o)) pv ≡ true
-since_now step o since pv le fails = newest_on step o since pv le ∙ fails (take (now_in o - since) o.told.steps)
+pub asked_lasts : (tag : ℕ) → IsLasting (is_asked tag)
+asked_lasts tag (Submitted t work) steps is = either (t == tag) (is_asked tag steps) is
+asked_lasts tag (Completed t work well fresh) steps is = is
 
--- as the disk of a write or a flush that ends badly
+module _ (test : List Step → Bool) where
+  -- what holds since a moment does with one step more
+  pub since_more : IsLasting test → (step : Step) (o : Origin) (since : ℕ) → since ≤ now_in o → told_since test o since (now_in o) ≡ true
+      → told_since test (origin_on step o) since (now_in (origin_on step o)) ≡ true
+  since_more lasts step o since le is =
+      newest_on test step o since le ∙ lasts step (steps_since o since) (sym (newest test o since) ∙ is)
+
+  -- and what holds by that step
+  pub since_now : (step : Step) (o : Origin) (since : ℕ) → since ≤ now_in o → test (step ∷ steps_since o since) ≡ true
+      → told_since test (origin_on step o) since (now_in (origin_on step o)) ≡ true
+  since_now step o since le is = newest_on test step o since le ∙ is
+
+  -- with a step more, or none
+  pub since_later : IsLasting test → {o o' : Origin} → IsLater o o' → (since : ℕ) → since ≤ now_in o
+      → told_since test o since (now_in o) ≡ true
+      → told_since test o' since (now_in o') ≡ true
+  since_later lasts {o} {o'} (inl same) since le is = subst (λ (x : Origin). told_since test x since (now_in x) ≡ true) (sym same) is
+  since_later lasts {o} {o'} (inr more) since le is =
+      subst (λ (x : Origin). told_since test x since (now_in x) ≡ true) (sym more.1) (since_more lasts more.0 o since le is)
+
+-- the disk of a write or a flush that ends badly fails, and so does a flush that was submitted since
 pub write_fails : (tag : ℕ) (span : Span) (sectors : List (List ℕ)) (fresh : List Bool) (steps : List Step)
     → has_failed (Completed tag (Writing span sectors) false fresh ∷ steps) span.pv ≡ true
 write_fails tag span sectors fresh steps = ap (λ (b : Bool). b || has_failed steps span.pv) (eq-eqb span.pv span.pv refl)
@@ -78,19 +115,24 @@ pub flush_fails : (tag pv : ℕ) (fresh : List Bool) (steps : List Step)
     → has_failed (Completed tag (Flushing pv) false fresh ∷ steps) pv ≡ true
 flush_fails tag pv fresh steps = ap (λ (b : Bool). b || has_failed steps pv) (eq-eqb pv pv refl)
 
--- ---- a step more, or none
+pub flush_loses : (tag pv : ℕ) (fresh : List Bool) (steps : List Step) → is_asked tag steps ≡ true
+    → has_lost_flush (Completed tag (Flushing pv) false fresh ∷ steps) pv ≡ true
+flush_loses tag pv fresh steps asked =
+    ap (λ (b : Bool). (b && is_asked tag steps) || has_lost_flush steps pv) (eq-eqb pv pv refl)
+    ∙ ap (λ (b : Bool). b || has_lost_flush steps pv) asked
 
-pub since_later : {o o' : Origin} → IsLater o o' → (since pv : ℕ) → since ≤ now_in o → failed_since o since (now_in o) pv ≡ true
-    → failed_since o' since (now_in o') pv ≡ true
-since_later {o} {o'} (inl same) since pv le is = subst (λ (x : Origin). failed_since x since (now_in x) pv ≡ true) (sym same) is
-since_later {o} {o'} (inr more) since pv le is =
-    subst (λ (x : Origin). failed_since x since (now_in x) pv ≡ true) (sym more.1) (since_more more.0 o since pv le is)
+-- an operation that is submitted was submitted since
+pub asks_now : (tag : ℕ) (work : Work) (steps : List Step) → is_asked tag (Submitted tag work ∷ steps) ≡ true
+asks_now tag work steps = ap (λ (b : Bool). b || is_asked tag steps) (eq-eqb tag tag refl)
+
+-- ---- a step more, or none
 
 pub lost_later : {o o' : Origin} → IsLater o o' → (pv : ℕ) → o.start ≤ now_in o → is_failed_disk o (now_in o) pv ≡ true
     → is_failed_disk o' (now_in o') pv ≡ true
 lost_later {o} {o'} (inl same) pv le is = subst (λ (x : Origin). is_failed_disk x (now_in x) pv ≡ true) (sym same) is
 lost_later {o} {o'} (inr more) pv le is =
-    subst (λ (x : Origin). is_failed_disk x (now_in x) pv ≡ true) (sym more.1) (since_more more.0 o o.start pv le is)
+    subst (λ (x : Origin). is_failed_disk x (now_in x) pv ≡ true) (sym more.1)
+    (since_more (fails_on pv) (fails_lasts pv) more.0 o o.start le is)
 
 -- the version is the same
 pub version_later : {o o' : Origin} → IsLater o o' → o'.version ≡ o.version

@@ -3,9 +3,11 @@ use Rattle.std.proofs.Common.{◌≡◌, ◌≤◌, ◌<◌, ◌⊎◌, ℕ, ◌
 use Rattle.std.proofs.Common.{subst, ◌∙◌, arith}
 use Rattle.std.proofs.lemmas.Bool.{cond_both}
 use Rattle.std.proofs.lemmas.List.{length-set}
+use Rattle.std.proofs.lemmas.List.Elements.{All-contains}
 use Rattle.std.proofs.lemmas.Nat.{same_from_place}
 use Rattle.std.proofs.lemmas.Option.{same_Some}
 use Rattle.sector_base.specs.declared.places.Piece.{Piece}
+use Rattle.flush_plan.specs.declared.records.Flush.{Flush}
 use Rattle.flush_plan.specs.declared.records.Marks.{Marks}
 use Rattle.flush_plan.specs.Plans.{IsWithin, marks_of, no_marks}
 use Rattle.flush_waits.specs.declared.ticket.Waiter.TheVariants as waiter
@@ -131,6 +133,11 @@ module _ (b : Origin) (w : World) (es : List ChronicleEntry) (o : IsOrderly w) (
         write =
             subst (λ (n : ℕ). WroteOn b fs w.shelf.steps n y.piece pv) line
             (subst (λ (p : Piece). WroteOn b fs w.shelf.steps l.line p pv) piece wrote);
+        served =
+            λ f has disk serves. absurd
+            (let few : f.after ≤ c.waits.plan.held =
+            All-contains (λ (f : Flush). f.after ≤ c.waits.plan.held) c.waits.plan.flushes f o.tidy.flushes.after has in
+            omega (arith, serves, few, high));
         lost = λ most unstable. absurd (omega (arith, most, ended, m.2, high));
       } in
       record {
@@ -150,6 +157,7 @@ module _ (b : Origin) (w : World) (es : List ChronicleEntry) (o : IsOrderly w) (
             lives_changed c d change
             (λ taken. record { live = x.piece.live; at = x.piece.at; line = refl; piece = refl });
         marks = λ q place ended unstable. inl (marks_stay q place ended unstable);
+        flushes = λ f has. inl has;
         answered = λ are. are;
       }
 
@@ -167,6 +175,7 @@ module _ (b : Origin) (w : World) (es : List ChronicleEntry) (o : IsOrderly w) (
         waits = λ q who has. inl has;
         lives = lives_changed c d (removed c.pieces.lives number x.piece.live o.tidy.pieces.single x.piece.at) tt;
         marks = λ q place ended unstable. inl (marks_stay q place ended unstable);
+        flushes = λ f has. inl has;
         answered = λ are. are;
       }
 
