@@ -1,3 +1,4 @@
+pub mod AllAnswered
 mod Cuts
 mod FirstWords
 mod FrontLines

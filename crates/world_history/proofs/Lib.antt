@@ -23,3 +23,4 @@ mod FlushRows
 pub mod FlushesKept
 pub mod EndedFlush
 pub mod Faults
+pub mod PlainAnswers
