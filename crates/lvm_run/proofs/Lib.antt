@@ -5,6 +5,7 @@ mod BuiltCommands
 mod CarriedOut
 mod ChangedDisks
 mod Checking
+mod Completed
 mod EachNamed
 mod FlushedAndScanned
 mod InTime

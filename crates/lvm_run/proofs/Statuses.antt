@@ -26,13 +26,13 @@ of_both false false false false true s = refl
 of_both false false false false false true = refl
 of_both false false false false false false = refl
 
-abbrev wants : ℕ × Option Answer → Bool
+abbrev pub wants : ℕ × Option Answer → Bool
 wants line = is_wanting line.1
 
-abbrev fails : ℕ × Option Answer → Bool
+abbrev pub fails : ℕ × Option Answer → Bool
 fails line = is_device line.1
 
-abbrev refuses : ℕ × Option Answer → Bool
+abbrev pub refuses : ℕ × Option Answer → Bool
 refuses line = is_refusal line.1
 
 pub status_of_two : (xs ys : List (ℕ × Option Answer))

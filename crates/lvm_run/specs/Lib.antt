@@ -2,6 +2,7 @@ pub mod Backup
 pub mod Changing
 pub mod CommandSpec
 pub mod Commands
+pub mod Completeness
 pub mod Disks
 pub mod Endings
 pub mod Guarded
