@@ -7,7 +7,7 @@ use sector_base::Text;
 use std::alloc::{AllocError, Global};
 use std::test::Fail;
 
-// A line of each form of the commands but write, four of which draw an id.
+// A line of each form of the commands but write, four of which draw an id, and what stands before the contents of one write.
 fn all_commands() -> &'static [u8] {
     b"pvcreate a
 pvmove
@@ -25,18 +25,29 @@ lvremove vg0/data
 lvrename vg0 data logs
 read vg0/data 0 128
 fill vg0/data 0 128 7
+fill --through vg0/data 0 128 7
+flush vg0/data
 list
 wait
 resync vg0/data
 write vg0/data 0 "
 }
 
-// The same, and two sectors to write.
-fn script_text(alloc: Global) -> Result<Text, AllocError> {
-    let mut bytes = Vec::from_slice(alloc, all_commands())?;
-    for _ in 0..2_048u32 {
+// Adds the digits of a sector of zeros.
+fn push_sector(bytes: &mut Vec<u8>) -> Result<(), AllocError> {
+    for _ in 0..1_024u32 {
         bytes.push(b'0')?;
     }
+    Ok(())
+}
+
+// The same, with two sectors to write, and a write through to the disks.
+fn script_text(alloc: Global) -> Result<Text, AllocError> {
+    let mut bytes = Vec::from_slice(alloc, all_commands())?;
+    push_sector(&mut bytes)?;
+    push_sector(&mut bytes)?;
+    bytes.extend_from_slice(b"\nwrite --through vg0/data 2 ")?;
+    push_sector(&mut bytes)?;
     Ok(Text::from_vec(bytes))
 }
 
@@ -46,7 +57,7 @@ fn each_command_has_its_line(rt: HostRuntime) -> Result<(), Fail> {
         rt.alloc(),
     )?);
     let script = script_of(rt.alloc(), &script_text(rt.alloc())?, &mut ids)?;
-    assert_eq!(rt; script.len(), 20);
+    assert_eq!(rt; script.len(), 23);
     assert_eq!(rt; ids.next(), 5);
     Ok(())
 }

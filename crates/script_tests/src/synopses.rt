@@ -1,5 +1,6 @@
-//! The words of the manual against the table.
+//! The words of the manual against the tables.
 use command_table::{CommandName, Kind, OptionKey};
+use lvm_words::OtherCall;
 use std::alloc::{AllocError, Global};
 use std::test::Fail;
 
@@ -83,6 +84,32 @@ fn names_exactly_the_arguments(rt: HostRuntime) -> Result<(), Fail> {
             "{}",
             name.spelling()
         );
+    }
+    Ok(())
+}
+
+#[test]
+fn other_calls_name_exactly_their_arguments(rt: HostRuntime) -> Result<(), Fail> {
+    for call in OtherCall::all() {
+        let kinds = call.arguments();
+        let others = kinds.iter().filter(|kind| **kind != Kind::Path);
+        assert_eq!(rt; others.count(), 0, "{}", call.spelling());
+        let words = call.synopsis().split_whitespace();
+        assert_eq!(rt; words.count(), kinds.len(), "{}", call.spelling());
+        let paths = call
+            .synopsis()
+            .split_whitespace()
+            .filter(|word| word.starts_with("VG/"));
+        assert_eq!(rt; paths.count(), kinds.len(), "{}", call.spelling());
+    }
+    Ok(())
+}
+
+#[test]
+fn no_other_call_is_named_as_a_command(rt: HostRuntime) -> Result<(), Fail> {
+    for call in OtherCall::all() {
+        let command = CommandName::named(call.spelling().as_bytes());
+        assert_eq!(rt; command, None, "{}", call.spelling());
     }
     Ok(())
 }
