@@ -47,8 +47,9 @@ impl<T: Drop> From<AllocFailed<T>> for ScanStopped {
     }
 }
 
-/// Scans the disks: finds the group in force by the copies of its metadata, and what is stale, stray, missing or
-/// unread. It goes on with the other disks where a read of one fails; such a disk is taken as empty and named unread.
+/// Scans the disks: finds the group in force by the copies of its metadata, which of its disks' headers are old, and what is
+/// stale, stray, missing or unread. It goes on with the other disks where a read of one fails; such a disk is taken as empty
+/// and named unread.
 ///
 /// # Errors
 ///
