@@ -1,0 +1,9 @@
+mod Keys
+mod Named
+mod Comings
+mod Remade
+mod Machines
+mod LineKinds
+mod Staying
+mod Showing
+mod Taking

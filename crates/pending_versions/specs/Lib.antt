@@ -1,0 +1,6 @@
+pub mod Machines
+pub mod Births
+pub mod Coming
+pub mod Pending
+pub mod Taking
+pub mod Laws
