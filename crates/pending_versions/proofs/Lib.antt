@@ -2,8 +2,10 @@ mod Keys
 mod Named
 mod Comings
 mod Remade
+mod Beside
 mod Machines
 mod LineKinds
 mod Staying
 mod Showing
 mod Taking
+mod SmallCommit

@@ -8,12 +8,13 @@ use Rattle.sector_base.specs.declared.places.Piece.{Piece}
 use Rattle.list_laws.proofs.Bools.{eq_of}
 use Rattle.command_table.specs.Commands.{kind_of}
 use Rattle.data_lines.specs.DataLines.{value_for, writes}
-use Rattle.disk_model.specs.Steps.{Image}
+use Rattle.disk_model.specs.Steps.{Image, Step}
 use Rattle.line_table.specs.Machine.{Nothing, PlainState, PlainVolume, Wrote, name_of, plain_after, put_at, sectors_of, with_key}
 use Rattle.lvm_script.specs.declared.line.Line.{Line}
 use Rattle.vg_scan.specs.Versions.{Version}
 use Rattle.volume_history.specs.Chronicles.{Answered, Begun, Changed, ChronicleEntry, Failed, GivenUp, Opened, Origin, Took, begun_in}
-use Rattle.volume_history.specs.Chronicles.{in_force, now_at}
+use Rattle.volume_history.specs.Chronicles.{AreUpto, in_force, now_at, origin_on}
+use Rattle.volume_history.proofs.EarlierMoments.{force_stays, replay_stays}
 use Rattle.volume_history.specs.Placed.{Place, PlacedVolume, values_on, volumes_of}
 use Rattle.volume_history.specs.Replay.{failed_step, line_step, opening_volumes, places_named, plain_state, shown_at, took_step}
 use Rattle.volume_history.specs.Reshaping.{state_before}
@@ -152,3 +153,10 @@ machine_stays o es (GivenUp m n) owes machine = machine
 machine_stays o es (Failed m n piece) owes machine =
     failed_machine (begun_in es n) (in_force o es) (plain_state o es) (now_at o m) piece owes machine
 machine_stays o es (Answered m n answer) owes machine = machine
+
+-- a step that is told changes none of that
+pub machine_on : (step : Step) (o : Origin) (es : List ChronicleEntry) → o.first ≤ length o.told.steps
+    → AreUpto (length o.told.steps) es → IsInForce o es → IsInForce (origin_on step o) es
+machine_on step o es first upto machine =
+    subst (λ (v : Option Version). IsMachineOf v (plain_state (origin_on step o) es)) (sym (force_stays step o es))
+    (subst (λ (s : PlainState). IsMachineOf (in_force o es) s) (sym (replay_stays step o es first upto)) machine)

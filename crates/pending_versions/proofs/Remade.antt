@@ -30,7 +30,7 @@ use Rattle.pending_versions.specs.Machines.{AreKeyed, IsMachineOf}
 -- ---- places and what stands there
 
 -- the places of the volume of a name, once it is changed
-places_changed : (name : List ℕ) (change : PlacedVolume → PlacedVolume) (g : List Place → List Place)
+pub places_changed : (name : List ℕ) (change : PlacedVolume → PlacedVolume) (g : List Place → List Place)
     → ((v : PlacedVolume) → (change v).name ≡ v.name) → ((v : PlacedVolume) → (change v).places ≡ g v.places)
     → (vs : List PlacedVolume) → has_named name vs ≡ true → places_named (changed_named name change vs) name ≡ g (places_named vs name)
 places_changed name change g same_name is [] has = absurd cc
@@ -48,7 +48,7 @@ places_changed name change g same_name is (v ∷ vs) has =
         ap (λ (b : Bool). if b then v.places else places_named (changed_named name change vs) name) named ∙ rest has'
 
 -- those of one that is added
-places_last : (name : List ℕ) (vs : List PlacedVolume) (v : PlacedVolume) → has_named name vs ≡ false → bytes_eq v.name name ≡ true
+pub places_last : (name : List ℕ) (vs : List PlacedVolume) (v : PlacedVolume) → has_named name vs ≡ false → bytes_eq v.name name ≡ true
     → places_named (vs ++ v ∷ []) name ≡ v.places
 places_last name [] v none named = ap (λ (b : Bool). if b then v.places else []) named
 places_last name (u ∷ vs) v none named =

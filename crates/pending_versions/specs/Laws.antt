@@ -1,5 +1,5 @@
 -- The laws of versions that commands make beside lines which read and write.
-use Rattle.std.specs.Prelude.{◌≡◌, ℕ, All, false, List, ◌∷◌, Option}
+use Rattle.std.specs.Prelude.{◌≡◌, ◌≤◌, ℕ, All, false, List, ◌∷◌, length, Option}
 use Rattle.command_table.specs.Commands.{CommandKind}
 use Rattle.disk_model.specs.Brought.{brings}
 use Rattle.disk_model.specs.Steps.{Image, Step, now_after}
@@ -7,7 +7,7 @@ use Rattle.line_table.specs.Machine.{PlainState}
 use Rattle.vg_scan.specs.Versions.{Version}
 use Rattle.volume_history.specs.Candidates.{IsConsistentNow}
 use Rattle.volume_history.specs.Changing.{KindChanges}
-use Rattle.volume_history.specs.Chronicles.{Changed, ChronicleEntry, Origin, in_force, origin_on, pending}
+use Rattle.volume_history.specs.Chronicles.{AreUpto, Changed, ChronicleEntry, Origin, in_force, origin_on, pending}
 use Rattle.volume_history.specs.Parts.{NextPart, Primaries, ScansPart}
 use Rattle.volume_history.specs.Placed.{Place, volumes_of}
 use Rattle.volume_history.specs.Replay.{plain_state}
@@ -15,10 +15,11 @@ use Rattle.volume_history.specs.Reshaping.{state_before}
 use Rattle.world_places.specs.Changes.{behind}
 use Rattle.world_places.specs.Tracked.{AreLive, Scene}
 use Rattle.world_places.specs.Volumes.{AllTracked}
-use Rattle.pending_versions.specs.Births.{restores}
+use Rattle.pending_versions.specs.Beside.{AreApart, LiesBeside}
+use Rattle.pending_versions.specs.Births.{born_places, restores}
 use Rattle.pending_versions.specs.Coming.{Remakes}
 use Rattle.pending_versions.specs.Machines.{IsInForce, IsMachineOf, IsShown}
-use Rattle.pending_versions.specs.Pending.{AreSettled, OwesMachine, OwesPending, PendingPart, pending_births}
+use Rattle.pending_versions.specs.Pending.{AreSettled, OwesMachine, OwesPending, PendingPart, is_of_commit, pending_births}
 use Rattle.pending_versions.specs.Taking.{LieWithin, TakesPlace}
 
 -- ---- versions and machines
@@ -38,6 +39,18 @@ OpeningIsShown = (version : Option Version) (image : Image) → IsShown version 
 abbrev pub MachinesStay : Type 0
 MachinesStay = (o : Origin) (es : List ChronicleEntry) (e : ChronicleEntry) → OwesMachine o es e → IsInForce o es → IsInForce o (e ∷ es)
 
+-- whatever is told
+abbrev pub StepsKeepMachines : Type 0
+StepsKeepMachines =
+    (step : Step) (o : Origin) (es : List ChronicleEntry) → o.first ≤ length o.told.steps → AreUpto (length o.told.steps) es
+    → IsInForce o es → IsInForce (origin_on step o) es
+
+-- what a command creates lies at no place of the version in force, where no two sectors of the new one have one place
+abbrev pub BirthsLieBeside : Type 0
+BirthsLieBeside =
+    (kind : CommandKind) (before after : Option Version) → KindChanges kind before after → AreApart (volumes_of after)
+    → All (LiesBeside (volumes_of before)) (born_places kind before after)
+
 -- ---- while a command is pending
 
 -- an entry that pays what it owes leaves the pending command so
@@ -45,6 +58,13 @@ abbrev pub EntriesKeepPending : Type 0
 EntriesKeepPending =
     (o : Origin) (es : List ChronicleEntry) (e : ChronicleEntry) → OwesPending o es e → PendingPart o es (pending es)
     → PendingPart o (e ∷ es) (pending (e ∷ es))
+
+-- one that neither starts nor ends a commit leaves the places of what is created
+abbrev pub EntriesKeepBirths : Type 0
+EntriesKeepBirths =
+    (o : Origin) (es : List ChronicleEntry) (e : ChronicleEntry) → is_of_commit e ≡ false → OwesPending o es e
+    → PendingPart o es (pending es)
+    → pending_births o (e ∷ es) (pending (e ∷ es)) ≡ pending_births o es (pending es)
 
 -- the step brings nothing to these places
 abbrev pub BringsNone : Step → List Place → Type 0

@@ -1,8 +1,8 @@
 -- What holds of the command that is pending while lines read and write beside it.
-use Rattle.std.specs.Prelude.{◌≡◌, ℕ, All, List, [], Option, Some, None}
+use Rattle.std.specs.Prelude.{◌≡◌, ℕ, All, Bool, true, false, List, [], Option, Some, None}
 use Rattle.disk_model.specs.Durability.{OnlyLeaves}
 use Rattle.vg_scan.specs.Versions.{Version}
-use Rattle.volume_history.specs.Chronicles.{Begun, Changed, ChronicleEntry, Failed, Opened, Origin, Took, begun_in, in_force}
+use Rattle.volume_history.specs.Chronicles.{Begun, Changed, ChronicleEntry, Failed, GivenUp, Opened, Origin, Took, begun_in, in_force}
 use Rattle.volume_history.specs.Parts.{IsZeroAt}
 use Rattle.volume_history.specs.Placed.{Place}
 use Rattle.volume_history.specs.Replay.{plain_state}
@@ -43,6 +43,13 @@ abbrev pub OwesPending : Origin → List ChronicleEntry → ChronicleEntry → T
 OwesPending o es (Begun moment n line key) = begun_in es n ≡ None
 OwesPending o es (Opened moment n version) = PendingHolds o es n version
 OwesPending o es _ = Unit {0}
+
+-- whether it starts or ends a commit
+abbrev pub is_of_commit : ChronicleEntry → Bool
+is_of_commit (Opened moment n version) = true
+is_of_commit (Changed moment n version) = true
+is_of_commit (GivenUp moment n) = true
+is_of_commit _ = false
 
 -- to the machine: a piece lies within its volume, and a commit has made the version that its line makes
 abbrev pub OwesMachine : Origin → List ChronicleEntry → ChronicleEntry → Type 0

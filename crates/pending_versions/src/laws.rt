@@ -1,20 +1,26 @@
 //! Laws of versions that commands make: each function does nothing, and its clauses are proved.
-ghost use Rattle.pending_versions.specs.Laws.{ChangesRemake, EntriesKeepPending, MachinesStay, OpeningIsShown, PendingShowsNext};
-ghost use Rattle.pending_versions.specs.Laws.{StepsKeepPending, StepsKeepSettled, TakingShows, TakingTracks, TrackedIsConsistent};
+ghost use Rattle.pending_versions.specs.Laws.{BirthsLieBeside, ChangesRemake, EntriesKeepBirths, EntriesKeepPending, MachinesStay};
+ghost use Rattle.pending_versions.specs.Laws.{OpeningIsShown};
+ghost use Rattle.pending_versions.specs.Laws.{PendingShowsNext, StepsKeepMachines, StepsKeepPending, StepsKeepSettled, TakingShows};
+ghost use Rattle.pending_versions.specs.Laws.{TakingTracks, TrackedIsConsistent};
 
 use volume_history::parts_make_consistent;
 use world_places::{entries_keep, places_begin, places_hold};
 
-/// A command makes its version from whatever machine of the one before it, and the machine stays one of the version in force.
+/// A command makes its version from whatever machine of the one before it, the machine stays one of the version in force, and what
+/// is created lies beside that.
 pub fn versions_are_remade()
     ensures remade { ChangesRemake }
     ensures opening { OpeningIsShown }
     ensures machines { MachinesStay }
+    ensures steps { StepsKeepMachines }
+    ensures beside { BirthsLieBeside }
 {}
 
 /// What entries and steps leave of the command that is pending.
 pub fn pending_commands_stay()
     ensures entries { EntriesKeepPending }
+    ensures births { EntriesKeepBirths }
     ensures steps { StepsKeepPending }
     ensures settled { StepsKeepSettled }
 {}
