@@ -1,19 +1,18 @@
 -- What a command creates lies at no place of the version in force.
-use Rattle.std.proofs.Common.{◌≡◌, ◌<◌, ◌⊎◌, ℕ, zero, suc, ◌+◌, ◌||◌, All, Bool, true, false, if◌then◌else◌, List, [], ◌∷◌, ◌++◌, drop}
+use Rattle.std.proofs.Common.{◌≡◌, ◌<◌, ◌⊎◌, ℕ, zero, suc, ◌+◌, ◌||◌, All, Bool, true, false, if◌then◌else◌, List, [], ◌∷◌, ◌++◌}
 use Rattle.std.proofs.Common.{length}
 use Rattle.std.proofs.Common.{Option, Some, get_or, inl, inr, ⊎_elim, refl, sym, ap, subst, ◌∙◌, arith}
 use Rattle.std.specs.Prelude.{slice_get}
 use Rattle.std.specs.Str.{bytes_eq}
-use Rattle.std.proofs.lemmas.List.{drop_at, get_or-append-add, length-append}
+use Rattle.std.proofs.lemmas.List.{get_or-append-add, length-append}
 use Rattle.std.proofs.lemmas.List.Elements.{All-nil}
 use Rattle.std.proofs.lemmas.Option.{get_or_from_slice_get, same_Some, slice_get-get_or, slice_get_within}
-use Rattle.list_laws.proofs.Bools.{itself}
 use Rattle.command_table.specs.Commands.{CommandKind, NextVersion, VolumeAdded, VolumeLonger}
 use Rattle.vg_scan.specs.Versions.{Version}
 use Rattle.volume_history.specs.Changing.{KindChanges, changed_named, grown_by, has_named}
 use Rattle.volume_history.specs.Placed.{Place, PlacedVolume, volumes_of}
 use Rattle.volume_history.specs.Replay.{places_named}
-use Rattle.pending_versions.proofs.Remade.{places_changed, places_last}
+use Rattle.pending_versions.proofs.BornPlaces.{added_places, longer_born}
 use Rattle.pending_versions.specs.Beside.{AreApart, LiesBeside}
 use Rattle.pending_versions.specs.Births.{born_places}
 
@@ -96,9 +95,7 @@ added_beside : (lv : List ℕ) (before after : Option Version) → KindChanges (
 added_beside lv before after is apart k d lt i x v there got =
     let vs : List PlacedVolume = volumes_of before in
     let new : List Place = places_named (volumes_of after) lv in
-    let places_are : new ≡ is.0.places =
-    ap (λ (l : List PlacedVolume). places_named l lv) is.2
-    ∙ places_last lv vs is.0 is.3 (ap (λ (n : List ℕ). bytes_eq n lv) is.1 ∙ itself lv) in
+    let places_are : new ≡ is.0.places = added_places lv before after is in
     let p : Place = get_or new k d in
     let old : slice_get (volumes_of after) i ≡ Some v =
     ap (λ (l : List PlacedVolume). slice_get l i) is.2 ∙ front_got vs (is.0 ∷ []) i v there in
@@ -116,12 +113,7 @@ longer_beside : (lv : List ℕ) (before after : Option Version) → KindChanges 
 longer_beside lv before after is apart k d lt i x v there got =
     let vs : List PlacedVolume = volumes_of before in
     let a : IsAt lv (grown_by is.0) vs = is_at lv (grown_by is.0) vs is.2 in
-    let after_is : places_named (volumes_of after) lv ≡ a.u.places ++ is.0 =
-    ap (λ (l : List PlacedVolume). places_named l lv) is.1
-    ∙ places_changed lv (grown_by is.0) (λ l. l ++ is.0) (λ v. refl) (λ v. refl) vs is.2 ∙ ap (λ (l : List Place). l ++ is.0) a.places in
-    let births_are : born_places (NextVersion (VolumeLonger lv)) before after ≡ is.0 =
-    ap (λ (m : ℕ). drop m (places_named (volumes_of after) lv)) (ap length a.places)
-    ∙ ap (drop (length a.u.places)) after_is ∙ drop_at a.u.places is.0 (length a.u.places) refl in
+    let births_are : born_places (NextVersion (VolumeLonger lv)) before after ≡ is.0 = longer_born lv before after is in
     let p : Place = get_or (born_places (NextVersion (VolumeLonger lv)) before after) k d in
     let new : slice_get is.0 k ≡ Some p =
     ap (λ (l : List Place). slice_get l k) (sym births_are)

@@ -1,5 +1,5 @@
 -- Volumes that a command leaves as they are, or of which it changes one, come from those before.
-use Rattle.std.proofs.Common.{◌≡◌, ◌≤◌, ◌<◌, ◌⊎◌, ℕ, ◌+◌, ◌==◌, false, List, [], ◌∷◌, ◌++◌, length, Option, slice_index_or, inl, inr}
+use Rattle.std.proofs.Common.{◌≡◌, ◌≤◌, ◌<◌, ℕ, ◌+◌, ◌==◌, false, List, [], ◌∷◌, ◌++◌, length, Option, slice_index_or, inl, inr}
 use Rattle.std.proofs.Common.{refl, sym, subst, arith}
 use Rattle.command_table.specs.Commands.{CommandKind}
 use Rattle.disk_model.specs.Steps.{Image}
@@ -9,7 +9,7 @@ use Rattle.volume_history.specs.Candidates.{is_born, place_at}
 use Rattle.volume_history.specs.Placed.{Place, PlacedVolume, group_name, volumes_of}
 use Rattle.pending_versions.proofs.Keys.{above, below, keys_both, keys_end, keys_from}
 use Rattle.pending_versions.proofs.Named.{IsNamed}
-use Rattle.pending_versions.specs.Coming.{EachComes, IsBornAt, Remakes, StandsAt, StaysAt, made_of, open_step}
+use Rattle.pending_versions.specs.Coming.{Comes, EachComes, Remakes, StandsAt, StaysAt, made_of, open_step}
 use Rattle.pending_versions.specs.Machines.{AreKeyed, AreOf}
 
 -- ---- where sectors stand in a part of the volumes
@@ -39,14 +39,6 @@ module _ (kind : CommandKind) (before after : Option Version) (state : PlainStat
   abbrev pub IsUnborn : ℕ → Type 0
   IsUnborn key = (x : ℕ) → is_born (open_step kind before after state) state key x ≡ false
 
-  -- what is asked of one volume
-  abbrev pub Comes : PlacedVolume → PlainVolume → Type 0
-  Comes v p =
-      (v.name ≡ p.name) × (length v.places ≡ length p.sectors)
-      × ((x : ℕ) → x < length v.places
-      → IsBornAt kind before after state image p.key x (place_at v.places x) (slice_index_or p.sectors x [])
-      ⊎ StaysAt kind before after state p.key x (place_at v.places x) (slice_index_or p.sectors x []))
-
   -- a sector that stays
   pub stays : (v : PlacedVolume) (vs : List PlacedVolume) (p : PlainVolume) (ps : List PlainVolume) (x : ℕ) → x < length v.places
       → is_born (open_step kind before after state) state p.key x ≡ false → Among (v ∷ vs) (p ∷ ps)
@@ -66,9 +58,7 @@ module _ (kind : CommandKind) (before after : Option Version) (state : PlainStat
   come_kept from next (v ∷ vs) [] of keys unborn among = absurd of
   come_kept from next (v ∷ vs) (p ∷ ps) of keys unborn among =
       let end = keys_end (p.key + 1) next ps keys.1 in (
-        of.0,
-        of.1,
-        (λ x lt. inr (stays v vs p ps x lt (unborn p.key keys.0 (omega (arith, end)) x) among)),
+        (of.0, of.1, λ x lt. inr (stays v vs p ps x lt (unborn p.key keys.0 (omega (arith, end)) x) among)),
         come_kept (p.key + 1) next vs ps of.2 keys.1 (λ key le lt. unborn key (omega (arith, le, keys.0)) lt)
             (λ key x place value stands. among key x place value (inr stands)),
       )
@@ -79,14 +69,14 @@ module _ (kind : CommandKind) (before after : Option Version) (state : PlainStat
   come_both [] us [] qs a b = b
   come_both [] us (p ∷ ps) qs a b = absurd a
   come_both (v ∷ vs) us [] qs a b = absurd a
-  come_both (v ∷ vs) us (p ∷ ps) qs a b = (a.0, a.1, a.2, come_both vs us ps qs a.3 b)
+  come_both (v ∷ vs) us (p ∷ ps) qs a b = (a.0, come_both vs us ps qs a.1 b)
 
   -- they are of the version
   pub of_comes : (vs : List PlacedVolume) (ps : List PlainVolume) → EachComes kind before after state image vs ps → AreOf vs ps
   of_comes [] [] come = tt
   of_comes [] (p ∷ ps) come = absurd come
   of_comes (v ∷ vs) [] come = absurd come
-  of_comes (v ∷ vs) (p ∷ ps) come = (come.0, come.1, of_comes vs ps come.3)
+  of_comes (v ∷ vs) (p ∷ ps) come = (come.0.0, come.0.1, of_comes vs ps come.1)
 
   -- so the version is remade, where these are its volumes and those the machine's
   pub remade : (vs : List PlacedVolume) (ps : List PlainVolume) → volumes_of after ≡ vs
@@ -132,10 +122,10 @@ module _ (kind : CommandKind) (before after : Option Version) (state : PlainStat
         come_kept (key + 1) state.next_key n.behind n.high n.of_behind n.keys_high (λ other le lt. unborn other (below key other le))
         (λ k x place value stands. own_among k x place value (inr stands))
 
-    pub come_changed : (v : PlacedVolume) (p : PlainVolume) → Comes v p
+    pub come_changed : (v : PlacedVolume) (p : PlainVolume) → Comes kind before after state image v p
         → EachComes kind before after state image (n.before ++ v ∷ n.behind) (n.low ++ p ∷ n.high)
     come_changed v p one =
-        come_both n.before (v ∷ n.behind) n.low (p ∷ n.high) come_low (one.0, one.1, one.2, come_high)
+        come_both n.before (v ∷ n.behind) n.low (p ∷ n.high) come_low (one, come_high)
 
     pub keys_changed : (p : PlainVolume) → p.key ≡ key → AreKeyed 0 state.next_key (n.low ++ p ∷ n.high)
     keys_changed p same =

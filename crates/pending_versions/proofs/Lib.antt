@@ -1,6 +1,7 @@
 mod Keys
 mod Named
 mod Comings
+mod BornPlaces
 mod Remade
 mod Beside
 mod Machines

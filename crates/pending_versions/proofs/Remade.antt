@@ -1,14 +1,13 @@
 -- The version that a command makes, by its kind, whatever machine of the one before it there is.
-use Rattle.std.proofs.Common.{◌≡◌, ◌≤◌, ◌<◌, ℕ, zero, suc, ◌+◌, ◌-◌, ◌==◌, ◌&&◌, ◌||◌, nat_le, nat_lt, Bool, true, false}
+use Rattle.std.proofs.Common.{◌≡◌, ◌≤◌, ◌<◌, ℕ, zero, suc, ◌+◌, ◌-◌, ◌==◌, ◌&&◌, nat_le, nat_lt, Bool, true, false}
 use Rattle.std.proofs.Common.{if◌then◌else◌, slice_index_or, Contains, List, [], ◌∷◌, ◌++◌, drop, take, length, Option, None, inl, inr}
 use Rattle.std.proofs.Common.{⊎_elim, refl, sym, ap, subst, ◌∙◌, arith}
-use Rattle.std.specs.Str.{bytes_eq}
 use Rattle.std.proofs.lemmas.Bool.{cases_lt, ltb-true, true≢false}
 use Rattle.std.proofs.lemmas.Bool.Decides.{nat_tests}
 use Rattle.std.proofs.lemmas.List.{drop-map, drop_at, get_or-append_right, get_or-map, get_or-take, get_or_append_left, length-append}
 use Rattle.std.proofs.lemmas.List.{length-map, length-take}
 use Rattle.std.proofs.lemmas.List.Elements.{Contains-get_or}
-use Rattle.list_laws.proofs.Bools.{and_both, eq_to, itself, lt_false, lt_true}
+use Rattle.list_laws.proofs.Bools.{and_both, eq_to, lt_false, lt_true}
 use Rattle.command_table.specs.Commands.{CommandKind, GroupNamed, Joining, Leaving, NewGroup, NextVersion, Removal, Restore}
 use Rattle.command_table.specs.Commands.{VolumeAdded, VolumeGone, VolumeLonger, VolumeNamed, VolumeShorter}
 use Rattle.data_lines.specs.DataLines.{zero_sector}
@@ -16,9 +15,10 @@ use Rattle.disk_model.specs.Steps.{Image}
 use Rattle.line_table.specs.Machine.{PlainState, PlainVolume, key_of, sectors_of}
 use Rattle.vg_scan.specs.Versions.{Version}
 use Rattle.volume_history.specs.Candidates.{is_born, no_image, place_at}
-use Rattle.volume_history.specs.Changing.{KindChanges, changed_named, cut_to, grown_by, has_named, named_so}
+use Rattle.volume_history.specs.Changing.{KindChanges, cut_to, grown_by, has_named, named_so}
 use Rattle.volume_history.specs.Placed.{Place, PlacedVolume, group_name, no_place, values_on, volumes_of}
 use Rattle.volume_history.specs.Replay.{key_or, places_named, zeroed}
+use Rattle.pending_versions.proofs.BornPlaces.{added_places, longer_born, longer_places, places_changed}
 use Rattle.pending_versions.proofs.Comings.{come_both, come_changed, come_kept, come_without, keys_changed, keys_without, own_among}
 use Rattle.pending_versions.proofs.Comings.{remade, stays}
 use Rattle.pending_versions.proofs.Keys.{above, keys_both}
@@ -28,36 +28,6 @@ use Rattle.pending_versions.specs.Coming.{IsBornAt, Remakes, StaysAt, made_of, o
 use Rattle.pending_versions.specs.Machines.{AreKeyed, IsMachineOf}
 
 -- ---- places and what stands there
-
--- the places of the volume of a name, once it is changed
-pub places_changed : (name : List ℕ) (change : PlacedVolume → PlacedVolume) (g : List Place → List Place)
-    → ((v : PlacedVolume) → (change v).name ≡ v.name) → ((v : PlacedVolume) → (change v).places ≡ g v.places)
-    → (vs : List PlacedVolume) → has_named name vs ≡ true → places_named (changed_named name change vs) name ≡ g (places_named vs name)
-places_changed name change g same_name is [] has = absurd cc
-places_changed name change g same_name is (v ∷ vs) has =
-    by (λ more. places_changed name change g same_name is vs more) (bytes_eq v.name name) refl has
-  where
-    by : (has_named name vs ≡ true → places_named (changed_named name change vs) name ≡ g (places_named vs name)) → (b : Bool)
-        → bytes_eq v.name name ≡ b → (b || has_named name vs) ≡ true
-        → places_named (if b then change v ∷ vs else v ∷ changed_named name change vs) name
-        ≡ g (if b then v.places else places_named vs name)
-    by rest true named has' =
-        ap (λ (n : List ℕ). if bytes_eq n name then (change v).places else places_named vs name) (same_name v)
-        ∙ ap (λ (b : Bool). if b then (change v).places else places_named vs name) named ∙ is v
-    by rest false named has' =
-        ap (λ (b : Bool). if b then v.places else places_named (changed_named name change vs) name) named ∙ rest has'
-
--- those of one that is added
-pub places_last : (name : List ℕ) (vs : List PlacedVolume) (v : PlacedVolume) → has_named name vs ≡ false → bytes_eq v.name name ≡ true
-    → places_named (vs ++ v ∷ []) name ≡ v.places
-places_last name [] v none named = ap (λ (b : Bool). if b then v.places else []) named
-places_last name (u ∷ vs) v none named =
-    by (bytes_eq u.name name) (λ none. places_last name vs v none named) none
-  where
-    by : (b : Bool) → (has_named name vs ≡ false → places_named (vs ++ v ∷ []) name ≡ v.places) → (b || has_named name vs) ≡ false
-        → (if b then u.places else places_named (vs ++ v ∷ []) name) ≡ v.places
-    by true rest none = cc
-    by false rest none = rest none
 
 -- what stands at the place of a sector
 pub value_on : (image : Image) (places : List Place) (x : ℕ) → x < length places
@@ -191,15 +161,11 @@ module _ (before after : Option Version) (state : PlainState) (image : Image) (m
       let p : PlainVolume = record n.p { sectors = n.p.sectors ++ more image } in
       let count : old ≡ length n.v.places = ap length n.sectors ∙ sym n.length_is in
       let after_is : places_named (volumes_of after) lv ≡ n.v.places ++ is.0 =
-      ap (λ (l : List PlacedVolume). places_named l lv) is.1
-      ∙ places_changed lv (grown_by is.0) (λ l. l ++ is.0) (λ v. refl) (λ v. refl) (volumes_of before) is.2
-      ∙ ap (λ (l : List Place). l ++ is.0) n.places in
+      longer_places lv before after is ∙ ap (λ (l : List Place). l ++ is.0) n.places in
       let more_is : (i : Image) → more i ≡ values_on i is.0 = λ i.
       drop-map (λ (q : Place). i q.disk q.sector) old (places_named (volumes_of after) lv)
       ∙ ap (λ (l : List Place). values_on i (drop old l)) after_is ∙ ap (values_on i) (drop_at n.v.places is.0 old (sym count)) in
-      let births_are : born_places kind before after ≡ is.0 =
-      ap (λ (m : ℕ). drop m (places_named (volumes_of after) lv)) (ap length n.places)
-      ∙ ap (drop (length n.v.places)) after_is ∙ drop_at n.v.places is.0 (length n.v.places) refl in
+      let births_are : born_places kind before after ≡ is.0 = longer_born lv before after is in
       let many : (i : Image) → length (more i) ≡ length is.0 = λ i. ap length (more_is i) ∙ values_length i is.0 in
       let unborn : (other : ℕ) → (key_at lv == other) ≡ false → (x : ℕ)
       → is_born (open_step kind before after state) state other x ≡ false = λ other isnt x.
@@ -256,9 +222,7 @@ module _ (before after : Option Version) (state : PlainState) (image : Image) (m
       let kind : CommandKind = VolumeAdded lv in
       let sectors : Image → List (List ℕ) = λ i. zeroed 8 (values_on i (places_named (volumes_of after) lv)) in
       let p : PlainVolume = record { key = state.next_key; name = lv; sectors = sectors image } in
-      let places_are : places_named (volumes_of after) lv ≡ is.0.places =
-      ap (λ (l : List PlacedVolume). places_named l lv) is.2
-      ∙ places_last lv (volumes_of before) is.0 is.3 (ap (λ (n : List ℕ). bytes_eq n lv) is.1 ∙ itself lv) in
+      let places_are : places_named (volumes_of after) lv ≡ is.0.places = added_places lv before after is in
       let many : (i : Image) → length (sectors i) ≡ length is.0.places = λ i.
       zeroed_length 8 (values_on i (places_named (volumes_of after) lv)) ∙ values_length i (places_named (volumes_of after) lv)
       ∙ ap length places_are in
@@ -267,29 +231,31 @@ module _ (before after : Option Version) (state : PlainState) (image : Image) (m
       (λ key x place value stands. stands) in
       remade kind before after state image (volumes_of before ++ is.0 ∷ []) (state.volumes ++ p ∷ []) is.2 refl
       (come_both kind before after state image (volumes_of before) (is.0 ∷ []) state.volumes (p ∷ []) old (
-        is.1,
-        sym (many image),
-        λ x lt. inl (record {
-          born =
-              and_both (state.next_key == state.next_key) (nat_lt x (length (sectors no_image)))
-              (eq_to state.next_key state.next_key refl)
-              (lt_true x (length (sectors no_image)) (let m = many no_image in omega (arith, lt, m)));
-          new =
-              subst (λ (l : List Place). Contains l (place_at is.0.places x)) (sym places_are)
-              (Contains-get_or is.0.places x no_place lt);
-          zero = λ low.
-              let few : x < 8 = ltb-true x 8 low in
-              let short = length-take 8 is.0.places in
-              subst (λ (l : List Place). Contains (take 8 l) (place_at is.0.places x)) (sym places_are)
-              (subst (λ (pl : Place). Contains (take 8 is.0.places) pl) (get_or-take 8 is.0.places x no_place few)
-              (Contains-get_or (take 8 is.0.places) x no_place (omega (arith, lt, few, short))));
-          value_is =
-              zeroed_at 8 (values_on image (places_named (volumes_of after) lv)) x
-              (let m = values_length image (places_named (volumes_of after) lv) in
-              let a = ap length places_are in omega (arith, lt, m, a))
-              ∙ ap (λ (l : List Place). if nat_lt x 8 then zero_sector else slice_index_or (values_on image l) x []) places_are
-              ∙ ap (λ (s : List ℕ). if nat_lt x 8 then zero_sector else s) (value_on image is.0.places x lt);
-        }),
+        (
+          is.1,
+          sym (many image),
+          λ x lt. inl (record {
+            born =
+                and_both (state.next_key == state.next_key) (nat_lt x (length (sectors no_image)))
+                (eq_to state.next_key state.next_key refl)
+                (lt_true x (length (sectors no_image)) (let m = many no_image in omega (arith, lt, m)));
+            new =
+                subst (λ (l : List Place). Contains l (place_at is.0.places x)) (sym places_are)
+                (Contains-get_or is.0.places x no_place lt);
+            zero = λ low.
+                let few : x < 8 = ltb-true x 8 low in
+                let short = length-take 8 is.0.places in
+                subst (λ (l : List Place). Contains (take 8 l) (place_at is.0.places x)) (sym places_are)
+                (subst (λ (pl : Place). Contains (take 8 is.0.places) pl) (get_or-take 8 is.0.places x no_place few)
+                (Contains-get_or (take 8 is.0.places) x no_place (omega (arith, lt, few, short))));
+            value_is =
+                zeroed_at 8 (values_on image (places_named (volumes_of after) lv)) x
+                (let m = values_length image (places_named (volumes_of after) lv) in
+                let a = ap length places_are in omega (arith, lt, m, a))
+                ∙ ap (λ (l : List Place). if nat_lt x 8 then zero_sector else slice_index_or (values_on image l) x []) places_are
+                ∙ ap (λ (s : List ℕ). if nat_lt x 8 then zero_sector else s) (value_on image is.0.places x lt);
+          }),
+        ),
         tt,
       ))
       (is.4 ∙ machine.group)

@@ -41,8 +41,8 @@ module _ (o : Origin) (es : List ChronicleEntry) (after : Option Version) (machi
     next_from [] (p ∷ ps) come = absurd come
     next_from (v ∷ vs) [] come = absurd come
     next_from (v ∷ vs) (p ∷ ps) come = (
-      come.0,
-      come.1,
+      come.0.0,
+      come.0.1,
       λ x lt.
           ⊎_elim
           (λ born. inl (
@@ -54,8 +54,8 @@ module _ (o : Origin) (es : List ChronicleEntry) (after : Option Version) (machi
             stands_holds o es (volumes_of (in_force o es)) (plain_state o es).volumes primaries p.key x (place_at v.places x) _
                 stays.stood,
           ))
-          (come.2 x lt),
-      next_from vs ps come.3,
+          (come.0.2 x lt),
+      next_from vs ps come.1,
     )
 
   -- the step of a command shows its version so

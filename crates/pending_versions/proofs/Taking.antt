@@ -166,14 +166,14 @@ module _ (g : Scene) (m n : ℕ) (version : Option Version) (t : TakesPlace g m 
     tracks_from [] (p ∷ ps) come own = absurd come
     tracks_from (v ∷ vs) [] come own = absurd come
     tracks_from (v ∷ vs) (p ∷ ps) come own = (
-      come.0,
-      come.1,
+      come.0.0,
+      come.0.1,
       λ x lt.
           ⊎_elim (λ born. born_tracked p x (place_at v.places x) own.0 born)
           (λ stays. changes g p.key x (place_at v.places x) m n version (bears_is p.key x ∙ stays.unborn)
           (stands_tracked g (volumes_of before) state.volumes tracked p.key x (place_at v.places x) _ stays.stood))
-          (come.2 x lt),
-      tracks_from vs ps come.3 own.1,
+          (come.0.2 x lt),
+      tracks_from vs ps come.1 own.1,
     )
 
     pub taking_tracks : AllTracked taken (volumes_of version) (plain_state o (Changed m n version ∷ es)).volumes
@@ -189,13 +189,13 @@ module _ (g : Scene) (m n : ℕ) (version : Option Version) (t : TakesPlace g m 
     shows_from [] (p ∷ ps) come = absurd come
     shows_from (v ∷ vs) [] come = absurd come
     shows_from (v ∷ vs) (p ∷ ps) come = (
-      ext_get_or [] p.sectors (values_on now v.places) (sym come.1 ∙ sym (values_length now v.places))
-          (λ x lt. let inside : x < length v.places = omega (arith, lt, come.1) in
+      ext_get_or [] p.sectors (values_on now v.places) (sym come.0.1 ∙ sym (values_length now v.places))
+          (λ x lt. let inside : x < length v.places = omega (arith, lt, come.0.1) in
           ⊎_elim (λ born. born.value_is ∙ born_now x (place_at v.places x) born.zero)
           (λ stays. stands_shown now (volumes_of before) state.volumes shown p.key x (place_at v.places x) _ stays.stood)
-          (come.2 x inside)
+          (come.0.2 x inside)
           ∙ sym (value_on now v.places x inside)),
-      shows_from vs ps come.3,
+      shows_from vs ps come.1,
     )
 
   pub taking_shows : IsShown before now state → IsShown version now (plain_state o (Changed m n version ∷ es))

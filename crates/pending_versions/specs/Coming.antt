@@ -41,15 +41,19 @@ pub record StaysAt (kind : CommandKind) (before after : Option Version) (state :
   pub unborn : is_born (open_step kind before after state) state key x ≡ false
   pub stood : StandsAt (volumes_of before) state.volumes key x place value
 
--- the volumes have the machine's names and lengths, and each of their sectors comes from somewhere
-abbrev pub EachComes : CommandKind → Option Version → Option Version → PlainState → Image → List PlacedVolume → List PlainVolume → Type 0
-EachComes kind before after state image [] [] = Unit {0}
-EachComes kind before after state image (v ∷ vs) (p ∷ ps) =
+-- the volume has the machine's name and length, and each of its sectors comes from somewhere
+abbrev pub Comes : CommandKind → Option Version → Option Version → PlainState → Image → PlacedVolume → PlainVolume → Type 0
+Comes kind before after state image v p =
     (v.name ≡ p.name) × (length v.places ≡ length p.sectors)
     × ((x : ℕ) → x < length v.places
     → IsBornAt kind before after state image p.key x (place_at v.places x) (slice_index_or p.sectors x [])
     ⊎ StaysAt kind before after state p.key x (place_at v.places x) (slice_index_or p.sectors x []))
-    × EachComes kind before after state image vs ps
+
+-- so it is of all volumes, one by one
+abbrev pub EachComes : CommandKind → Option Version → Option Version → PlainState → Image → List PlacedVolume → List PlainVolume → Type 0
+EachComes kind before after state image [] [] = Unit {0}
+EachComes kind before after state image (v ∷ vs) (p ∷ ps) =
+    Comes kind before after state image v p × EachComes kind before after state image vs ps
 EachComes kind before after state image _ _ = ⊥
 
 -- the machine after the step, with what the image shows

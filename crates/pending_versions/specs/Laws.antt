@@ -35,11 +35,11 @@ ChangesRemake =
 abbrev pub OpeningIsShown : Type 0
 OpeningIsShown = (version : Option Version) (image : Image) → IsShown version image (state_before version image)
 
--- the machine stays one of the version in force
+-- an entry that pays what it owes leaves the machine one of the version in force
 abbrev pub MachinesStay : Type 0
 MachinesStay = (o : Origin) (es : List ChronicleEntry) (e : ChronicleEntry) → OwesMachine o es e → IsInForce o es → IsInForce o (e ∷ es)
 
--- whatever is told
+-- and so does each step
 abbrev pub StepsKeepMachines : Type 0
 StepsKeepMachines =
     (step : Step) (o : Origin) (es : List ChronicleEntry) → o.first ≤ length o.told.steps → AreUpto (length o.told.steps) es
@@ -53,13 +53,13 @@ BirthsLieBeside =
 
 -- ---- while a command is pending
 
--- an entry that pays what it owes leaves the pending command so
+-- an entry that pays what it owes keeps the part on the pending command
 abbrev pub EntriesKeepPending : Type 0
 EntriesKeepPending =
     (o : Origin) (es : List ChronicleEntry) (e : ChronicleEntry) → OwesPending o es e → PendingPart o es (pending es)
     → PendingPart o (e ∷ es) (pending (e ∷ es))
 
--- one that neither starts nor ends a commit leaves the places of what is created
+-- one that neither starts nor ends a commit leaves the places of what is created as they were
 abbrev pub EntriesKeepBirths : Type 0
 EntriesKeepBirths =
     (o : Origin) (es : List ChronicleEntry) (e : ChronicleEntry) → is_of_commit e ≡ false → OwesPending o es e
@@ -70,13 +70,13 @@ EntriesKeepBirths =
 abbrev pub BringsNone : Step → List Place → Type 0
 BringsNone step places = All (λ (p : Place). brings step p.disk p.sector ≡ false) places
 
--- so does a step that brings nothing to the places of what is created
+-- a step that brings nothing to the places of what is created keeps the part on the pending command
 abbrev pub StepsKeepPending : Type 0
 StepsKeepPending =
     (step : Step) (o : Origin) (es : List ChronicleEntry) → BringsNone step (pending_births o es (pending es))
     → PendingPart o es (pending es) → PendingPart (origin_on step o) es (pending es)
 
--- and leaves them settled
+-- and one that brings nothing to places that are settled keeps them so
 abbrev pub StepsKeepSettled : Type 0
 StepsKeepSettled =
     (step : Step) (o : Origin) (places : List Place) → BringsNone step places → AreSettled o places → AreSettled (origin_on step o) places

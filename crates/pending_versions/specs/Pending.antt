@@ -44,16 +44,16 @@ OwesPending o es (Begun moment n line key) = begun_in es n ≡ None
 OwesPending o es (Opened moment n version) = PendingHolds o es n version
 OwesPending o es _ = Unit {0}
 
--- whether it starts or ends a commit
-abbrev pub is_of_commit : ChronicleEntry → Bool
-is_of_commit (Opened moment n version) = true
-is_of_commit (Changed moment n version) = true
-is_of_commit (GivenUp moment n) = true
-is_of_commit _ = false
-
 -- to the machine: a piece lies within its volume, and a commit has made the version that its line makes
 abbrev pub OwesMachine : Origin → List ChronicleEntry → ChronicleEntry → Type 0
 OwesMachine o es (Took moment n piece) = LiesWithin (plain_state o es).volumes piece
 OwesMachine o es (Failed moment n piece) = LiesWithin (plain_state o es).volumes piece
 OwesMachine o es (Changed moment n version) = LineChanges (begun_in es n) (in_force o es) version
 OwesMachine o es _ = Unit {0}
+
+-- whether an entry starts or ends a commit
+abbrev pub is_of_commit : ChronicleEntry → Bool
+is_of_commit (Opened moment n version) = true
+is_of_commit (Changed moment n version) = true
+is_of_commit (GivenUp moment n) = true
+is_of_commit _ = false

@@ -1,8 +1,7 @@
 //! Laws of versions that commands make: each function does nothing, and its clauses are proved.
 ghost use Rattle.pending_versions.specs.Laws.{BirthsLieBeside, ChangesRemake, EntriesKeepBirths, EntriesKeepPending, MachinesStay};
-ghost use Rattle.pending_versions.specs.Laws.{OpeningIsShown};
-ghost use Rattle.pending_versions.specs.Laws.{PendingShowsNext, StepsKeepMachines, StepsKeepPending, StepsKeepSettled, TakingShows};
-ghost use Rattle.pending_versions.specs.Laws.{TakingTracks, TrackedIsConsistent};
+ghost use Rattle.pending_versions.specs.Laws.{OpeningIsShown, PendingShowsNext, StepsKeepMachines, StepsKeepPending, StepsKeepSettled};
+ghost use Rattle.pending_versions.specs.Laws.{TakingShows, TakingTracks, TrackedIsConsistent};
 
 use volume_history::parts_make_consistent;
 use world_places::{entries_keep, places_begin, places_hold};

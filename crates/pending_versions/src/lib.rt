@@ -2,8 +2,8 @@
 //!
 //! There is no code here. Each sector of the version that a command makes of the one in force is *born*, at a place where one
 //! value may be left by then, or *stays* where it stood (`specs/Coming`); which places these are follows from the two versions
-//! alone (`specs/Births`). So what lines on volumes do owes the pending command nothing, but that they write at none of these
-//! places (`specs/Pending`). `specs/Machines` has versions and machines that belong together, `specs/Taking` where a commit makes
+//! alone (`specs/Births`). So lines on volumes owe the pending command nothing but new numbers, and that they write at none of
+//! these places (`specs/Pending`). `specs/Machines` has versions and machines that belong together, `specs/Taking` where a commit makes
 //! its version, and `specs/Laws` what is kept, and what it gives.
 #![tactic(auto)]
 
